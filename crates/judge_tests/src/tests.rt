@@ -833,8 +833,8 @@ fn two_senders_with_pauses(rt: HostRuntime) -> Result<(), Fail> {
     Ok(())
 }
 
-// A channel is used before a fork, and after it by one sender twice and then by another, who knows of the first use alone:
-// the pair has the first use that is not known.
+// A channel is used before a fork, and after it by one sender twice and then by another, who knows of the first use
+// alone: the pair has the first use that is not known.
 #[test]
 fn the_first_that_is_not_known(rt: HostRuntime) -> Result<(), Fail> {
     let entries = vec![in rt.alloc();

@@ -192,7 +192,10 @@ module _ (c : Parts) (first : BTreeMap ℕ ℕ) (numbered : IsNumbered first c.l
       m.of
 
   no_program : (p : ℕ) → NoProgram c p → (Names p ⊎ Program p) ⊎ (Layouts p ⊎ Tables p)
-  no_program p (inl (e, at)) = inl (inr (sym at, not_from_false (option.is_some (number_of first 0)) (has 0 ∙ ap is_some e)))
+  no_program p (inl (e, at)) = inl (inr (
+    sym at,
+    not_from_false (option.is_some (number_of first 0)) (has 0 ∙ ap is_some e),
+  ))
   no_program p (inr (l, is, zero_is, at, f)) =
       inr (inl (to_layout l p is at (or_right (nat_le (length c.instrs) l.entry) (not (has_sizes l)
       || ((l.block == 0) && not (is_program l)))

@@ -141,4 +141,5 @@ module _ (Just : Grown → Type 0) where
       || t) more (steps_then a b d (EachItem P k) (P k) s t h m)
     where
       more : d ≡ a → EachItem P k d × P k d → EachItem P (k + 1) d
-      more same z j l = ⊎_elim (λ (m : j < k). z.0 j m) (λ (e : j ≡ k). subst (λ i. P i d) (sym e) z.1) (below_or_last j k l)
+      more same z j l = ⊎_elim (λ (m : j < k). z.0 j m) (λ (e : j ≡ k). subst (λ i. P i d) (sym e) z.1)
+          (below_or_last j k l)

@@ -244,7 +244,8 @@ module _ (c : Parts) where
       || t) more (spreads_then c a b d (Each P k) (P k) s t h m)
     where
       more : d ≡ a → Each P k d × P k d → Each P (k + 1) d
-      more same z x l = ⊎_elim (λ (y : x < k). z.0 x y) (λ (e : x ≡ k). subst (λ i. P i d) (sym e) z.1) (below_or_last x k l)
+      more same z x l = ⊎_elim (λ (y : x < k). z.0 x y) (λ (e : x ≡ k). subst (λ i. P i d) (sym e) z.1)
+          (below_or_last x k l)
 
   pub swept : (a b d e : List Owner) (r s t : Bool) → Spreads c a b (AreBegun c (length c.layouts)) r
       → Spreads c b d (Each (IsSpread c) (length c.instrs)) s → Spreads c d e (Each (IsSpreadBy c) (length c.forks)) t

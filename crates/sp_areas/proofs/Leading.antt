@@ -204,7 +204,6 @@ length_none zero = refl
 length_none (suc k) = ap suc (length_none k)
 
 module _ (ls : List Layout) where
-
   pub led_more : (old new : Grown) (j place : ℕ) (l : Layout) (o : Option ℕ) → AreLed ls old → slice_get ls j ≡ Some l
       → node_at old.of j ≡ None → number_from 0 ls l.block ≡ Some place
       → inside_of ls old.of l ≡ Some o → Gets old new j (frame.Block l.block place) o → AreLed ls new

@@ -102,7 +102,8 @@ module _ (c : Parts) where
       where
         go : (o : Option Owner) → slice_get os p ≡ o → given true o (λ v. is_same v owner.Nobody) ≡ true → (a : Area)
             → LiesIn c p a → ⊥
-        go None s z = absurd (let l = named_within c t p h.1 in let n = are.0 in item_is_not_none os p (omega (arith, l, n)) s)
+        go None s z = absurd (let l = named_within c t p h.1 in let n = are.0 in
+            item_is_not_none os p (omega (arith, l, n)) s)
         go (Some v) s z = nobody p v z (are.1 p v s)
     lost_is t namer.Several h e = inr (inl h)
 

@@ -161,7 +161,6 @@ less_set fs q h e =
 -- ---- the search
 
 module _ (c : Parts) (s : ℕ) where
-
   pub widens_none : (fs : List Bool) → AreLed c s fs → Widens c s fs fs
   widens_none fs led = record { led = led; fewer = omega arith }
 
@@ -242,7 +241,8 @@ on_map (Err e) P Q f h = tt
 
 module _ (c : Parts) (os : List Owner) (are : AreOwners c os) (p : ℕ) where
   pub not_broken : has_owner os p ≡ false → BreaksV9 c p → ⊥
-  not_broken e b = let l = lies_back c p b in not_true_and_false (has_owner os p) (has_there c os are p l.1.0 l.1.1 l.0) e
+  not_broken e b = let l = lies_back c p b in
+      not_true_and_false (has_owner os p) (has_there c os are p l.1.0 l.1.1 l.0) e
 
   -- V9 is broken there as the search says
   pub broken_is : (fs : List Bool) (b : Bool) → has_owner os p ≡ true → AreLed c p fs → IsDone c p fs

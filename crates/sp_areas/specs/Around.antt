@@ -1,3 +1,4 @@
+-- None of this belongs to what the program promises: it is for contracts between crates.
 -- How a verifier finds what is around each instruction: first the blocks, then the children of each table, once the
 -- instruction that names the table has a node.
 use Rattle.std.specs.Prelude.{◌≡◌, ℕ, ◌+◌, ◌<◌, if◌then◌else◌, List, Option, Some, None, false, slice_get}

@@ -1,3 +1,4 @@
+-- None of this belongs to what the program promises: it is for contracts between crates.
 -- A tree of homes that grows: items get a node one by one, until none is left that may get one.
 use Rattle.std.specs.Prelude.{◌≡◌, ℕ, ◌+◌, ◌<◌, ◌==◌, if◌then◌else◌, List, ◌∷◌, Option, Some, None, Bool}
 use Rattle.std.specs.Prelude.{true, false, slice_get, slice_set, length, sum_by}

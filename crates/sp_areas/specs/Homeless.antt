@@ -1,3 +1,4 @@
+-- None of this belongs to what the program promises: it is for contracts between crates.
 -- Rule V1, the point on blocks: a layout whose block has another one, or whose parents do not lead to block 0.
 use Rattle.std.specs.Prelude.{◌≡◌, ◌≢◌, ◌⊎◌, ℕ, ◌<◌, ◌==◌, List, Option, Some, None, Bool, true, false, slice_get}
 use Rattle.std.specs.Prelude.{length}

@@ -1,3 +1,4 @@
+-- None of this belongs to what the program promises: it is for contracts between crates.
 -- What is around each instruction, as a verifier keeps it: a tree of homes, and for each instruction a node of it.
 use Rattle.std.specs.Prelude.{◌≡◌, ℕ, ◌<◌, List, Option, Some, None, slice_get, length}
 use Rattle.sp_code.specs.declared.code.Parts.{Parts}

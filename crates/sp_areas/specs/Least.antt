@@ -1,3 +1,4 @@
+-- None of this belongs to what the program promises: it is for contracts between crates.
 -- The least number at which something holds: the answer of each pass that looks for the first instruction at which code
 -- is broken.
 use Rattle.std.specs.Prelude.{ℕ, ◌<◌, Option, Some, None, if◌then◌else◌, nat_lt}

@@ -1,3 +1,4 @@
+-- None of this belongs to what the program promises: it is for contracts between crates.
 -- The blocks around code, by levels.
 use Rattle.std.specs.Prelude.{ℕ, Option, Some, None}
 use Rattle.sp_code.specs.Memory.{Home, OfBlock, OfIndex}

@@ -1,3 +1,4 @@
+-- None of this belongs to what the program promises: it is for contracts between crates.
 -- Rule V1, the points on what an instruction names by what is around it: the level of a call, and variables.
 use Rattle.std.specs.Prelude.{◌≡◌, ◌⊎◌, ℕ, Option, Bool, true, false, ◌&&◌}
 use Rattle.sp_code.specs.declared.instr.Instr.{Instr}

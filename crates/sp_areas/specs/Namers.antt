@@ -1,3 +1,4 @@
+-- None of this belongs to what the program promises: it is for contracts between crates.
 -- Which instructions name each table, as a pass over the instructions finds it: none, one or several.
 use Rattle.std.specs.Prelude.{◌≡◌, ◌⊎◌, ◌≢◌, ℕ, ◌<◌, List, Some, Bool, true, slice_get, slice_set, length, replicate}
 use Rattle.sp_code.specs.declared.code.ChildTable.{ChildTable}

@@ -1,3 +1,4 @@
+-- None of this belongs to what the program promises: it is for contracts between crates.
 -- What rule V1 asks of an instruction by what is around it, said where the instruction lies in one area alone: where it
 -- lies in two, V1 is broken there anyhow.
 use Rattle.std.specs.Prelude.{◌≡◌, ℕ, ◌≤◌, ◌++◌, Option, Bool, false}

@@ -1,3 +1,4 @@
+-- None of this belongs to what the program promises: it is for contracts between crates.
 -- Ways back with no tick and no call, as a verifier finds them: numbers that fall along each way show where none is,
 -- and a search from an instruction shows where one is.
 use Rattle.std.specs.Prelude.{◌≡◌, ◌⊎◌, ℕ, suc, ◌≤◌, ◌<◌, List, Option, Some, None, Bool, true, false, not, slice_get}

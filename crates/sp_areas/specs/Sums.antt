@@ -1,3 +1,4 @@
+-- None of this belongs to what the program promises: it is for contracts between crates.
 -- Rule V1 as the passes find it: where an instruction lies in two areas, they look no further.
 use Rattle.std.specs.Prelude.{◌⊎◌, ℕ}
 use Rattle.sp_code.specs.declared.code.Parts.{Parts}

@@ -1,3 +1,4 @@
+-- None of this belongs to what the program promises: it is for contracts between crates.
 -- Variables that are declared a second time: what a pass knows of the declarations before the one that it looks at.
 use Rattle.std.specs.Prelude.{◌≡◌, ◌⊎◌, ℕ, ◌<◌, Option, Some, Bool, true, ◌||◌, cond, nat_lt}
 use Rattle.std.specs.Ordering.{nat_cmp, is_eq}

@@ -1,3 +1,4 @@
+-- None of this belongs to what the program promises: it is for contracts between crates.
 -- Rule V1, the point on the variables that a fork hands to its children: each is one that something around the fork
 -- has.
 use Rattle.std.specs.Prelude.{◌≡◌, ◌⊎◌, ℕ, ◌≤◌, ◌<◌, ◌++◌, List, Option, Some, None, false, slice_get}

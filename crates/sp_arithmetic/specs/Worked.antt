@@ -1,3 +1,4 @@
+-- None of this belongs to what the program promises: it is for contracts between crates.
 -- What a call of an operator gives, as the definitions of sp_tree have it. The contracts of sp_arithmetic, the machine
 -- and the interpreter cite it.
 use Rattle.std.specs.Prelude.{ℤ, Result, Ok, Err}

@@ -21,7 +21,8 @@
 ghost use Rattle.std.specs.Prelude.{◌≡◌, ◌≢◌, int_div, int_rem, pos, ◌+ℤ◌, ◌-ℤ◌, ◌*ℤ◌};
 ghost use Rattle.sp_arithmetic.specs.Worked.{worked};
 ghost use Rattle.sp_tree.specs.declared.operators.BinaryOp.TheVariants.{Div, Mod};
-ghost use Rattle.sp_tree.specs.Operators.{Yields, truth, integer, ranged, successor, predecessor, absolute, square, is_odd, unary_op, binary_op};
+ghost use Rattle.sp_tree.specs.Operators.{Yields, truth, integer, ranged, successor, predecessor, absolute, square};
+ghost use Rattle.sp_tree.specs.Operators.{is_odd, unary_op, binary_op};
 
 use sp_base::{Fault, MAXINT};
 use sp_tree::{BinaryOp, UnaryOp};

@@ -1,3 +1,4 @@
+-- All of this belongs to what the program promises (docs/promise.txt).
 -- The names of the faults, as reports and journals write them. `Fault`'s printing promises them, and the texts of
 -- journals and of ends are made of them: one table, so that all print a fault alike.
 use Rattle.std.specs.Prelude.{ℕ, List, codes}

@@ -1,3 +1,4 @@
+-- All of this belongs to what the program promises (docs/promise.txt).
 -- The texts of the names of processes and channels: `0`, then `/f.k` for each step, and `#n` for a channel. The
 -- printing of `ProcName` and `ChanName` promises them, and the texts of journals, reports and ends are made of them.
 use Rattle.std.specs.Prelude.{ℕ, List, ◌++◌, codes, decimal}

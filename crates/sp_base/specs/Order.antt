@@ -1,3 +1,4 @@
+-- Some of this belongs to what the program promises (docs/promise.txt).
 -- The order of the names of processes and channels, and its laws. The comparison of names promises it, and the
 -- contracts of the kernel's ends and of the reports are sorted by it. It goes by pairs, so that it needs no printed
 -- text.
@@ -44,7 +45,10 @@ both_tie Greater s e = absurd (subst IsTie (sym e) tt)
 pub same_pair : IsAntisymmetric pair_cmp
 same_pair x y e =
     let b = both_tie (nat_cmp x.fork y.fork) (nat_cmp x.child y.child) e in
-    λ i. record { fork = nat_cmp-IsAntisymmetric x.fork y.fork b.0 i; child = nat_cmp-IsAntisymmetric x.child y.child b.1 i }
+    λ i. record {
+      fork = nat_cmp-IsAntisymmetric x.fork y.fork b.0 i;
+      child = nat_cmp-IsAntisymmetric x.child y.child b.1 i;
+    }
 
 pub same_name : IsAntisymmetric name_cmp
 same_name x y e = λ i. record { pairs = slice_cmp-IsAntisymmetric same_pair x.pairs y.pairs e i }

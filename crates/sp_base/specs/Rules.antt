@@ -1,3 +1,4 @@
+-- All of this belongs to what the program promises (docs/promise.txt).
 -- The names of the rules, as refusals print them. `Rule`'s printing promises them, and `sp_print`'s text of a refusal
 -- is made of them. A clause for each rule, so that a renamed or missing rule is seen here.
 use Rattle.std.specs.Prelude.{ℕ, List, codes}

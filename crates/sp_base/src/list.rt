@@ -5,7 +5,8 @@ ghost use Rattle.std.specs.Option.{option_copied};
 ghost use Rattle.std.specs.Prelude.{IfOk, IfErr, OnOk, OnErr, IsTrue, ◌↔◌, MatchOption, Some, None};
 ghost use Rattle.std.specs.Borrow.{sem};
 ghost use Rattle.sp_base.specs.Lends.{lends_item};
-ghost use Rattle.std.specs.Cmp.Lexicographic.{pointwise, slice_cmp, slice_partial_cmp, lists_per, lists_equiv, lists_po, lists_total, lists_agrees, lists_ties};
+ghost use Rattle.std.specs.Cmp.Lexicographic.{pointwise, slice_cmp, slice_partial_cmp, lists_per, lists_equiv};
+ghost use Rattle.std.specs.Cmp.Lexicographic.{lists_po, lists_total, lists_agrees, lists_ties};
 
 use std::alloc::{AllocError, AllocFailed, Global};
 use std::cmp::Ordering;

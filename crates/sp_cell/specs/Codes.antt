@@ -1,3 +1,4 @@
+-- None of this belongs to what the program promises: it is for contracts between crates.
 -- How the values of a store are stored: a code for a spot, a cell, a content, the map and the whole plain store. The
 -- `Model` of `Store` rests on it, as a type whose value is no field of its own has to.
 use Rattle.std.specs.Prelude.{◌≡◌, ◌⊎◌, ℕ, List, refl}
@@ -10,7 +11,8 @@ use Rattle.sp_cell.specs.contracts.cell.Cell as cells
 use Rattle.sp_cell.specs.Map.{Content, Own, Shared, Output, Away, Map, Plain}
 
 abbrev pub spot_code : Coded Spot
-spot_code = code_by (ℕ × ℕ) (coded× coded_ℕ coded_ℕ) (λ s. (s.frame, s.variable)) (λ p. record { frame = p.0; variable = p.1 }) (λ _. refl)
+spot_code = code_by (ℕ × ℕ) (coded× coded_ℕ coded_ℕ) (λ s. (s.frame, s.variable))
+    (λ p. record { frame = p.0; variable = p.1 }) (λ _. refl)
 
 abbrev pub cell_code : Coded Cell
 cell_code = cells.the_row.coded
@@ -39,10 +41,12 @@ back (Output bs) = refl
 back Away = refl
 
 abbrev pub content_code : Coded Content
-content_code = code_by Stored (coded⊎ (coded⊎ (coded_list cell_code) (coded_list cell_code)) (coded⊎ (coded_list coded_ℕ) coded_ℕ)) to_stored from_stored back
+content_code = code_by Stored (coded⊎ (coded⊎ (coded_list cell_code) (coded_list cell_code))
+    (coded⊎ (coded_list coded_ℕ) coded_ℕ)) to_stored from_stored back
 
 abbrev pub map_code : Coded Map
 map_code = map.code spot_code content_code
 
 abbrev pub plain_code : Coded Plain
-plain_code = code_by (Map × (List ℕ × List Spot)) (coded× map_code (coded× (coded_list coded_ℕ) (coded_list spot_code))) (λ p. (p.map, (p.own, p.moved))) (λ p. record { map = p.0; own = p.1.0; moved = p.1.1 }) (λ _. refl)
+plain_code = code_by (Map × (List ℕ × List Spot)) (coded× map_code (coded× (coded_list coded_ℕ) (coded_list spot_code)))
+    (λ p. (p.map, (p.own, p.moved))) (λ p. record { map = p.0; own = p.1.0; moved = p.1.1 }) (λ _. refl)

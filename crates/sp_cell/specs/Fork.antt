@@ -1,3 +1,4 @@
+-- Some of this belongs to what the program promises (docs/promise.txt).
 -- What `split` and `join` do to the plain map of a store. The contracts of `Store` and the steps of the system promise
 -- it. Each part goes by recursion on the spots of a plan, so that it computes for a plan that is known.
 use Rattle.std.specs.Prelude.{◌≡◌, ℕ, ℤ, ◌⊎◌, List, [], ◌∷◌, ◌++◌, max, Option, None, Some, IsSome}

@@ -1,6 +1,8 @@
+-- Some of this belongs to what the program promises (docs/promise.txt).
 -- The frames of a store: their numbers, and what it means to push and to pop one. The contracts of `Store` and of the
 -- machine's calls promise it. A number is taken above all known ones, so that no spot is used twice.
-use Rattle.std.specs.Prelude.{◌≡◌, ◌≢◌, ℕ, ◌+◌, ◌-◌, ◌≤◌, ◌<◌, ◌==◌, not, List, [], ◌∷◌, ◌++◌, length, max, slice_index, take, replicate, pos, Some}
+use Rattle.std.specs.Prelude.{◌≡◌, ◌≢◌, ℕ, ◌+◌, ◌-◌, ◌≤◌, ◌<◌, ◌==◌, not, List, [], ◌∷◌, ◌++◌, length, max, slice_index}
+use Rattle.std.specs.Prelude.{take, replicate, pos, Some}
 use Rattle.std.specs.FinMap as map
 use Rattle.sp_cell.specs.declared.cell.Cell.TheVariants.{Ordinal, Undefined}
 use Rattle.sp_cell.specs.declared.spot.Spot.{Spot}
@@ -27,15 +29,21 @@ HasNextFrame p = next_frame p ≤ 18446744073709551615
 -- m with an undefined piece for each size, from a variable of a frame on
 abbrev pub with_pieces : Map → ℕ → ℕ → List ℕ → Map
 with_pieces m n v [] = m
-with_pieces m n v (c ∷ cs) = with_pieces (map.insert m (record { frame = n; variable = v }) (Own (replicate c Undefined))) n (v + 1) cs
+with_pieces m n v (c ∷ cs) = with_pieces (map.insert m (record { frame = n; variable = v })
+    (Own (replicate c Undefined))) n (v + 1) cs
 
 -- frame 0 of a run: the input's position, the empty output, and an undefined piece for each size
 abbrev pub root_map : List ℕ → Map
-root_map sizes = with_pieces (map.insert (map.insert map.empty (record { frame = 0; variable = 0 }) (Own (Ordinal (pos 0) ∷ []))) (record { frame = 0; variable = 1 }) (Output [])) 0 2 sizes
+root_map sizes = with_pieces (map.insert (map.insert map.empty (record { frame = 0; variable = 0 })
+    (Own (Ordinal (pos 0) ∷ []))) (record { frame = 0; variable = 1 }) (Output [])) 0 2 sizes
 
 -- the store with a new frame, of an undefined piece for each size
 abbrev pub pushed : Plain → List ℕ → Plain
-pushed p sizes = record { map = with_pieces p.map (next_frame p) 0 sizes; own = p.own ++ next_frame p ∷ []; moved = p.moved }
+pushed p sizes = record {
+  map = with_pieces p.map (next_frame p) 0 sizes;
+  own = p.own ++ next_frame p ∷ [];
+  moved = p.moved;
+}
 
 -- the last of the own frames
 abbrev pub newest : List ℕ → ℕ

@@ -1,6 +1,8 @@
+-- None of this belongs to what the program promises: it is for contracts between crates.
 -- Laws of frame numbers, and of frames pushed and popped. The proofs of the store, the machine and the code above use
 -- them; they stand here since they speak of no representation.
-use Rattle.std.specs.Prelude.{◌≡◌, ◌≢◌, ◌⊎◌, ℕ, zero, suc, ◌+◌, ◌-◌, ◌≤◌, ◌<◌, ◌==◌, ◌||◌, not, cond, Bool, true, false, List, [], ◌∷◌, ◌++◌, length, max, take, replicate, Option, None, Some, IsSome}
+use Rattle.std.specs.Prelude.{◌≡◌, ◌≢◌, ◌⊎◌, ℕ, zero, suc, ◌+◌, ◌-◌, ◌≤◌, ◌<◌, ◌==◌, ◌||◌, not, cond, Bool, true, false}
+use Rattle.std.specs.Prelude.{List, [], ◌∷◌, ◌++◌, length, max, take, replicate, Option, None, Some, IsSome}
 use Rattle.std.proofs.Common.{T, sym, ap, refl, ◌∙◌, get_or, arith, inl, inr}
 use Rattle.std.proofs.Math.Facts.{yes_eqb}
 use Rattle.std.proofs.lemmas.Bool.{cases_lt, cases_eq, eqb-true}
@@ -32,7 +34,8 @@ above_lower (n ∷ ns) zero l = omega arith
 above_lower (n ∷ ns) (suc k) l = omega (arith, above_lower ns k (omega arith))
 
 -- where the number at a place is the greatest
-pub above_at : (ns : List ℕ) (k : ℕ) → k < length ns → ((j : ℕ) → j < length ns → get_or ns j 0 ≤ get_or ns k 0) → above ns ≡ get_or ns k 0 + 1
+pub above_at : (ns : List ℕ) (k : ℕ) → k < length ns → ((j : ℕ) → j < length ns → get_or ns j 0 ≤ get_or ns k 0)
+    → above ns ≡ get_or ns k 0 + 1
 above_at ns k l f = omega (arith, above_lower ns k l, above_upper ns (get_or ns k 0 + 1) (λ j b. omega (arith, f j b)))
 
 -- the newest of rising numbers is the greatest
@@ -50,7 +53,9 @@ rising_push ns n r a i j l b =
       | inl h ↦ rw (get_or-append ns (n ∷ []) 0 i (omega arith), get_or-append ns (n ∷ []) 0 j h) (r i j l h)
       | inr h ↦ let e : j ≡ length ns = omega (arith, len, b) in
           let below = above_lower ns i (omega arith) in
-          let at : get_or (ns ++ n ∷ []) j 0 ≡ n = rw e (get_or-append_right ns (n ∷ []) (length ns) (length ns) 0 refl (omega arith) ∙ ap (λ k. get_or (n ∷ []) k 0) {y = 0} (omega arith)) in
+          let at : get_or (ns ++ n ∷ []) j 0 ≡ n =
+          rw e (get_or-append_right ns (n ∷ []) (length ns) (length ns) 0 refl (omega arith)
+          ∙ ap (λ k. get_or (n ∷ []) k 0) {y = 0} (omega arith)) in
           rw (get_or-append ns (n ∷ []) 0 i (omega arith), at) (omega arith)
     ]
 
@@ -96,7 +101,8 @@ is_other a b n = by_test (a == b) refl
     by_test false e = refl
 
 get_without : (m : Map) (n : ℕ) (q : Spot) → map.get (without m n) q ≡ cond (not (q.frame == n)) (map.get m q) None
-get_without m n q = map.get-retain_keys m (λ s. not (s.frame == n)) q (λ x e. ap (λ (t : Spot). not (t.frame == n)) (sym (spot_same q x e)))
+get_without m n q = map.get-retain_keys m (λ s. not (s.frame == n)) q
+    (λ x e. ap (λ (t : Spot). not (t.frame == n)) (sym (spot_same q x e)))
 
 pub without_here : (m : Map) (n : ℕ) (q : Spot) → q.frame ≡ n → map.get (without m n) q ≡ None
 without_here m n q e = get_without m n q ∙ ap (λ b. cond (not b) (map.get m q) None) (is_same q.frame n e)
@@ -105,10 +111,12 @@ pub without_other : (m : Map) (n : ℕ) (q : Spot) → q.frame ≢ n → map.get
 without_other m n q d = get_without m n q ∙ ap (λ b. cond (not b) (map.get m q) None) (is_other q.frame n d)
 
 -- a spot of the frame does not count
-pub without_insert : (m : Map) (n : ℕ) (s : Spot) (h : Content) → s.frame ≡ n → without (map.insert m s h) n ≡ without m n
+pub without_insert : (m : Map) (n : ℕ) (s : Spot) (h : Content) → s.frame ≡ n
+    → without (map.insert m s h) n ≡ without m n
 without_insert m n s h e = same_map _ _ (λ q. elim (cases_eq q.frame n) [
   | inl f ↦ without_here (map.insert m s h) n q f ∙ sym (without_here m n q f)
-  | inr d ↦ without_other (map.insert m s h) n q d ∙ get_other m s h q (λ p. d (ap (λ (t : Spot). t.frame) p ∙ e)) ∙ sym (without_other m n q d)
+  | inr d ↦ without_other (map.insert m s h) n q d ∙ get_other m s h q (λ p. d (ap (λ (t : Spot). t.frame) p ∙ e))
+      ∙ sym (without_other m n q d)
 ])
 
 pub without_pieces : (m : Map) (n v : ℕ) (cs : List ℕ) → without (with_pieces m n v cs) n ≡ without m n
@@ -134,7 +142,8 @@ without_next p = without_none p.map (next_frame p) (λ q k e. absurd (omega (ari
 
 -- ---- the next number
 
-above_any : (ss : List Spot) (b : ℕ) → ((q : Spot) → list_any (eq_by_cmp spot_cmp q) ss ≡ true → q.frame < b) → above (frames ss) ≤ b
+above_any : (ss : List Spot) (b : ℕ) → ((q : Spot) → list_any (eq_by_cmp spot_cmp q) ss ≡ true → q.frame < b)
+    → above (frames ss) ≤ b
 above_any [] b f = omega arith
 above_any (s ∷ ss) b f =
     let here = f s (ap (λ r. is_eq r || list_any (eq_by_cmp spot_cmp s) ss) (tied_itself spot_total s)) in
@@ -146,11 +155,13 @@ above_any (s ∷ ss) b f =
     or_right false b e = e
 
 -- a number above the frame of each known spot is above all
-pub above_known : (m : Map) (b : ℕ) → ((q : Spot) → IsSome (map.get m q) → q.frame < b) → above (frames (map.keys m)) ≤ b
+pub above_known : (m : Map) (b : ℕ) → ((q : Spot) → IsSome (map.get m q) → q.frame < b)
+    → above (frames (map.keys m)) ≤ b
 above_known m b f = above_any (map.keys m) b (λ q e. f q (map.contains_key-keys m q ∙ e))
 
 -- a spot that is known after pieces are added was known, or is of their frame
-pub known_pieces : (m : Map) (n v : ℕ) (cs : List ℕ) (q : Spot) → IsSome (map.get (with_pieces m n v cs) q) → IsSome (map.get m q) ⊎ (q.frame ≡ n)
+pub known_pieces : (m : Map) (n v : ℕ) (cs : List ℕ) (q : Spot) → IsSome (map.get (with_pieces m n v cs) q)
+    → IsSome (map.get m q) ⊎ (q.frame ≡ n)
 known_pieces m n v [] q k = inl k
 known_pieces m n v (c ∷ cs) q k =
     let s : Spot = record { frame = n; variable = v } in
@@ -171,5 +182,7 @@ pub next_pushed : (p : Plain) (cs : List ℕ) → next_frame (pushed p cs) ≡ n
 next_pushed p cs =
     let n = next_frame p in
     let own = above_append p.own n in
-    let known = above_known (with_pieces p.map n 0 cs) (n + 1) (λ q k. elim (known_pieces p.map n 0 cs q k) [ inl h ↦ omega (arith, known_below p.map q h) | inr e ↦ omega (arith, e) ]) in
+    let known = above_known (with_pieces p.map n 0 cs) (n + 1)
+    (λ q k. elim (known_pieces p.map n 0 cs q k)
+    [ inl h ↦ omega (arith, known_below p.map q h) | inr e ↦ omega (arith, e) ]) in
     omega (arith, own, known)

@@ -1,7 +1,9 @@
+-- None of this belongs to what the program promises: it is for contracts between crates.
 -- What *held* says of all stores of a run side by side: each variable is own in one store at most, or shared alike.
 -- The contracts of the laws of `Store` keep it at forks and joins; the stores are seen with what their frames mean in
 -- the run, since each numbers its own.
-use Rattle.std.specs.Prelude.{◌≡◌, ◌≢◌, ◌⊎◌, ℕ, ◌+◌, ◌==◌, if◌then◌else◌, List, [], ◌∷◌, ◌++◌, Option, None, Some, IsSome}
+use Rattle.std.specs.Prelude.{◌≡◌, ◌≢◌, ◌⊎◌, ℕ, ◌+◌, ◌==◌, if◌then◌else◌, List, [], ◌∷◌, ◌++◌, Option, None, Some}
+use Rattle.std.specs.Prelude.{IsSome}
 use Rattle.std.specs.List.{AllByRecursion}
 use Rattle.std.specs.FinMap as map
 use Rattle.sp_cell.specs.declared.spot.Spot.{Spot}
@@ -35,14 +37,15 @@ Agree a b = IsNotHeld a ⊎ (IsNotHeld b ⊎ ShareAlike a b)
 
 -- a variable that the store knows stands at one spot
 abbrev pub IsNamed : View → Type 0
-IsNamed w = (p q : Spot) → IsSome (map.get w.map p) → IsSome (map.get w.map q) → variable_of w p ≡ variable_of w q → p ≡ q
+IsNamed w = (p q : Spot) → IsSome (map.get w.map p) → IsSome (map.get w.map q) → variable_of w p ≡ variable_of w q
+    → p ≡ q
 
 -- two stores agree on each variable that both know
 abbrev pub AgreeOnAll : View → View → Type 0
 AgreeOnAll w u = (p q : Spot) → variable_of w p ≡ variable_of u q → Agree (map.get w.map p) (map.get u.map q)
 
--- held, of all stores of a run: each variable is own in one store at most; where it is shared, all that share it have equal
--- cells and none owns it; every other store that knows it has it away
+-- held, of all stores of a run: each variable is own in one store at most; where it is shared, all that share it have
+-- equal cells and none owns it; every other store that knows it has it away
 abbrev pub IsPartition : List View → Type 0
 IsPartition [] = Unit {0}
 IsPartition (w ∷ ws) = IsNamed w × AllByRecursion (AgreeOnAll w) ws × IsPartition ws
@@ -57,7 +60,8 @@ child_means f h v n = if n == index_frame h then v else f n
 abbrev pub child_views : (ℕ → ℕ) → (ℕ → ℕ) → List Handing → List Plain → List View
 child_views f new [] cs = []
 child_views f new (h ∷ hs) [] = []
-child_views f new (h ∷ hs) (c ∷ cs) = record { map = c.map; means = child_means f h (new 0) } ∷ child_views f (λ k. new (k + 1)) hs cs
+child_views f new (h ∷ hs) (c ∷ cs) = record { map = c.map; means = child_means f h (new 0) }
+    ∷ child_views f (λ k. new (k + 1)) hs cs
 
 -- no spot of the store means the frame
 abbrev pub IsFresh : ℕ → View → Type 0
@@ -69,8 +73,12 @@ AreFresh new ws = ((i j : ℕ) → new i ≡ new j → i ≡ j) × ((k : ℕ) �
 
 -- a fork keeps the partition: the parent's map was m and is n, and the children are cs
 pub record KeepsPartition (m n : Map) (hs : List Handing) (cs : List Plain) : Type 0 where
-  pub keeps : (f new : ℕ → ℕ) (ws : List View) → IsPartition (record { map = m; means = f } ∷ ws) → AreFresh new (record { map = m; means = f } ∷ ws) → IsPartition (record { map = n; means = f } ∷ (child_views f new hs cs ++ ws))
+  pub keeps : (f new : ℕ → ℕ) (ws : List View) → IsPartition (record { map = m; means = f } ∷ ws)
+      → AreFresh new (record { map = m; means = f } ∷ ws)
+      → IsPartition (record { map = n; means = f } ∷ (child_views f new hs cs ++ ws))
 
 -- a join keeps it: the parent's map was m and is n, and the child is gone
 pub record RejoinsPartition (m n : Map) (c : Plain) : Type 0 where
-  pub keeps : (f g : ℕ → ℕ) (ws : List View) → IsPartition (record { map = m; means = f } ∷ record { map = c.map; means = g } ∷ ws) → AllByRecursion (λ s. f s.frame ≡ g s.frame) c.moved → IsPartition (record { map = n; means = f } ∷ ws)
+  pub keeps : (f g : ℕ → ℕ) (ws : List View)
+      → IsPartition (record { map = m; means = f } ∷ record { map = c.map; means = g } ∷ ws)
+      → AllByRecursion (λ s. f s.frame ≡ g s.frame) c.moved → IsPartition (record { map = n; means = f } ∷ ws)

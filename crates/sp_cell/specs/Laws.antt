@@ -1,3 +1,4 @@
+-- None of this belongs to what the program promises: it is for contracts between crates.
 -- Laws of the map of a store: what is found after an insert, and when two maps are one. The other laws here and the
 -- proofs of the crates above go by them.
 use Rattle.std.specs.Prelude.{◌≡◌, cond, Option, Some, None, ◌≢◌, ◌⊎◌, IsSome}
@@ -18,16 +19,19 @@ pub apart_greater : (r : Ordering) → r ≡ Greater → r ≡ Equal → ⊥
 apart_greater r p q = cc
 
 -- what is found at q after an insert at s
-by_spot : (m : Map) (s : Spot) (h : Content) (q : Spot) (r : Ordering) → spot_cmp q s ≡ r → map.get m s ≡ Some h → cond (is_eq r) (Some h) (map.get m q) ≡ map.get m q
+by_spot : (m : Map) (s : Spot) (h : Content) (q : Spot) (r : Ordering) → spot_cmp q s ≡ r → map.get m s ≡ Some h
+    → cond (is_eq r) (Some h) (map.get m q) ≡ map.get m q
 by_spot m s h q Less e g = refl
 by_spot m s h q Equal e g = sym g ∙ map.get_tied spot_total m q s e
 by_spot m s h q Greater e g = refl
 
 -- to insert what is there changes nothing
 pub insert_same : (m : Map) (s : Spot) (h : Content) → map.get m s ≡ Some h → map.insert m s h ≡ m
-insert_same m s h g = map.same_map spot_total spot_same _ _ (λ q. map.get-insert spot_total m s h q ∙ by_spot m s h q (spot_cmp q s) refl g)
+insert_same m s h g = map.same_map spot_total spot_same _ _
+    (λ q. map.get-insert spot_total m s h q ∙ by_spot m s h q (spot_cmp q s) refl g)
 
-other_by : (m : Map) (s : Spot) (h : Content) (q : Spot) → q ≢ s → (r : Ordering) → spot_cmp q s ≡ r → cond (is_eq r) (Some h) (map.get m q) ≡ map.get m q
+other_by : (m : Map) (s : Spot) (h : Content) (q : Spot) → q ≢ s → (r : Ordering) → spot_cmp q s ≡ r
+    → cond (is_eq r) (Some h) (map.get m q) ≡ map.get m q
 other_by m s h q n Less e = refl
 other_by m s h q n Equal e = absurd (n (spot_same q s e))
 other_by m s h q n Greater e = refl
@@ -37,7 +41,8 @@ pub get_other : (m : Map) (s : Spot) (h : Content) (q : Spot) → q ≢ s → ma
 get_other m s h q n = map.get-insert spot_total m s h q ∙ other_by m s h q n (spot_cmp q s) refl
 
 pub get_here : (m : Map) (s : Spot) (h : Content) → map.get (map.insert m s h) s ≡ Some h
-get_here m s h = map.get-insert spot_total m s h s ∙ ap (λ r. cond (is_eq r) (Some h) (map.get m s)) (tied_itself spot_total s)
+get_here m s h = map.get-insert spot_total m s h s
+    ∙ ap (λ r. cond (is_eq r) (Some h) (map.get m s)) (tied_itself spot_total s)
 
 -- whether two spots are one
 pub same_or : (q s : Spot) → (q ≡ s) ⊎ (q ≢ s)
@@ -53,7 +58,8 @@ pub same_map : (m n : Map) → ((q : Spot) → map.get m q ≡ map.get n q) → 
 same_map m n is = map.same_map spot_total spot_same m n is
 
 -- a spot that is known stays known
-pub known_insert : (m : Map) (s : Spot) (h : Content) (q : Spot) → IsSome (map.get m q) → IsSome (map.get (map.insert m s h) q)
+pub known_insert : (m : Map) (s : Spot) (h : Content) (q : Spot) → IsSome (map.get m q)
+    → IsSome (map.get (map.insert m s h) q)
 known_insert m s h q k = elim (same_or q s) [
   | inl e ↦ rw (e, get_here m s h) refl
   | inr n ↦ rw (get_other m s h q n) k

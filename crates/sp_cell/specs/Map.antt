@@ -1,3 +1,4 @@
+-- Some of this belongs to what the program promises (docs/promise.txt).
 -- The plain map of a store: what its calls do, without its representation. Each contract of `Store`, and the memory of
 -- the machine's definition, speaks of it; it is a map and no list, so that equal stores are equal.
 use Rattle.std.specs.Prelude.{ℕ, ◌+◌, ◌≤◌, List, [], ◌++◌, length, slice_set, Option, None, Some}

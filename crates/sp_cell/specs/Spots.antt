@@ -1,3 +1,4 @@
+-- None of this belongs to what the program promises: it is for contracts between crates.
 -- Lists of spots: membership, and that none comes twice, by recursion and by place. The requirements of `split` and
 -- the definition of sound code cite it; loops go by places, laws by recursion.
 use Rattle.std.specs.Prelude.{◌≡◌, ◌≢◌, ◌⊎◌, ℕ, ◌<◌, List, [], ◌∷◌, length, slice_index_or, Some}

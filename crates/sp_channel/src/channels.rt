@@ -1,6 +1,7 @@
 //! Channels by their numbers, with at most one pending offer each.
 
-ghost use Rattle.std.specs.Prelude.{◌≡◌, ◌<◌, IfOk, OnOk, OnErr, length, slice_index_or, slice_set, [], ◌∷◌, ◌++◌, Some, None};
+ghost use Rattle.std.specs.Prelude.{◌≡◌, ◌<◌, IfOk, OnOk, OnErr, length, slice_index_or, slice_set, [], ◌∷◌, ◌++◌};
+ghost use Rattle.std.specs.Prelude.{Some, None};
 ghost use Rattle.sp_channel.specs.Offers.{answer, after};
 
 use sp_base::Memory;
@@ -92,7 +93,8 @@ impl Channels {
     pub fn offer(&mut self, way: Way, channel: u32, process: u32, message: u32) -> Offer
         requires { channel < length self.old }
         ensures answer { result ≡ answer (slice_index_or self.old channel None) way message }
-        ensures after { self.new ≡ slice_set self.old channel (after (slice_index_or self.old channel None) way process message) }
+        ensures after { self.new ≡ slice_set self.old channel
+            (after (slice_index_or self.old channel None) way process message) }
     {
         let at = channel as usize;
         match self.pending[at] {

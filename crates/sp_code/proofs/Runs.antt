@@ -11,13 +11,15 @@ use Rattle.sp_code.specs.declared.code.ForkTable.{ForkTable}
 use Rattle.sp_code.specs.Turns.{Turn, Ran, Ended, Lacks, GoesOn, turn_within}
 use Rattle.sp_code.specs.Memory.{Setting, Memory, memory}
 use Rattle.sp_code.specs.Control.{control, front, standing, Running, IsDone, IsDeadlock, IsFault, IsMemory}
-use Rattle.sp_code.specs.System.{System, Condition, Absent, Working, Waits, Joins, Laid, Gone, Over, event_of, after, opening}
+use Rattle.sp_code.specs.System.{System, Condition, Absent, Working, Waits, Joins, Laid, Gone, Over, event_of, after}
+use Rattle.sp_code.specs.System.{opening}
 use Rattle.sp_code.proofs.Small.{Small, small, wide, written}
 
 -- ---- a run, by the processes that make the entries
 
 module _ (g : Setting) where
-  abbrev after_turn : (System Small → List Event × List ℕ) → ℕ → System Small → Turn (Memory Small) → List Event × List ℕ
+  abbrev after_turn : (System Small → List Event × List ℕ) → ℕ → System Small → Turn (Memory Small) → List Event
+      × List ℕ
   after_turn go q m t = let r = go (after small g q t m) in (event_of g.limits m t ∷ r.0, r.1)
 
   abbrev by_turn : (System Small → List Event × List ℕ) → ℕ → System Small → Ran (Memory Small) → List Event × List ℕ
@@ -55,7 +57,20 @@ module _ (g : Setting) where
 
 abbrev of : List Instr → List ForkTable → List ℕ → List ℕ → Setting
 of is forks sizes variables = record {
-  code = record { instrs = is; layouts = record { block = 0; entry = 0; parent = None; answer = false; sizes = sizes; variables = variables; formals = [] } ∷ []; forks = forks; texts = [] };
+  code = record {
+    instrs = is;
+    layouts = record {
+      block = 0;
+      entry = 0;
+      parent = None;
+      answer = false;
+      sizes = sizes;
+      variables = variables;
+      formals = [];
+    } ∷ [];
+    forks = forks;
+    texts = [];
+  };
   input = [];
   limits = wide;
   pause = 100000;
@@ -67,14 +82,17 @@ child entry moved shared = record { entry = entry; moved = moved; shared = share
 -- open(c); parallel send(c, 1) | receive(c, x) end; write(x)
 abbrev rendezvous : Setting
 rendezvous = of
-    (i.Addr 0 2 ∷ i.Open ∷ i.Fork 0 ∷ i.Jump 14 ∷ i.Addr 0 2 ∷ i.Loadc ∷ i.Const (pos 1) ∷ i.Send 0 ∷ i.End ∷ i.Addr 0 2 ∷ i.Loadc ∷ i.Addr 0 3 ∷ i.Receive 0 ∷ i.End ∷ i.Addr 0 3 ∷ i.Load ∷ i.WriteChar ∷ i.End ∷ [])
+    (i.Addr 0 2 ∷ i.Open ∷ i.Fork 0 ∷ i.Jump 14 ∷ i.Addr 0 2 ∷ i.Loadc ∷ i.Const (pos 1) ∷ i.Send 0 ∷ i.End ∷ i.Addr 0 2
+    ∷ i.Loadc ∷ i.Addr 0 3 ∷ i.Receive 0 ∷ i.End ∷ i.Addr 0 3 ∷ i.Load ∷ i.WriteChar ∷ i.End ∷ [])
     (record { children = child 4 [] (2 ∷ []) ∷ child 9 (3 ∷ []) (2 ∷ []) ∷ [] } ∷ []) (1 ∷ 1 ∷ []) (2 ∷ 3 ∷ [])
 
-meets : told rendezvous (0 ∷ 0 ∷ 1 ∷ 2 ∷ 1 ∷ 2 ∷ 0 ∷ []) ≡ (event.Open ∷ event.Fork 2 ∷ event.Send 0 ∷ event.Receive 0 ∷ event.End ∷ event.End ∷ event.End ∷ [], 1 ∷ [])
+meets : told rendezvous (0 ∷ 0 ∷ 1 ∷ 2 ∷ 1 ∷ 2 ∷ 0 ∷ [])
+    ≡ (event.Open ∷ event.Fork 2 ∷ event.Send 0 ∷ event.Receive 0 ∷ event.End ∷ event.End ∷ event.End ∷ [], 1 ∷ [])
 meets = refl
 
 -- the same the other way round: the receiver waits
-meets_a_receiver : told rendezvous (0 ∷ 0 ∷ 2 ∷ 1 ∷ 2 ∷ 1 ∷ 0 ∷ []) ≡ (event.Open ∷ event.Fork 2 ∷ event.Receive 0 ∷ event.Send 0 ∷ event.End ∷ event.End ∷ event.End ∷ [], 1 ∷ [])
+meets_a_receiver : told rendezvous (0 ∷ 0 ∷ 2 ∷ 1 ∷ 2 ∷ 1 ∷ 0 ∷ [])
+    ≡ (event.Open ∷ event.Fork 2 ∷ event.Receive 0 ∷ event.Send 0 ∷ event.End ∷ event.End ∷ event.End ∷ [], 1 ∷ [])
 meets_a_receiver = refl
 
 -- a process that joins or waits makes no entry
@@ -82,40 +100,49 @@ waits : told rendezvous (0 ∷ 0 ∷ 0 ∷ []) ≡ (event.Open ∷ event.Fork 2 
 waits = refl
 
 -- limits of totals
-too_many_entries : told (record rendezvous { limits = record wide { entries = 2 } }) (0 ∷ 0 ∷ 1 ∷ 2 ∷ []) ≡ (event.Open ∷ event.Fork 2 ∷ event.Fault fault.F15 ∷ event.Laid ∷ [], [])
+too_many_entries : told (record rendezvous { limits = record wide { entries = 2 } }) (0 ∷ 0 ∷ 1 ∷ 2 ∷ [])
+    ≡ (event.Open ∷ event.Fork 2 ∷ event.Fault fault.F15 ∷ event.Laid ∷ [], [])
 too_many_entries = refl
 
-too_many_processes : told (record rendezvous { limits = record wide { processes = 2 } }) (0 ∷ 0 ∷ []) ≡ (event.Open ∷ event.Fault fault.F13 ∷ [], [])
+too_many_processes : told (record rendezvous { limits = record wide { processes = 2 } }) (0 ∷ 0 ∷ [])
+    ≡ (event.Open ∷ event.Fault fault.F13 ∷ [], [])
 too_many_processes = refl
 
-too_many_channels : told (record rendezvous { limits = record wide { channels = 0 } }) (0 ∷ []) ≡ (event.Fault fault.F14 ∷ [], [])
+too_many_channels : told (record rendezvous { limits = record wide { channels = 0 } }) (0 ∷ [])
+    ≡ (event.Fault fault.F14 ∷ [], [])
 too_many_channels = refl
 
-too_deep : told (record rendezvous { limits = record wide { depth = 0 } }) (0 ∷ 0 ∷ []) ≡ (event.Open ∷ event.Fault fault.F11 ∷ [], [])
+too_deep : told (record rendezvous { limits = record wide { depth = 0 } }) (0 ∷ 0 ∷ [])
+    ≡ (event.Open ∷ event.Fault fault.F11 ∷ [], [])
 too_deep = refl
 
 -- open(c); parallel send(c, 1) | send(c, 2) end: the second one contends; and what came back after it is laid down
 abbrev contention : Setting
 contention = of
-    (i.Addr 0 2 ∷ i.Open ∷ i.Fork 0 ∷ i.Jump 14 ∷ i.Addr 0 2 ∷ i.Loadc ∷ i.Const (pos 1) ∷ i.Send 0 ∷ i.End ∷ i.Addr 0 2 ∷ i.Loadc ∷ i.Const (pos 2) ∷ i.Send 0 ∷ i.End ∷ i.End ∷ [])
+    (i.Addr 0 2 ∷ i.Open ∷ i.Fork 0 ∷ i.Jump 14 ∷ i.Addr 0 2 ∷ i.Loadc ∷ i.Const (pos 1) ∷ i.Send 0 ∷ i.End ∷ i.Addr 0 2
+    ∷ i.Loadc ∷ i.Const (pos 2) ∷ i.Send 0 ∷ i.End ∷ i.End ∷ [])
     (record { children = child 4 [] (2 ∷ []) ∷ child 9 [] (2 ∷ []) ∷ [] } ∷ []) (1 ∷ []) (2 ∷ [])
 
-contends : told contention (0 ∷ 0 ∷ 1 ∷ 2 ∷ []) ≡ (event.Open ∷ event.Fork 2 ∷ event.Send 0 ∷ event.Fault fault.F6 ∷ [], [])
+contends : told contention (0 ∷ 0 ∷ 1 ∷ 2 ∷ [])
+    ≡ (event.Open ∷ event.Fork 2 ∷ event.Send 0 ∷ event.Fault fault.F6 ∷ [], [])
 contends = refl
 
 -- another message type
 abbrev mismatch : Setting
 mismatch = of
-    (i.Addr 0 2 ∷ i.Open ∷ i.Fork 0 ∷ i.Jump 14 ∷ i.Addr 0 2 ∷ i.Loadc ∷ i.Const (pos 1) ∷ i.Send 0 ∷ i.End ∷ i.Addr 0 2 ∷ i.Loadc ∷ i.Addr 0 3 ∷ i.Receive 1 ∷ i.End ∷ i.End ∷ [])
+    (i.Addr 0 2 ∷ i.Open ∷ i.Fork 0 ∷ i.Jump 14 ∷ i.Addr 0 2 ∷ i.Loadc ∷ i.Const (pos 1) ∷ i.Send 0 ∷ i.End ∷ i.Addr 0 2
+    ∷ i.Loadc ∷ i.Addr 0 3 ∷ i.Receive 1 ∷ i.End ∷ i.End ∷ [])
     (record { children = child 4 [] (2 ∷ []) ∷ child 9 (3 ∷ []) (2 ∷ []) ∷ [] } ∷ []) (1 ∷ 1 ∷ []) (2 ∷ 3 ∷ [])
 
-differs : told mismatch (0 ∷ 0 ∷ 1 ∷ 2 ∷ []) ≡ (event.Open ∷ event.Fork 2 ∷ event.Send 0 ∷ event.Fault fault.F7 ∷ [], [])
+differs : told mismatch (0 ∷ 0 ∷ 1 ∷ 2 ∷ [])
+    ≡ (event.Open ∷ event.Fork 2 ∷ event.Send 0 ∷ event.Fault fault.F7 ∷ [], [])
 differs = refl
 
 -- forall k := 1 to 2 do assume k = 1: each child has its own index
 abbrev indexed : Setting
 indexed = of
-    (i.Const (pos 1) ∷ i.Const (pos 2) ∷ i.Forall 0 ∷ i.Jump 9 ∷ i.Addr 0 0 ∷ i.Load ∷ i.Const (pos 1) ∷ i.Eq ∷ i.Assume ∷ i.End ∷ [])
+    (i.Const (pos 1) ∷ i.Const (pos 2) ∷ i.Forall 0 ∷ i.Jump 9 ∷ i.Addr 0 0 ∷ i.Load ∷ i.Const (pos 1) ∷ i.Eq ∷ i.Assume
+    ∷ i.End ∷ [])
     (record { children = record { entry = 4; moved = []; shared = []; index = Some 2 } ∷ [] } ∷ []) [] []
 
 each_has_its_index : told indexed (0 ∷ 1 ∷ 2 ∷ []) ≡ (event.Fork 2 ∷ event.End ∷ event.Fault fault.F8 ∷ [], [])
@@ -123,7 +150,8 @@ each_has_its_index = refl
 
 -- an empty range goes on behind the forall
 abbrev empty_range : Setting
-empty_range = of (i.Const (pos 1) ∷ i.Const (pos 0) ∷ i.Forall 0 ∷ i.Jump 4 ∷ i.End ∷ []) (record { children = record { entry = 4; moved = []; shared = []; index = Some 2 } ∷ [] } ∷ []) [] []
+empty_range = of (i.Const (pos 1) ∷ i.Const (pos 0) ∷ i.Forall 0 ∷ i.Jump 4 ∷ i.End ∷ [])
+    (record { children = record { entry = 4; moved = []; shared = []; index = Some 2 } ∷ [] } ∷ []) [] []
 
 does_nothing : told empty_range (0 ∷ []) ≡ (event.End ∷ [], [])
 does_nothing = refl
@@ -135,7 +163,9 @@ note w given e got = record { worker = w; given = given; event = e; got = got }
 
 -- one worker on the rendezvous: what waited becomes ready before what came
 abbrev notes : List Note
-notes = note 0 None None (Some 0) ∷ note 0 (Some 0) (Some event.Open) (Some 0) ∷ note 0 (Some 0) (Some (event.Fork 2)) (Some 1) ∷ note 0 (Some 1) (Some (event.Send 0)) (Some 2) ∷ note 0 (Some 2) (Some (event.Receive 0)) (Some 1) ∷ []
+notes = note 0 None None (Some 0) ∷ note 0 (Some 0) (Some event.Open) (Some 0)
+    ∷ note 0 (Some 0) (Some (event.Fork 2)) (Some 1) ∷ note 0 (Some 1) (Some (event.Send 0)) (Some 2)
+    ∷ note 0 (Some 2) (Some (event.Receive 0)) (Some 1) ∷ []
 
 then_the_receiver : front (control notes) ≡ Some 2
 then_the_receiver = refl
@@ -143,14 +173,17 @@ then_the_receiver = refl
 still_running : standing (control notes) ≡ Running
 still_running = refl
 
-done : standing (control (notes ++ note 0 (Some 1) (Some event.End) (Some 2) ∷ note 0 (Some 2) (Some event.End) (Some 0) ∷ note 0 (Some 0) (Some event.End) None ∷ [])) ≡ IsDone
+done : standing (control (notes ++ note 0 (Some 1) (Some event.End) (Some 2) ∷ note 0 (Some 2) (Some event.End) (Some 0)
+    ∷ note 0 (Some 0) (Some event.End) None ∷ [])) ≡ IsDone
 done = refl
 
 -- after the last child the parent is ready, and nobody else
-parent_goes_on : front (control (notes ++ note 0 (Some 1) (Some event.End) (Some 2) ∷ note 1 (Some 2) (Some event.End) None ∷ [])) ≡ Some 0
+parent_goes_on : front (control (notes ++ note 0 (Some 1) (Some event.End) (Some 2)
+    ∷ note 1 (Some 2) (Some event.End) None ∷ [])) ≡ Some 0
 parent_goes_on = refl
 
-deadlock : standing (control (note 0 None None (Some 0) ∷ note 0 (Some 0) (Some event.Open) (Some 0) ∷ note 0 (Some 0) (Some (event.Receive 0)) None ∷ [])) ≡ IsDeadlock
+deadlock : standing (control (note 0 None None (Some 0) ∷ note 0 (Some 0) (Some event.Open) (Some 0)
+    ∷ note 0 (Some 0) (Some (event.Receive 0)) None ∷ [])) ≡ IsDeadlock
 deadlock = refl
 
 -- no deadlock while a process is out
@@ -158,15 +191,18 @@ not_yet : standing (control (note 0 None None (Some 0) ∷ [])) ≡ Running
 not_yet = refl
 
 -- after a fault nothing is taken, and an abandon stands before all
-fault_stands : standing (control (note 0 None None (Some 0) ∷ note 0 (Some 0) (Some (event.Fault fault.F2)) None ∷ [])) ≡ IsFault
+fault_stands : standing (control (note 0 None None (Some 0) ∷ note 0 (Some 0) (Some (event.Fault fault.F2)) None ∷ []))
+    ≡ IsFault
 fault_stands = refl
 
-nothing_is_taken : front (control (note 0 None None (Some 0) ∷ note 0 (Some 0) (Some (event.Fork 2)) (Some 1) ∷ note 0 (Some 1) (Some (event.Fault fault.F2)) None ∷ [])) ≡ None
+nothing_is_taken : front (control (note 0 None None (Some 0) ∷ note 0 (Some 0) (Some (event.Fork 2)) (Some 1)
+    ∷ note 0 (Some 1) (Some (event.Fault fault.F2)) None ∷ [])) ≡ None
 nothing_is_taken = refl
 
 given_up : standing (control (note 0 None None (Some 0) ∷ note 0 (Some 0) None None ∷ [])) ≡ IsMemory
 given_up = refl
 
 -- a pause goes to the back of the queue
-behind_the_others : front (control (note 0 None None (Some 0) ∷ note 0 (Some 0) (Some (event.Fork 2)) (Some 1) ∷ note 0 (Some 1) (Some event.Pause) None ∷ [])) ≡ Some 2
+behind_the_others : front (control (note 0 None None (Some 0) ∷ note 0 (Some 0) (Some (event.Fork 2)) (Some 1)
+    ∷ note 0 (Some 1) (Some event.Pause) None ∷ [])) ≡ Some 2
 behind_the_others = refl

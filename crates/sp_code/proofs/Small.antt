@@ -1,5 +1,6 @@
 -- A small store that computes, to run worked code by the definitions.
-use Rattle.std.specs.Prelude.{ℕ, suc, ◌-◌, ◌==◌, ℤ, pos, List, [], ◌∷◌, ◌++◌, Option, Some, None, Bool, false, ◌&&◌, if◌then◌else◌, length, take, replicate, max, codes}
+use Rattle.std.specs.Prelude.{ℕ, suc, ◌-◌, ◌==◌, ℤ, pos, List, [], ◌∷◌, ◌++◌, Option, Some, None, Bool, false, ◌&&◌}
+use Rattle.std.specs.Prelude.{if◌then◌else◌, length, take, replicate, max, codes}
 use Rattle.sp_base.specs.declared.fault.Fault.{Fault}
 use Rattle.sp_base.specs.declared.limits.Limits.{Limits}
 use Rattle.sp_cell.specs.declared.cell.Cell.TheVariants as cell
@@ -29,7 +30,8 @@ with_content s c at t = if same_spot s t then c else at t
 
 abbrev pub pieces_from : ℕ → ℕ → List ℕ → (Spot → Option Content) → Spot → Option Content
 pieces_from n v [] at = at
-pieces_from n v (k ∷ ks) at = pieces_from n (suc v) ks (with_content (record { frame = n; variable = v }) (Some (Own (replicate k cell.Undefined))) at)
+pieces_from n v (k ∷ ks) at = pieces_from n (suc v) ks
+    (with_content (record { frame = n; variable = v }) (Some (Own (replicate k cell.Undefined))) at)
 
 abbrev pub output_by : Option Content → Option (List ℕ)
 output_by None = None
@@ -69,14 +71,39 @@ small = record {
   piece = λ s p. piece_of (s.at p);
   owned = λ s p cs. record s { at = with_content p (Some (Own cs)) s.at };
   output = λ s. output_by (s.at output_spot);
-  appended = λ s bs. record s { at = with_content output_spot (Some (Output (bytes_in (output_by (s.at output_spot)) ++ bs))) s.at };
+  appended = λ s bs. record s {
+    at = with_content output_spot
+        (Some (Output (bytes_in (output_by (s.at output_spot)) ++ bs))) s.at;
+  };
   next_frame = λ s. max (above s.known) (above s.own);
-  pushed = λ s sizes. let n = max (above s.known) (above s.own) in record s { at = pieces_from n 0 sizes s.at; known = n ∷ s.known; own = s.own ++ n ∷ [] };
+  pushed = λ s sizes. let n = max (above s.known) (above s.own) in
+      record s { at = pieces_from n 0 sizes s.at; known = n ∷ s.known; own = s.own ++ n ∷ [] };
   may_pop = λ s n. is_there s.own && (newest s.own == n);
-  popped = λ s. let n = newest s.own in record s { at = λ p. if p.frame == n then None else s.at p; known = without n s.known; own = take (length s.own - 1) s.own };
-  root = λ sizes. record { at = pieces_from 0 2 sizes (with_content (record { frame = 0; variable = 0 }) (Some (Own (cell.Ordinal (pos 0) ∷ []))) (with_content output_spot (Some (Output [])) (λ p. None))); known = 0 ∷ []; own = []; moved = [] };
-  child = λ s h. record { at = each s.at h.moved (with_index (index_frame h) h.index (each (λ p. shared_by (s.at p)) h.shared (λ p. None))); known = index_frame h ∷ frames_of h.moved ++ frames_of h.shared; own = []; moved = h.moved };
-  handed = λ s hs. record s { at = each (λ p. shared_by (s.at p)) (shared_of hs) (each (λ p. Some Away) (moved_of hs) s.at) };
+  popped = λ s. let n = newest s.own in record s {
+    at = λ p. if p.frame == n then None else
+        s.at p;
+    known = without n s.known;
+    own = take (length s.own - 1) s.own;
+  };
+  root = λ sizes. record {
+    at = pieces_from 0 2 sizes
+        (with_content (record { frame = 0; variable = 0 }) (Some (Own (cell.Ordinal (pos 0) ∷ [])))
+        (with_content output_spot (Some (Output [])) (λ p. None)));
+    known = 0 ∷ [];
+    own = [];
+    moved = [];
+  };
+  child = λ s h. record {
+    at = each s.at h.moved
+        (with_index (index_frame h) h.index (each (λ p. shared_by (s.at p)) h.shared (λ p. None)));
+    known = index_frame h ∷ frames_of h.moved ++ frames_of h.shared;
+    own = [];
+    moved = h.moved;
+  };
+  handed = λ s hs. record s {
+    at = each (λ p. shared_by (s.at p)) (shared_of hs)
+        (each (λ p. Some Away) (moved_of hs) s.at);
+  };
   joined = λ s c. record s { at = each c.at c.moved s.at };
 }
 

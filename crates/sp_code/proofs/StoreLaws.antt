@@ -1,5 +1,6 @@
 -- What the tests of a plain store say.
-use Rattle.std.proofs.Common.{◌≡◌, ℕ, ◌+◌, ◌≤◌, List, [], ◌∷◌, length, Option, Some, None, Bool, true, false, refl, sym, ap, ◌∙◌}
+use Rattle.std.proofs.Common.{◌≡◌, ℕ, ◌+◌, ◌≤◌, List, [], ◌∷◌, length, Option, Some, None, Bool, true, false, refl, sym}
+use Rattle.std.proofs.Common.{ap, ◌∙◌}
 use Rattle.std.specs.Prelude.{◌≢◌, ◌&&◌, ◌==◌, ◌||◌, not}
 use Rattle.std.proofs.lemmas.Bool.{leb-true, eqb-true, and_parts}
 use Rattle.std.specs.List.{list_all, list_any}
@@ -10,7 +11,8 @@ use Rattle.std.specs.FinMap as map
 use Rattle.sp_base.specs.Order.{tie_of}
 use Rattle.sp_cell.specs.declared.spot.Spot.{Spot}
 use Rattle.sp_cell.specs.declared.spot.Address.{Address}
-use Rattle.sp_cell.specs.Map.{Content, Own, Shared, Output, Away, Map, Plain, IsPiece, IsOutput, HasCells, cells_of, output_of, output_spot, spot_cmp}
+use Rattle.sp_cell.specs.Map.{Content, Own, Shared, Output, Away, Map, Plain, IsPiece, IsOutput, HasCells, cells_of}
+use Rattle.sp_cell.specs.Map.{output_of, output_spot, spot_cmp}
 use Rattle.sp_cell.specs.Frame.{newest, NoneAway}
 use Rattle.sp_cell.specs.FrameLaws.{is_same}
 use Rattle.sp_cell.specs.Laws.{known_of_away}
@@ -19,14 +21,16 @@ use Rattle.sp_code.specs.Memory.{has_cells, cells_in, is_held, is_there}
 use Rattle.sp_code.specs.PlainStore.{piece_of, is_away, none_away, is_newest, plain}
 
 -- cells that the test finds are there
-piece_holds : (o : Option Content) (offset k : ℕ) → has_cells (piece_of o) offset k ≡ true → IsPiece o × (offset + k ≤ length (cells_of o))
+piece_holds : (o : Option Content) (offset k : ℕ) → has_cells (piece_of o) offset k ≡ true → IsPiece o
+    × (offset + k ≤ length (cells_of o))
 piece_holds None offset k e = absurd cc
 piece_holds (Some (Own cs)) offset k e = (tt, leb-true (offset + k) (length cs) e)
 piece_holds (Some (Shared cs)) offset k e = (tt, leb-true (offset + k) (length cs) e)
 piece_holds (Some (Output bs)) offset k e = absurd cc
 piece_holds (Some Away) offset k e = absurd cc
 
-pub has_held : (m : Map) (a : Address) (k : ℕ) → has_cells (piece_of (map.get m a.spot)) a.offset k ≡ true → HasCells m a k
+pub has_held : (m : Map) (a : Address) (k : ℕ) → has_cells (piece_of (map.get m a.spot)) a.offset k ≡ true
+    → HasCells m a k
 has_held m a k e = piece_holds (map.get m a.spot) a.offset k e
 
 -- the cells that are looked at are those of the piece
@@ -48,11 +52,14 @@ pub output_held : (m : Map) → is_held (output_of (map.get m output_spot)) ≡ 
 output_held m e = output_there (map.get m output_spot) e
 
 -- a key that stands in the list passes the test that all pass
-passes : (test : Spot → Bool) (q : Spot) (ks : List Spot) → list_any (eq_by_cmp spot_cmp q) ks ≡ true → list_all test ks ≡ true → test q ≡ true
+passes : (test : Spot → Bool) (q : Spot) (ks : List Spot) → list_any (eq_by_cmp spot_cmp q) ks ≡ true
+    → list_all test ks ≡ true → test q ≡ true
 passes test q [] h a = absurd cc
-passes test q (k ∷ ks) h a = go (eq_by_cmp spot_cmp q k) refl h (λ r. passes test q ks r (and_parts (test k) (list_all test ks) a).1)
+passes test q (k ∷ ks) h a = go (eq_by_cmp spot_cmp q k) refl h
+    (λ r. passes test q ks r (and_parts (test k) (list_all test ks) a).1)
   where
-    go : (b : Bool) → eq_by_cmp spot_cmp q k ≡ b → (b || list_any (eq_by_cmp spot_cmp q) ks) ≡ true → (list_any (eq_by_cmp spot_cmp q) ks ≡ true → test q ≡ true) → test q ≡ true
+    go : (b : Bool) → eq_by_cmp spot_cmp q k ≡ b → (b || list_any (eq_by_cmp spot_cmp q) ks) ≡ true
+        → (list_any (eq_by_cmp spot_cmp q) ks ≡ true → test q ≡ true) → test q ≡ true
     go true e h rest = ap test (spot_same q k (tie_of (spot_cmp q k) e)) ∙ (and_parts (test k) (list_all test ks) a).0
     go false e h rest = rest h
 
@@ -63,8 +70,10 @@ not_both false b p q e = cc
 
 pub none_is_away : (m : Map) (n : ℕ) → none_away m n ≡ true → NoneAway m n
 none_is_away m n e q f h =
-    let there : list_any (eq_by_cmp spot_cmp q) (map.keys m) ≡ true = sym (map.contains_key-keys m q) ∙ known_of_away (map.get m q) h in
-    not_both (q.frame == n) (is_away (map.get m q)) (is_same q.frame n f) (ap is_away h) (passes (λ (s : Spot). not ((s.frame == n) && is_away (map.get m s))) q (map.keys m) there e)
+    let there : list_any (eq_by_cmp spot_cmp q) (map.keys m) ≡ true = sym (map.contains_key-keys m q)
+    ∙ known_of_away (map.get m q) h in
+    not_both (q.frame == n) (is_away (map.get m q)) (is_same q.frame n f) (ap is_away h)
+    (passes (λ (s : Spot). not ((s.frame == n) && is_away (map.get m s))) q (map.keys m) there e)
 
 no_frame : (ns : List ℕ) → is_there ns ≡ true → ns ≢ []
 no_frame [] e w = cc

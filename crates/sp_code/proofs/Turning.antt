@@ -3,7 +3,8 @@ use Rattle.std.proofs.Common.{◌≡◌, ℕ, zero, suc, Bool, true, false, refl
 use Rattle.sp_base.specs.declared.fault.Fault.TheVariants as fault
 use Rattle.sp_code.specs.declared.code.Parts.{Parts}
 use Rattle.sp_code.specs.Machine.{Config, One, Goes, Stops, Fails, Stuck, Ops, one}
-use Rattle.sp_code.specs.Turns.{Turn, Stopped, Faulted, Ran, Ended, Lacks, Begins, ComesIn, Comes, EndsSo, Runs, begins, IsTurn, ran_by, ran, started, turn_within}
+use Rattle.sp_code.specs.Turns.{Turn, Stopped, Faulted, Ran, Ended, Lacks, Begins, ComesIn, Comes, EndsSo, Runs, begins}
+use Rattle.sp_code.specs.Turns.{IsTurn, ran_by, ran, started, turn_within}
 
 module _ {M : Type 0} (ops : Ops M) (code : Parts) where
   -- an instruction ends a turn in one way, or goes on
@@ -20,12 +21,17 @@ module _ {M : Type 0} (ops : Ops M) (code : Parts) where
   pub same_config : (c d e : Config M) → one ops code c ≡ Goes d → one ops code c ≡ Goes e → d ≡ e
   same_config c d e h k = cc
 
-  same_end : (m n : ℕ) (c d e : Config M) (t u : Turn M) → ComesIn ops code m c d → EndsSo ops code d t → ComesIn ops code n c e → EndsSo ops code e u → t ≡ u
-  same_end zero zero c d e t u h x k y = ends_same c t u (subst (λ (b : Config M). EndsSo ops code b t) (sym h) x) (subst (λ (b : Config M). EndsSo ops code b u) (sym k) y)
-  same_end zero (suc n) c d e t u h x k y = absurd (goes_not c k.0 t k.1 (subst (λ (b : Config M). EndsSo ops code b t) (sym h) x))
-  same_end (suc m) zero c d e t u h x k y = absurd (goes_not c h.0 u h.1 (subst (λ (b : Config M). EndsSo ops code b u) (sym k) y))
+  same_end : (m n : ℕ) (c d e : Config M) (t u : Turn M) → ComesIn ops code m c d → EndsSo ops code d t
+      → ComesIn ops code n c e → EndsSo ops code e u → t ≡ u
+  same_end zero zero c d e t u h x k y = ends_same c t u (subst (λ (b : Config M). EndsSo ops code b t) (sym h) x)
+      (subst (λ (b : Config M). EndsSo ops code b u) (sym k) y)
+  same_end zero (suc n) c d e t u h x k y = absurd
+      (goes_not c k.0 t k.1 (subst (λ (b : Config M). EndsSo ops code b t) (sym h) x))
+  same_end (suc m) zero c d e t u h x k y = absurd
+      (goes_not c h.0 u h.1 (subst (λ (b : Config M). EndsSo ops code b u) (sym k) y))
   same_end (suc m) (suc n) c d e t u h x k y =
-      same_end m n h.0 d e t u h.2 x (subst (λ (b : Config M). ComesIn ops code n b e) (same_config c k.0 h.0 k.1 h.1) k.2) y
+      same_end m n h.0 d e t u h.2 x (subst (λ (b : Config M). ComesIn ops code n b e) (same_config c k.0 h.0 k.1 h.1)
+      k.2) y
 
   pub turn_same : (c : Config M) (t u : Turn M) → IsTurn ops code c t → IsTurn ops code c u → t ≡ u
   turn_same c t u = go (begins ops code c)
@@ -46,17 +52,28 @@ module _ {M : Type 0} (ops : Ops M) (code : Parts) where
   ran_ended zero c t e = absurd cc
   ran_ended (suc n) c t e = go (λ d k. ran_ended n d t k) (one ops code c) refl e
     where
-      go : ((d : Config M) → ran ops code n d ≡ Ended t → Runs ops code d t) → (o : One M) → one ops code c ≡ o → ran_by ops code (ran ops code n) c o ≡ Ended t → Runs ops code c t
+      go : ((d : Config M) → ran ops code n d ≡ Ended t → Runs ops code d t) → (o : One M) → one ops code c ≡ o
+          → ran_by ops code (ran ops code n) c o ≡ Ended t → Runs ops code c t
       go on (Goes d) h k = let r : Runs ops code d t = on d k in (r.0, further c d r.0 h r.1, r.2)
-      go on (Stops s d) h k = (c, record { steps = 0; by = refl }, subst (EndsSo ops code c) (ended_is (Stopped s d) t k) h)
-      go on (Fails f) h k = (c, record { steps = 0; by = refl }, subst (EndsSo ops code c) (ended_is (Faulted f c) t k) (h, refl))
+      go on (Stops s d) h k = (
+        c,
+        record { steps = 0; by = refl },
+        subst (EndsSo ops code c) (ended_is (Stopped s d) t k) h,
+      )
+      go on (Fails f) h k = (
+        c,
+        record { steps = 0; by = refl },
+        subst (EndsSo ops code c) (ended_is (Faulted f c) t k) (h, refl),
+      )
       go on Stuck h k = absurd cc
 
   pub ran_lacks : (n : ℕ) (c d : Config M) → ran ops code n c ≡ Lacks d → Comes ops code c d × (one ops code d ≡ Stuck)
   ran_lacks zero c d e = absurd cc
   ran_lacks (suc n) c d e = go (λ b k. ran_lacks n b d k) (one ops code c) refl e
     where
-      go : ((b : Config M) → ran ops code n b ≡ Lacks d → Comes ops code b d × (one ops code d ≡ Stuck)) → (o : One M) → one ops code c ≡ o → ran_by ops code (ran ops code n) c o ≡ Lacks d → Comes ops code c d × (one ops code d ≡ Stuck)
+      go : ((b : Config M) → ran ops code n b ≡ Lacks d → Comes ops code b d × (one ops code d ≡ Stuck)) → (o : One M)
+          → one ops code c ≡ o → ran_by ops code (ran ops code n) c o ≡ Lacks d → Comes ops code c d
+          × (one ops code d ≡ Stuck)
       go on (Goes b) h k = let r : Comes ops code b d × (one ops code d ≡ Stuck) = on b k in (further c b d h r.0, r.1)
       go on (Stops s b) h k = absurd cc
       go on (Fails f) h k = absurd cc
@@ -69,9 +86,11 @@ module _ {M : Type 0} (ops : Ops M) (code : Parts) where
       go true e = ran_ended n c t e
       go false e = sym (ended_is (Faulted fault.F12 c) t e)
 
-  pub within_lacks : (n : ℕ) (c d : Config M) → turn_within ops code n c ≡ Lacks d → (begins ops code c ≡ true) × Comes ops code c d × (one ops code d ≡ Stuck)
+  pub within_lacks : (n : ℕ) (c d : Config M) → turn_within ops code n c ≡ Lacks d → (begins ops code c ≡ true)
+      × Comes ops code c d × (one ops code d ≡ Stuck)
   within_lacks n c d = go (begins ops code c) refl
     where
-      go : (b : Bool) → begins ops code c ≡ b → started ops code n b c ≡ Lacks d → (begins ops code c ≡ true) × Comes ops code c d × (one ops code d ≡ Stuck)
+      go : (b : Bool) → begins ops code c ≡ b → started ops code n b c ≡ Lacks d → (begins ops code c ≡ true)
+          × Comes ops code c d × (one ops code d ≡ Stuck)
       go true w e = let r = ran_lacks n c d e in (w, r.0, r.1)
       go false w e = absurd cc

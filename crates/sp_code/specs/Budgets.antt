@@ -1,3 +1,4 @@
+-- None of this belongs to what the program promises: it is for contracts between crates.
 -- How many instructions a turn of ranked code has, at most. The law that turns end promises it, from the ranks of the
 -- code and the ticks that are left.
 use Rattle.std.specs.Prelude.{◌≡◌, ℕ, suc, ◌+◌, ◌-◌, ◌*◌, ◌≤◌, List, [], ◌∷◌, length}
@@ -13,7 +14,8 @@ use Rattle.sp_code.specs.Ranks.{rank}
 -- a memory has only so many ticks left: a tick and a call take one, and nothing gives one back
 pub record HasBudget {M : Type 0} (ops : Ops M) (budget : M → ℕ) : Type 0 where
   pub beat : (n m : M) → ops.beat n ≡ Done m → budget m + 1 ≤ budget n
-  pub open_frame : (l : Layout) (up : ℕ) (es : List Entry) (n m : M) → ops.open_frame l up es n ≡ Done m → budget m + 1 ≤ budget n
+  pub open_frame : (l : Layout) (up : ℕ) (es : List Entry) (n m : M) → ops.open_frame l up es n ≡ Done m
+      → budget m + 1 ≤ budget n
   pub put : (a : Address) (c : Cell) (n : M) → budget (ops.put a c n) ≤ budget n
   pub copy : (to from : Address) (k : ℕ) (n : M) → budget (ops.copy to from k n) ≤ budget n
   pub advance : (k : ℕ) (n : M) → budget (ops.advance k n) ≤ budget n

@@ -1,6 +1,8 @@
+-- Some of this belongs to what the program promises (docs/promise.txt).
 -- The control of the kernel, as a function of the notes of a run: who is ready, out, waiting, joining, laid or ended.
 -- The kernel's contracts lead its tables to it, and the laws of histories speak of it alone.
-use Rattle.std.specs.Prelude.{ℕ, ◌+◌, ◌-◌, ◌==◌, List, [], ◌∷◌, ◌++◌, Option, Some, None, Bool, true, false, ◌||◌, if◌then◌else◌, cond, nat_lt}
+use Rattle.std.specs.Prelude.{ℕ, ◌+◌, ◌-◌, ◌==◌, List, [], ◌∷◌, ◌++◌, Option, Some, None, Bool, true, false, ◌||◌}
+use Rattle.std.specs.Prelude.{if◌then◌else◌, cond, nat_lt}
 use Rattle.sp_journal.specs.declared.entry.Way.{Way}
 use Rattle.sp_journal.specs.declared.entry.Way.TheVariants as way
 use Rattle.sp_journal.specs.declared.entry.Event.{Event}
@@ -24,8 +26,9 @@ pub data Doing : Type 0 where
   Ended : Doing
   Gone : Doing
 
--- what each process is doing; the ready ones, the oldest first; how many are out; the way and process of the offer that is pending
--- on each channel; what the events have given to processes and channels; whether a fault stands; the number of abandons
+-- what each process is doing; the ready ones, the oldest first; how many are out; the way and process of the offer that
+-- is pending on each channel; what the events have given to processes and channels; whether a fault stands; the number
+-- of abandons
 pub record Control : Type 0 where
   pub doing : ℕ → Doing
   pub ready : List ℕ
@@ -57,7 +60,10 @@ queues p k = record k { doing = at_key ◌==◌ p Ready k.doing; ready = k.ready
 
 -- an offer waits; or it meets, and then who waited becomes ready before who came
 abbrev pub offers : Way → Doing → ℕ → ℕ → Option (Way × ℕ) → Control → Control
-offers w waits p c None k = record k { doing = at_key ◌==◌ p waits k.doing; pending = at_key ◌==◌ c (Some (w, p)) k.pending }
+offers w waits p c None k = record k {
+  doing = at_key ◌==◌ p waits k.doing;
+  pending = at_key ◌==◌ c (Some (w, p)) k.pending;
+}
 offers w waits p c (Some z) k = queues p (queues z.1 (record k { pending = at_key ◌==◌ c None k.pending }))
 
 -- one child fewer is awaited; after the last one the parent becomes ready
@@ -112,9 +118,14 @@ behind (p ∷ ps) = ps
 -- a worker takes a process
 abbrev pub takes : ℕ → Option ℕ → Control → Control
 takes worker None k = k
-takes worker (Some p) k = record k { doing = at_key ◌==◌ p (Out worker) k.doing; ready = behind k.ready; out = k.out + 1 }
+takes worker (Some p) k = record k {
+  doing = at_key ◌==◌ p (Out worker) k.doing;
+  ready = behind k.ready;
+  out = k.out + 1;
+}
 
--- what a note says, one part at a time: a process given with its event, or an abandon, which has neither event nor process got
+-- what a note says, one part at a time: a process given with its event, or an abandon, which has neither event nor
+-- process got
 abbrev pub given : Option ℕ → Option Event → Option ℕ → Control → Control
 given (Some p) (Some e) got k = comes_back p e k
 given None (Some e) got k = k
@@ -159,7 +170,8 @@ abbrev pub is_ready : List ℕ → Bool
 is_ready [] = false
 is_ready (p ∷ ps) = true
 
--- an abandon stands before all others; then a fault; then the end of the root; a deadlock is where nothing is ready or out
+-- an abandon stands before all others; then a fault; then the end of the root; a deadlock is where nothing is ready or
+-- out
 abbrev pub standing : Control → Standing
 standing k =
     if nat_lt 0 k.abandons then IsMemory else (

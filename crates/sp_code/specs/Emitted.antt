@@ -1,6 +1,8 @@
+-- All of this belongs to what the program promises (docs/promise.txt).
 -- The code of each part of a tree, as a list of instructions; its fork tables and texts. The generator promises it,
 -- and the proof of generated code reads it: it is said in lists, with no labels to be filled in later.
-use Rattle.std.specs.Prelude.{ℕ, suc, ◌+◌, ◌==◌, ℤ, pos, List, [], ◌∷◌, ◌++◌, Option, Some, None, Bool, if◌then◌else◌, slice_get, map}
+use Rattle.std.specs.Prelude.{ℕ, suc, ◌+◌, ◌==◌, ℤ, pos, List, [], ◌∷◌, ◌++◌, Option, Some, None, Bool, if◌then◌else◌}
+use Rattle.std.specs.Prelude.{slice_get, map}
 use Rattle.sp_tree.specs.Cells.{cells_by, sizes}
 use Rattle.sp_tree.specs.declared.checked.KindOf.{KindOf}
 use Rattle.sp_tree.specs.declared.checked.KindOf.TheVariants as kind
@@ -13,7 +15,11 @@ use Rattle.sp_tree.specs.declared.operators.BinaryOp.TheVariants as binary
 use Rattle.sp_tree.specs.declared.operators.StandardFn.{StandardFn}
 use Rattle.sp_tree.specs.declared.operators.StandardFn.TheVariants as standard
 use Rattle.sp_tree.specs.Operators.{least, greatest}
-use Rattle.sp_tree.specs.Plain.{Expr, Typed, ExprForm, Number, Read, Unary, Binary, Apply, Standard, AtInput, Var, Entire, Index, Field, Selectors, Whole, Select, ByValue, ByReference, Actuals, Nothing, Pass, Program, Variable, Block, Stmt, Empty, Assign, Call, Sequence, If, IfElse, While, Repeat, For, Case, Parallel, Forall, Assume, ReadValue, ReadLine, WriteValue, WriteText, WriteLine, Open, Send, Receive, Stmts, No, And, On, Arms, NoArm, Or}
+use Rattle.sp_tree.specs.Plain.{Expr, Typed, ExprForm, Number, Read, Unary, Binary, Apply, Standard, AtInput, Var}
+use Rattle.sp_tree.specs.Plain.{Entire, Index, Field, Selectors, Whole, Select, ByValue, ByReference, Actuals, Nothing}
+use Rattle.sp_tree.specs.Plain.{Pass, Program, Variable, Block, Stmt, Empty, Assign, Call, Sequence, If, IfElse, While}
+use Rattle.sp_tree.specs.Plain.{Repeat, For, Case, Parallel, Forall, Assume, ReadValue, ReadLine, WriteValue, WriteText}
+use Rattle.sp_tree.specs.Plain.{WriteLine, Open, Send, Receive, Stmts, No, And, On, Arms, NoArm, Or}
 use Rattle.sp_code.specs.declared.instr.Instr.{Instr}
 use Rattle.sp_code.specs.declared.instr.Instr.TheVariants as i
 use Rattle.sp_code.specs.declared.code.Formal.{Formal}
@@ -22,7 +28,9 @@ use Rattle.sp_code.specs.declared.code.Layout.{Layout}
 use Rattle.sp_code.specs.declared.code.ChildTable.{ChildTable}
 use Rattle.sp_code.specs.declared.code.ForkTable.{ForkTable}
 use Rattle.sp_code.specs.declared.code.Parts.{Parts}
-use Rattle.sp_code.specs.Scopes.{Sort, Ordinals, Channels, Many, NoSort, kind_of, Scope, OfIndex, is_block, is_index, level, is_given, frame_of, kind_at, sort, size, slot, field_offset, field_type, element_type, type_by, type_of, scopes_of}
+use Rattle.sp_code.specs.Scopes.{Sort, Ordinals, Channels, Many, NoSort, kind_of, Scope, OfIndex, is_block, is_index}
+use Rattle.sp_code.specs.Scopes.{level, is_given, frame_of, kind_at, sort, size, slot, field_offset, field_type}
+use Rattle.sp_code.specs.Scopes.{element_type, type_by, type_of, scopes_of}
 use Rattle.sp_code.specs.Places.{after_value, after_tests, after, after_children, after_arms, after_block}
 
 -- a level, where there is one; 0 stands for a level that no accepted tree asks for
@@ -273,7 +281,8 @@ formal_of role.Reference n = formal.Reference n
 formal_of role.Index n = formal.Value n
 formal_of role.Answer n = formal.Value n
 
--- what a process shares of what its statement only uses: all but the index of its own forall, which is its own from the start
+-- what a process shares of what its statement only uses: all but the index of its own forall, which is its own from the
+-- start
 abbrev pub but_index : Option ℕ → List ℕ → List ℕ
 but_index None xs = xs
 but_index (Some x) [] = []
@@ -314,8 +323,10 @@ module _ (p : Program) where
     pub selectors_code : List Scope → ℕ → Selectors → List Instr
     selectors_code sc k Whole = []
     selectors_code sc k (Select (Index e) rest) =
-        value_code sc e ++ (index_instr (kind_at p k) (size p (element_type k (kind_at p k))) ∷ selectors_code sc (element_type k (kind_at p k)) rest)
-    selectors_code sc k (Select (Field f) rest) = field_instr f (kind_at p k) ∷ selectors_code sc (field_type k (kind_at p k) f) rest
+        value_code sc e ++ (index_instr (kind_at p k) (size p (element_type k (kind_at p k)))
+        ∷ selectors_code sc (element_type k (kind_at p k)) rest)
+    selectors_code sc k (Select (Field f) rest) = field_instr f (kind_at p k)
+        ∷ selectors_code sc (field_type k (kind_at p k) f) rest
 
     pub actuals_code : List Scope → Actuals → List Instr
     actuals_code sc Nothing = []
@@ -348,7 +359,8 @@ module _ (p : Program) where
   abbrev mutual
     pub code : List Scope → (t n q : ℕ) → Stmt → List Instr
     code sc t n q Empty = []
-    code sc t n q (Assign v (Typed k form)) = var_code sc v ++ (right_code sc k (sort p k) form ++ assign_instr (sort p k) (size p k) ∷ [])
+    code sc t n q (Assign v (Typed k form)) = var_code sc v
+        ++ (right_code sc k (sort p k) form ++ assign_instr (sort p k) (size p k) ∷ [])
     code sc t n q (Call f args) = actuals_code sc args ++ call_instr sc f (slice_get p.blocks f) ∷ []
     code sc t n q (Sequence ss) = code_all sc t n q ss
     code sc t n q (If e a) =
@@ -357,7 +369,8 @@ module _ (p : Program) where
     code sc t n q (IfElse e a b) =
         let u = after_value q e in
         let j = after p (u + 1) a in
-        value_code sc e ++ (i.Jumpf (j + 1) ∷ (code sc t n (u + 1) a ++ (i.Jump (after p (j + 1) b) ∷ code sc (t + tables_in a) (n + texts_in a) (j + 1) b)))
+        value_code sc e ++ (i.Jumpf (j + 1) ∷ (code sc t n (u + 1) a
+        ++ (i.Jump (after p (j + 1) b) ∷ code sc (t + tables_in a) (n + texts_in a) (j + 1) b)))
     code sc t n q (While e s) =
         let u = after_value q e in
         let j = after p (u + 1 + 1) s in
@@ -366,19 +379,26 @@ module _ (p : Program) where
     code sc t n q (For x from down to s) =
         let u = after_value (after_value q from) to in
         let j = after p (u + 1 + 1) s in
-        value_code sc from ++ (value_code sc to ++ ((if down then i.Fordown (slot p x) (j + 1) else i.Forup (slot p x) (j + 1)) ∷ i.Tick
-        ∷ (code sc t n (u + 1 + 1) s ++ (if down then i.Nextdown (slot p x) (u + 1) else i.Nextup (slot p x) (u + 1)) ∷ [])))
+        value_code sc from ++ (value_code sc to
+        ++ ((if down then i.Fordown (slot p x) (j + 1) else i.Forup (slot p x) (j + 1)) ∷ i.Tick
+        ∷ (code sc t n (u + 1 + 1) s ++ (if down then i.Nextdown (slot p x) (u + 1) else i.Nextup (slot p x) (u + 1))
+        ∷ [])))
     code sc t n q (Case e arms) =
         let b = after_tests (after_value q e) arms in
-        value_code sc e ++ (tests_code arms (b + 1) ++ (i.Nocase ∷ code_arms sc t n (b + 1) arms (after_arms p (b + 1) arms)))
-    code sc t n q (Parallel ss) = i.Fork t ∷ i.Jump (after_children p (q + 1 + 1) ss) ∷ code_children sc (t + 1) n (q + 1 + 1) ss
+        value_code sc e ++ (tests_code arms (b + 1)
+        ++ (i.Nocase ∷ code_arms sc t n (b + 1) arms (after_arms p (b + 1) arms)))
+    code sc t n q (Parallel ss) = i.Fork t ∷ i.Jump (after_children p (q + 1 + 1) ss)
+        ∷ code_children sc (t + 1) n (q + 1 + 1) ss
     code sc t n q (Forall x from to s) =
         let b = after_value (after_value q from) to in
-        value_code sc from ++ (value_code sc to ++ (i.Forall t ∷ i.Jump (after p (b + 1 + 1) s + 1) ∷ (code (OfIndex x ∷ sc) (t + 1) n (b + 1 + 1) s ++ i.End ∷ [])))
+        value_code sc from ++ (value_code sc to
+        ++ (i.Forall t ∷ i.Jump (after p (b + 1 + 1) s + 1)
+        ∷ (code (OfIndex x ∷ sc) (t + 1) n (b + 1 + 1) s ++ i.End ∷ [])))
     code sc t n q (Assume e) = value_code sc e ++ i.Assume ∷ []
     code sc t n q (ReadValue v) = var_code sc v ++ reading_instr (kind_at p (type_of p v)) ∷ []
     code sc t n q ReadLine = i.Readln ∷ []
-    code sc t n q (WriteValue e w) = value_code sc e ++ (width_code sc w ++ write_instr (kind_at p (kind_of e)) (is_given w) ∷ [])
+    code sc t n q (WriteValue e w) = value_code sc e
+        ++ (width_code sc w ++ write_instr (kind_at p (kind_of e)) (is_given w) ∷ [])
     code sc t n q (WriteText s w) = width_code sc w ++ (if is_given w then i.WritewText n else i.WriteText n) ∷ []
     code sc t n q WriteLine = i.Writeln ∷ []
     code sc t n q (Open v) = var_code sc v ++ i.Open ∷ []
@@ -387,15 +407,18 @@ module _ (p : Program) where
 
     pub code_all : List Scope → (t n q : ℕ) → Stmts → List Instr
     code_all sc t n q No = []
-    code_all sc t n q (And s rest) = code sc t n q s ++ code_all sc (t + tables_in s) (n + texts_in s) (after p q s) rest
+    code_all sc t n q (And s rest) = code sc t n q s
+        ++ code_all sc (t + tables_in s) (n + texts_in s) (after p q s) rest
 
     pub code_children : List Scope → (t n q : ℕ) → Stmts → List Instr
     code_children sc t n q No = []
-    code_children sc t n q (And s rest) = code sc t n q s ++ (i.End ∷ code_children sc (t + tables_in s) (n + texts_in s) (after p q s + 1) rest)
+    code_children sc t n q (And s rest) = code sc t n q s
+        ++ (i.End ∷ code_children sc (t + tables_in s) (n + texts_in s) (after p q s + 1) rest)
 
     pub code_arms : List Scope → (t n q : ℕ) → Arms → (end : ℕ) → List Instr
     code_arms sc t n q NoArm end = []
-    code_arms sc t n q (Or (On ms s) rest) end = code sc t n q s ++ (i.Jump end ∷ code_arms sc (t + tables_in s) (n + texts_in s) (after p q s + 1) rest end)
+    code_arms sc t n q (Or (On ms s) rest) end = code sc t n q s
+        ++ (i.Jump end ∷ code_arms sc (t + tables_in s) (n + texts_in s) (after p q s + 1) rest end)
 
   -- a block's code: its body, and its end
   abbrev pub block_code : ℕ → (t n q : ℕ) → Block → List Instr
@@ -404,7 +427,8 @@ module _ (p : Program) where
   -- the blocks in order, from block b on
   abbrev pub blocks_code : (b t n q : ℕ) → List Block → List Instr
   blocks_code b t n q [] = []
-  blocks_code b t n q (k ∷ ks) = block_code b t n q k ++ blocks_code (suc b) (t + tables_in k.body) (n + texts_in k.body) (after_block p q k) ks
+  blocks_code b t n q (k ∷ ks) = block_code b t n q k
+      ++ blocks_code (suc b) (t + tables_in k.body) (n + texts_in k.body) (after_block p q k) ks
 
   -- ---- layouts
 
@@ -488,7 +512,8 @@ module _ (p : Program) where
     blocks_tables q [] = []
     blocks_tables q (k ∷ ks) = tables q k.body ++ blocks_tables (after_block p q k) ks
 
-    -- the code of the program: its blocks in order, a layout for each, and all fork tables and texts in the order of the tree
+    -- the code of the program: its blocks in order, a layout for each, and all fork tables and texts in the order of
+    -- the tree
     abbrev pub program_code : Parts
     program_code = record {
       instrs = blocks_code 0 0 0 0 p.blocks;

@@ -1,5 +1,6 @@
--- The frame of a block begins with its parameters, each with room for what is passed. Sound code is required to have such
--- frames, and the machine's calls rest on it.
+-- None of this belongs to what the program promises: it is for contracts between crates.
+-- The frame of a block begins with its parameters, each with room for what is passed. Sound code is required to have
+-- such frames, and the machine's calls rest on it.
 use Rattle.std.specs.Prelude.{◌≡◌, ℕ, ◌≤◌, List, Option, Some, None, slice_get}
 use Rattle.sp_code.specs.declared.code.Formal.{Formal}
 use Rattle.sp_code.specs.declared.code.Formal.TheVariants as formal

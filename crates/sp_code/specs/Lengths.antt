@@ -1,3 +1,4 @@
+-- All of this belongs to what the program promises (docs/promise.txt).
 -- How many instructions the code of each part of a tree has: the table of lengths, which the limit of code is said by.
 -- Laws promise that code as it is written has these lengths, so a tree too large is refused before code is made.
 use Rattle.std.specs.Prelude.{ℕ, ◌+◌, List, [], ◌∷◌, Option, Some, None, length}
@@ -5,7 +6,11 @@ use Rattle.sp_tree.specs.declared.operators.UnaryOp.{UnaryOp}
 use Rattle.sp_tree.specs.declared.operators.UnaryOp.TheVariants as unary
 use Rattle.sp_tree.specs.declared.operators.StandardFn.{StandardFn}
 use Rattle.sp_tree.specs.declared.operators.StandardFn.TheVariants as standard
-use Rattle.sp_tree.specs.Plain.{Expr, Typed, ExprForm, Number, Read, Unary, Binary, Apply, Standard, AtInput, Var, Entire, Index, Field, Selectors, Whole, Select, ByValue, ByReference, Actuals, Nothing, Pass, Program, Block, Stmt, Empty, Assign, Call, Sequence, If, IfElse, While, Repeat, For, Case, Parallel, Forall, Assume, ReadValue, ReadLine, WriteValue, WriteText, WriteLine, Open, Send, Receive, Stmts, No, And, On, Arms, NoArm, Or}
+use Rattle.sp_tree.specs.Plain.{Expr, Typed, ExprForm, Number, Read, Unary, Binary, Apply, Standard, AtInput, Var}
+use Rattle.sp_tree.specs.Plain.{Entire, Index, Field, Selectors, Whole, Select, ByValue, ByReference, Actuals, Nothing}
+use Rattle.sp_tree.specs.Plain.{Pass, Program, Block, Stmt, Empty, Assign, Call, Sequence, If, IfElse, While, Repeat}
+use Rattle.sp_tree.specs.Plain.{For, Case, Parallel, Forall, Assume, ReadValue, ReadLine, WriteValue, WriteText}
+use Rattle.sp_tree.specs.Plain.{WriteLine, Open, Send, Receive, Stmts, No, And, On, Arms, NoArm, Or}
 use Rattle.sp_code.specs.Scopes.{Sort, Ordinals, Channels, Many, NoSort, sort}
 
 -- a sign `+`: 0; every other operator: 1
@@ -78,8 +83,9 @@ tests_length (Or (On ms s) rest) = length ms + tests_length rest
 
 module _ (p : Program) where
   abbrev mutual
-    -- the empty statement and a sequence: 0; assignment, call, assume, read, write, open, send, receive: 1; `if`: 1, with `else`: 2;
-    -- `while`: 3; `repeat`: 2; `for`: 3; `case`: 1, and 1 for each constant and for each arm; `parallel`: 2, and 1 for each child;
+    -- the empty statement and a sequence: 0; assignment, call, assume, read, write, open, send, receive: 1; `if`: 1,
+    -- with `else`: 2; `while`: 3; `repeat`: 2; `for`: 3; `case`: 1, and 1 for each constant and for each arm;
+    -- `parallel`: 2, and 1 for each child;
     -- `forall`: 3
     pub stmt_length : Stmt → ℕ
     stmt_length Empty = 0

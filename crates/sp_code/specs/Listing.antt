@@ -1,3 +1,4 @@
+-- All of this belongs to what the program promises (docs/promise.txt).
 -- How instructions and fork tables are listed, a line for each. The contract of the listing promises it, and the
 -- command that prints code by it.
 use Rattle.std.specs.Prelude.{ℕ, suc, ℤ, pos, List, [], ◌∷◌, ◌++◌, codes, decimal}

@@ -1,15 +1,20 @@
+-- All of this belongs to what the program promises (docs/promise.txt).
 -- What each instruction does to a process, over any memory. The machine's contracts promise it of one step, and
 -- generated code is compared with it; the memory is left open, so that laws of turns and channels need no store.
-use Rattle.std.specs.Prelude.{ℕ, zero, suc, ◌+◌, ◌*◌, ◌==◌, ℤ, pos, ◌+ℤ◌, ◌-ℤ◌, nat_abs, int_lt, int_le, List, [], ◌∷◌, Option, Some, None, Bool, true, false, ◌&&◌, not, if◌then◌else◌, slice_get, length, take, min, nat_le}
+use Rattle.std.specs.Prelude.{ℕ, zero, suc, ◌+◌, ◌*◌, ◌==◌, ℤ, pos, ◌+ℤ◌, ◌-ℤ◌, nat_abs, int_lt, int_le, List, [], ◌∷◌}
+use Rattle.std.specs.Prelude.{Option, Some, None, Bool, true, false, ◌&&◌, not, if◌then◌else◌, slice_get, length, take}
+use Rattle.std.specs.Prelude.{min, nat_le}
 use Rattle.std.specs.Fmt.{signed_decimal}
 use Rattle.sp_base.specs.declared.fault.Fault.{Fault}
 use Rattle.sp_base.specs.declared.fault.Fault.TheVariants as fault
 use Rattle.sp_tree.specs.declared.operators.BinaryOp.{BinaryOp}
 use Rattle.sp_tree.specs.declared.operators.BinaryOp.TheVariants as op
 use Rattle.sp_tree.specs.declared.operators.UnaryOp.TheVariants as sign
-use Rattle.sp_tree.specs.Operators.{Worked, Yields, Faults, truth, ranged, successor, predecessor, absolute, square, is_odd, unary_op, binary_op, same_ordinal}
+use Rattle.sp_tree.specs.Operators.{Worked, Yields, Faults, truth, ranged, successor, predecessor, absolute, square}
+use Rattle.sp_tree.specs.Operators.{is_odd, unary_op, binary_op, same_ordinal}
 pub use Rattle.sp_tree.specs.Operators.{is_range, is_before, next_value}
-use Rattle.sp_tree.specs.Items.{Taken, Takes, Fails as Faulty, number_in, char_in, line_length, at_line_end, padded, truth_text, byte}
+use Rattle.sp_tree.specs.Items.{Taken, Takes, Fails as Faulty, number_in, char_in, line_length, at_line_end, padded}
+use Rattle.sp_tree.specs.Items.{truth_text, byte}
 use Rattle.sp_cell.specs.declared.cell.Cell.{Cell}
 use Rattle.sp_cell.specs.declared.cell.Cell.TheVariants as cell
 use Rattle.sp_cell.specs.declared.spot.Address.{Address}
@@ -34,8 +39,9 @@ pub data Entry : Type 0 where
 abbrev pub further : ℕ → Address → Address
 further k a = record { spot = a.spot; offset = a.offset + k }
 
--- where a turn stops, but for faults: at a fork, with the first value of a forall and the number of children; at an open, with
--- where the channel goes; at an offer, with its channel and message type, and its cells or where they go; at the end; or due
+-- where a turn stops, but for faults: at a fork, with the first value of a forall and the number of children; at an
+-- open, with where the channel goes; at an offer, with its channel and message type, and its cells or where they go; at
+-- the end; or due
 pub data Stop : Type 0 where
   Forks : (table : ℕ) (first : ℤ) (count : ℕ) → Stop
   Opens : (target : Address) → Stop
@@ -241,7 +247,8 @@ module _ {M : Type 0} (ops : Ops M) (code : Parts) where
   on_one f pc stack n = on_number stack (λ v st. worked (f v) (λ w. Goes (At (pc + 1) (Number w ∷ st) n)))
 
   abbrev pub on_two : BinaryOp → ℕ → List Entry → M → One M
-  on_two o pc stack n = on_number stack (λ v st. on_number st (λ u st1. worked (binary_op o u v) (λ w. Goes (At (pc + 1) (Number w ∷ st1) n))))
+  on_two o pc stack n = on_number stack (λ v st. on_number st
+      (λ u st1. worked (binary_op o u v) (λ w. Goes (At (pc + 1) (Number w ∷ st1) n))))
 
   abbrev pub told : Bool → ℕ → List Entry → M → One M
   told b pc st n = worked (truth b) (λ w. Goes (At pc (Number w ∷ st) n))
@@ -252,7 +259,8 @@ module _ {M : Type 0} (ops : Ops M) (code : Parts) where
 
   -- after a tick or a call the process pauses where it is due and no function is being called
   abbrev pub paced : ℕ → List Entry → M → One M
-  paced pc st n = if outside st then (if ops.due n then Stops Pauses (At pc st n) else Goes (At pc st n)) else Goes (At pc st n)
+  paced pc st n = if outside st then (if ops.due n then Stops Pauses (At pc st n) else Goes (At pc st n)) else
+      Goes (At pc st n)
 
   -- a call of a block, with where it goes on afterwards
   abbrev pub entered : Layout → ℕ → List Entry → M → One M
@@ -261,7 +269,8 @@ module _ {M : Type 0} (ops : Ops M) (code : Parts) where
   -- a block is called, with its arguments on the stack
   abbrev pub called : Layout → (up : ℕ) → ℕ → List Entry → M → One M
   called l up r stack n =
-      pop (length l.formals) stack [] (λ es st. when (fit_formals l.formals es) (when (ops.may_open up n) (then_go (ops.open_frame l up es n) (λ m. entered l r st m))))
+      pop (length l.formals) stack [] (λ es st. when (fit_formals l.formals es)
+      (when (ops.may_open up n) (then_go (ops.open_frame l up es n) (λ m. entered l r st m))))
 
   -- the return of a procedure, or of a function with its result
   abbrev pub returned : List Entry → M → One M
@@ -272,7 +281,9 @@ module _ {M : Type 0} (ops : Ops M) (code : Parts) where
   returned (Cells cs ∷ st) n = Stuck
   returned (Link r ∷ st) n = when (ops.may_close n) (Goes (At r st (ops.close_frame n)))
   returned (Reply r ∷ st) n =
-      when (ops.may_close n) (there (ops.answer n) (λ a. when (ops.has a 1 n) (ordinal_in (ops.look a n) (λ v. Goes (At r (Number v ∷ st) (ops.close_frame n))))))
+      when (ops.may_close n) (there (ops.answer n)
+      (λ a. when (ops.has a 1 n) (ordinal_in (ops.look a n)
+      (λ v. Goes (At r (Number v ∷ st) (ops.close_frame n))))))
 
   -- an item read into an address
   abbrev pub taken : Taken → Address → ℕ → List Entry → M → One M
@@ -280,7 +291,8 @@ module _ {M : Type 0} (ops : Ops M) (code : Parts) where
   taken (Faulty f) a pc st n = Fails f
 
   abbrev pub reads : (List ℕ → Taken) → ℕ → List Entry → M → One M
-  reads item pc stack n = on_address stack (λ a st. when (ops.has a 1 n) (there (ops.left n) (λ bs. taken (item bs) a pc st n)))
+  reads item pc stack n = on_address stack (λ a st. when (ops.has a 1 n)
+      (there (ops.left n) (λ bs. taken (item bs) a pc st n)))
 
   -- bytes written, as they are or right in a width, which cuts booleans and texts
   abbrev pub prints : List ℕ → ℕ → List Entry → M → One M
@@ -288,7 +300,8 @@ module _ {M : Type 0} (ops : Ops M) (code : Parts) where
 
   -- a text with a width: right in so many columns, or F1
   abbrev pub wide : (cut : Bool) → List ℕ → ℤ → ℕ → List Entry → M → One M
-  wide cut t m pc st n = if int_le m (pos 0) then Fails fault.F1 else prints (padded (nat_abs m) (if cut then take (nat_abs m) t else t)) pc st n
+  wide cut t m pc st n = if int_le m (pos 0) then Fails fault.F1 else
+      prints (padded (nat_abs m) (if cut then take (nat_abs m) t else t)) pc st n
 
   abbrev pub writes : (ℤ → List ℕ) → ℕ → List Entry → M → One M
   writes text pc stack n = on_number stack (λ v st. prints (text v) pc st n)
@@ -300,13 +313,15 @@ module _ {M : Type 0} (ops : Ops M) (code : Parts) where
   abbrev pub begins_loop : (down : Bool) (var to pc : ℕ) → List Entry → M → One M
   begins_loop down var to pc stack n =
       on_number stack (λ last st. on_number st (λ first st1. there (ops.addr 0 var n) (λ a. when (ops.has a 1 n) (
-      if is_range down first last then Goes (At (pc + 1) (Number last ∷ st1) (ops.put a (cell.Ordinal first) n)) else Goes (At to st1 n)))))
+      if is_range down first last then Goes (At (pc + 1) (Number last ∷ st1) (ops.put a (cell.Ordinal first) n)) else
+      Goes (At to st1 n)))))
 
   -- the end of a loop: on with the next value, or behind it
   abbrev pub ends_loop : (down : Bool) (var to pc : ℕ) → List Entry → M → One M
   ends_loop down var to pc stack n =
       on_number stack (λ last st. there (ops.addr 0 var n) (λ a. when (ops.has a 1 n) (ordinal_in (ops.look a n) (λ v.
-      if is_before down v last then Goes (At to (Number last ∷ st) (ops.put a (cell.Ordinal (next_value down v)) n)) else Goes (At (pc + 1) st n)))))
+      if is_before down v last then Goes (At to (Number last ∷ st)
+      (ops.put a (cell.Ordinal (next_value down v)) n)) else Goes (At (pc + 1) st n)))))
 
   -- a fork, if one level more is allowed
   abbrev pub forked : (table : ℕ) (first : ℤ) (count : ℕ) → ℕ → List Entry → M → One M
@@ -316,15 +331,24 @@ module _ {M : Type 0} (ops : Ops M) (code : Parts) where
   abbrev pub instruction : Option Instr → ℕ → List Entry → M → One M
   instruction None pc stack n = Stuck
   instruction (Some (i.Const v)) pc stack n = Goes (At (pc + 1) (Number v ∷ stack) n)
-  instruction (Some (i.Addr up var)) pc stack n = there (ops.addr up var n) (λ a. Goes (At (pc + 1) (Pointer a ∷ stack) n))
-  instruction (Some (i.Deref up var)) pc stack n = there (ops.deref up var n) (λ a. Goes (At (pc + 1) (Pointer a ∷ stack) n))
+  instruction (Some (i.Addr up var)) pc stack n =
+      there (ops.addr up var n) (λ a. Goes (At (pc + 1) (Pointer a ∷ stack) n))
+  instruction (Some (i.Deref up var)) pc stack n =
+      there (ops.deref up var n) (λ a. Goes (At (pc + 1) (Pointer a ∷ stack) n))
   instruction (Some (i.Index low high size)) pc stack n =
-      on_number stack (λ v st. on_address st (λ a st1. if int_le low v && int_le v high then selected (further (nat_abs (v -ℤ low) * size) a) (pc + 1) st1 n else Fails fault.F1))
+      on_number stack (λ v st. on_address st
+      (λ a st1. if int_le low v && int_le v high then
+      selected (further (nat_abs (v -ℤ low) * size) a) (pc + 1) st1 n else Fails fault.F1))
   instruction (Some (i.Field k)) pc stack n = on_address stack (λ a st. selected (further k a) (pc + 1) st n)
-  instruction (Some i.Load) pc stack n = on_address stack (λ a st. when (ops.has a 1 n) (ordinal_in (ops.look a n) (λ v. Goes (At (pc + 1) (Number v ∷ st) n))))
-  instruction (Some i.Loadc) pc stack n = on_address stack (λ a st. when (ops.has a 1 n) (channel_in (ops.look a n) (λ c. Goes (At (pc + 1) (Chan c ∷ st) n))))
-  instruction (Some i.Store) pc stack n = on_cell stack (λ c st. on_address st (λ a st1. when (ops.has a 1 n) (Goes (At (pc + 1) st1 (ops.put a c n)))))
-  instruction (Some (i.Copy k)) pc stack n = on_address stack (λ from st. on_address st (λ to st1. when (ops.has from k n && ops.has to k n) (Goes (At (pc + 1) st1 (ops.copy to from k n)))))
+  instruction (Some i.Load) pc stack n = on_address stack
+      (λ a st. when (ops.has a 1 n) (ordinal_in (ops.look a n) (λ v. Goes (At (pc + 1) (Number v ∷ st) n))))
+  instruction (Some i.Loadc) pc stack n = on_address stack
+      (λ a st. when (ops.has a 1 n) (channel_in (ops.look a n) (λ c. Goes (At (pc + 1) (Chan c ∷ st) n))))
+  instruction (Some i.Store) pc stack n = on_cell stack
+      (λ c st. on_address st (λ a st1. when (ops.has a 1 n) (Goes (At (pc + 1) st1 (ops.put a c n)))))
+  instruction (Some (i.Copy k)) pc stack n =
+      on_address stack (λ from st. on_address st
+      (λ to st1. when (ops.has from k n && ops.has to k n) (Goes (At (pc + 1) st1 (ops.copy to from k n)))))
   instruction (Some i.Add) pc stack n = on_two op.Add pc stack n
   instruction (Some i.Sub) pc stack n = on_two op.Sub pc stack n
   instruction (Some i.Mul) pc stack n = on_two op.Mul pc stack n
@@ -347,11 +371,14 @@ module _ {M : Type 0} (ops : Ops M) (code : Parts) where
   instruction (Some (i.Succ high)) pc stack n = on_one (successor high) pc stack n
   instruction (Some (i.Pred low)) pc stack n = on_one (predecessor low) pc stack n
   instruction (Some (i.Jump to)) pc stack n = Goes (At to stack n)
-  instruction (Some (i.Jumpf to)) pc stack n = on_number stack (λ v st. if not (int_le v (pos 0)) then Goes (At (pc + 1) st n) else Goes (At to st n))
-  instruction (Some (i.Casej v to)) pc stack n = on_number stack (λ u st. if same_ordinal u v then Goes (At to st n) else Goes (At (pc + 1) (Number u ∷ st) n))
+  instruction (Some (i.Jumpf to)) pc stack n =
+      on_number stack (λ v st. if not (int_le v (pos 0)) then Goes (At (pc + 1) st n) else Goes (At to st n))
+  instruction (Some (i.Casej v to)) pc stack n =
+      on_number stack (λ u st. if same_ordinal u v then Goes (At to st n) else Goes (At (pc + 1) (Number u ∷ st) n))
   instruction (Some i.Nocase) pc stack n = Fails fault.F9
   instruction (Some i.Tick) pc stack n = then_go (ops.beat n) (λ m. paced (pc + 1) stack m)
-  instruction (Some i.Assume) pc stack n = on_number stack (λ v st. if not (int_le v (pos 0)) then Goes (At (pc + 1) st n) else Fails fault.F8)
+  instruction (Some i.Assume) pc stack n = on_number stack
+      (λ v st. if not (int_le v (pos 0)) then Goes (At (pc + 1) st n) else Fails fault.F8)
   instruction (Some (i.Forup var to)) pc stack n = begins_loop false var to pc stack n
   instruction (Some (i.Fordown var to)) pc stack n = begins_loop true var to pc stack n
   instruction (Some (i.Nextup var to)) pc stack n = ends_loop false var to pc stack n
@@ -360,7 +387,8 @@ module _ {M : Type 0} (ops : Ops M) (code : Parts) where
   instruction (Some i.Return) pc stack n = returned stack n
   instruction (Some i.ReadInt) pc stack n = reads number_in (pc + 1) stack n
   instruction (Some i.ReadChar) pc stack n = reads char_in (pc + 1) stack n
-  instruction (Some i.Readln) pc stack n = there (ops.left n) (λ bs. Goes (At (pc + 1) stack (ops.advance (line_length bs) n)))
+  instruction (Some i.Readln) pc stack n = there (ops.left n)
+      (λ bs. Goes (At (pc + 1) stack (ops.advance (line_length bs) n)))
   instruction (Some i.Eof) pc stack n = there (ops.left n) (λ bs. told (length bs == 0) (pc + 1) stack n)
   instruction (Some i.Eoln) pc stack n = there (ops.left n) (λ bs. told (at_line_end bs) (pc + 1) stack n)
   instruction (Some i.WriteInt) pc stack n = writes signed_decimal (pc + 1) stack n
@@ -370,15 +398,24 @@ module _ {M : Type 0} (ops : Ops M) (code : Parts) where
   instruction (Some i.WritewInt) pc stack n = writes_wide false signed_decimal (pc + 1) stack n
   instruction (Some i.WritewChar) pc stack n = writes_wide false (λ v. byte v ∷ []) (pc + 1) stack n
   instruction (Some i.WritewBool) pc stack n = writes_wide true truth_text (pc + 1) stack n
-  instruction (Some (i.WritewText k)) pc stack n = on_number stack (λ m st. there (slice_get code.texts k) (λ t. wide true t m (pc + 1) st n))
+  instruction (Some (i.WritewText k)) pc stack n =
+      on_number stack (λ m st. there (slice_get code.texts k) (λ t. wide true t m (pc + 1) st n))
   instruction (Some i.Writeln) pc stack n = prints (10 ∷ []) (pc + 1) stack n
-  instruction (Some (i.Pack k)) pc stack n = on_address stack (λ a st. when (ops.has a k n) (Goes (At (pc + 1) (Cells (ops.cells a k n) ∷ st) n)))
-  instruction (Some i.Open) pc stack n = on_address stack (λ a st. when (ops.has a 1 n) (Stops (Opens a) (At (pc + 1) st (ops.own a n))))
-  instruction (Some (i.Send k)) pc stack n = on_cells stack (λ cs st. on_channel st (λ c st1. Stops (Sends c k cs) (At (pc + 1) st1 n)))
-  instruction (Some (i.Receive k)) pc stack n = on_address stack (λ a st. on_channel st (λ c st1. when (ops.has a 0 n) (Stops (Receives c k a) (At (pc + 1) st1 (ops.own a n)))))
-  instruction (Some (i.Fork t)) pc stack n = there (slice_get code.forks t) (λ table. forked t (pos 0) (length table.children) (pc + 1) stack n)
+  instruction (Some (i.Pack k)) pc stack n =
+      on_address stack (λ a st. when (ops.has a k n) (Goes (At (pc + 1) (Cells (ops.cells a k n) ∷ st) n)))
+  instruction (Some i.Open) pc stack n = on_address stack
+      (λ a st. when (ops.has a 1 n) (Stops (Opens a) (At (pc + 1) st (ops.own a n))))
+  instruction (Some (i.Send k)) pc stack n =
+      on_cells stack (λ cs st. on_channel st (λ c st1. Stops (Sends c k cs) (At (pc + 1) st1 n)))
+  instruction (Some (i.Receive k)) pc stack n =
+      on_address stack (λ a st. on_channel st
+      (λ c st1. when (ops.has a 0 n) (Stops (Receives c k a) (At (pc + 1) st1 (ops.own a n)))))
+  instruction (Some (i.Fork t)) pc stack n =
+      there (slice_get code.forks t) (λ table. forked t (pos 0) (length table.children) (pc + 1) stack n)
   instruction (Some (i.Forall t)) pc stack n =
-      on_number stack (λ last st. on_number st (λ first st1. if int_lt last first then Goes (At (pc + 1) st1 n) else forked t first (values_in first last) (pc + 1) st1 n))
+      on_number stack (λ last st. on_number st
+      (λ first st1. if int_lt last first then Goes (At (pc + 1) st1 n) else
+      forked t first (values_in first last) (pc + 1) st1 n))
   instruction (Some i.End) pc stack n = Stops Ends (At pc stack n)
 
   -- the next instruction of a process

@@ -1,6 +1,8 @@
+-- All of this belongs to what the program promises (docs/promise.txt).
 -- The memory of a process: its frames and its counts beside its store. It is the memory with which the machine's
 -- definition runs; the store is left open, for the plain maps of PlainStore.antt.
-use Rattle.std.specs.Prelude.{ℕ, zero, suc, ◌+◌, ◌-◌, ◌==◌, pos, nat_abs, List, [], ◌∷◌, Option, Some, None, Bool, true, false, ◌&&◌, if◌then◌else◌, nat_lt, nat_le, length, drop, sum, slice_set, slice_index_or}
+use Rattle.std.specs.Prelude.{ℕ, zero, suc, ◌+◌, ◌-◌, ◌==◌, pos, nat_abs, List, [], ◌∷◌, Option, Some, None, Bool, true}
+use Rattle.std.specs.Prelude.{false, ◌&&◌, if◌then◌else◌, nat_lt, nat_le, length, drop, sum, slice_set, slice_index_or}
 use Rattle.sp_base.specs.declared.fault.Fault.TheVariants as fault
 use Rattle.sp_base.specs.declared.limits.Limits.{Limits}
 use Rattle.sp_cell.specs.declared.cell.Cell.{Cell}
@@ -12,9 +14,11 @@ use Rattle.sp_cell.specs.Lists.{overwritten, part}
 use Rattle.sp_code.specs.declared.code.Layout.{Layout}
 use Rattle.sp_code.specs.declared.code.Parts.{Parts}
 pub use Rattle.sp_tree.specs.Around.{referred}
-use Rattle.sp_code.specs.Machine.{Entry, Number, Chan, Pointer, Cells, Link, Reply, Did, Done, Failed, Ops, Config, At, layout_of}
+use Rattle.sp_code.specs.Machine.{Entry, Number, Chan, Pointer, Cells, Link, Reply, Did, Done, Failed, Ops, Config, At}
+use Rattle.sp_code.specs.Machine.{layout_of}
 
--- what a run is of: the code, the input, the limits, and after how many ticks since its last entry a process has to pause
+-- what a run is of: the code, the input, the limits, and after how many ticks since its last entry a process has to
+-- pause
 pub record Setting : Type 0 where
   pub code : Parts
   pub input : List ℕ
@@ -46,8 +50,9 @@ pub data Home : Type 0 where
   OfBlock : (block : ℕ) → Home
   OfIndex : (variable : ℕ) → Home
 
--- the process that made the frame, and its number in that one's store; link is how long the list of frames is that begins with
--- the enclosing frame, 0 where there is none; references are what the variable parameters stand for, by their numbers
+-- the process that made the frame, and its number in that one's store; link is how long the list of frames is that
+-- begins with the enclosing frame, 0 where there is none; references are what the variable parameters stand for, by
+-- their numbers
 pub record Frame : Type 0 where
   pub owner : ℕ
   pub number : ℕ
@@ -55,8 +60,8 @@ pub record Frame : Type 0 where
   pub link : ℕ
   pub references : List (ℕ × Address)
 
--- the process's number; its live frames, the newest first, a child's above its parent's; its depth, its ticks, those that it had
--- made at its last entry, the cells of its own live frames; and its store
+-- the process's number; its live frames, the newest first, a child's above its parent's; its depth, its ticks, those
+-- that it had made at its last entry, the cells of its own live frames; and its store
 pub record Memory (S : Type 0) : Type 0 where
   pub process : ℕ
   pub frames : List Frame
@@ -204,7 +209,13 @@ module _ {S : Type 0} (stores : Stores S) where
     -- the memory after a call of a block whose enclosing frame is so many levels outward
     abbrev pub opened : Layout → (up : ℕ) → List Entry → Memory S → Memory S
     opened l up es n = record n {
-      frames = record { owner = n.process; number = stores.next_frame n.store; home = OfBlock l.block; link = length (frames_up up n.frames); references = references 0 es } ∷ n.frames;
+      frames = record {
+        owner = n.process;
+        number = stores.next_frame n.store;
+        home = OfBlock l.block;
+        link = length (frames_up up n.frames);
+        references = references 0 es;
+      } ∷ n.frames;
       depth = n.depth + 1;
       ticks = n.ticks + 1;
       cells = n.cells + sum l.sizes;
@@ -216,12 +227,18 @@ module _ {S : Type 0} (stores : Stores S) where
     pushes l up es n =
         if nat_lt n.ticks g.limits.ticks then (
         if nat_lt n.depth g.limits.depth then (
-        if nat_lt g.limits.cells (n.cells + sum l.sizes) then Failed fault.F12 else Done (opened l up es n)) else Failed fault.F11) else Failed fault.F10
+        if nat_lt g.limits.cells (n.cells + sum l.sizes) then Failed fault.F12 else Done (opened l up es n)) else
+        Failed fault.F11) else Failed fault.F10
 
     -- the newest frame goes
     abbrev pub without_frame : List Frame → Memory S → Memory S
     without_frame [] n = n
-    without_frame (f ∷ fs) n = record n { frames = fs; depth = n.depth - 1; cells = n.cells - cells_of_home g.code.layouts f.home; store = stores.popped n.store }
+    without_frame (f ∷ fs) n = record n {
+      frames = fs;
+      depth = n.depth - 1;
+      cells = n.cells - cells_of_home g.code.layouts f.home;
+      store = stores.popped n.store;
+    }
 
     -- the newest frame may go
     abbrev pub may_close : List Frame → S → Bool
@@ -241,9 +258,11 @@ module _ {S : Type 0} (stores : Stores S) where
       copy = λ to from k n. with_store n (copied to from k n.store);
       own = λ a n. with_store n (stores.owned n.store a.spot (cells_at n.store a.spot));
       left = λ n. left_after g.input (position_in (stores.piece n.store position_at.spot));
-      advance = λ k n. with_store n (put_cell position_at (cell.Ordinal (pos (or_zero (position_in (stores.piece n.store position_at.spot)) + k))) n.store);
+      advance = λ k n. with_store n (put_cell position_at
+          (cell.Ordinal (pos (or_zero (position_in (stores.piece n.store position_at.spot)) + k))) n.store);
       has_output = λ n. is_held (stores.output n.store);
-      print = λ t n. if nat_lt g.limits.output (length (bytes_in (stores.output n.store)) + length t) then Failed fault.F16 else Done (with_store n (stores.appended n.store t));
+      print = λ t n. if nat_lt g.limits.output (length (bytes_in (stores.output n.store)) + length t) then
+          Failed fault.F16 else Done (with_store n (stores.appended n.store t));
       beat = λ n. if nat_lt n.ticks g.limits.ticks then Done (record n { ticks = n.ticks + 1 }) else Failed fault.F10;
       may_open = λ up n. is_there (frames_up up n.frames) && nat_le (stores.next_frame n.store) 18446744073709551615;
       open_frame = pushes;

@@ -1,3 +1,4 @@
+-- None of this belongs to what the program promises: it is for contracts between crates.
 -- The numbers after an instruction's word, as a list: the part of the listing that all instructions share, for the
 -- contracts of its words.
 use Rattle.std.specs.Prelude.{ℤ, List, [], ◌∷◌}

@@ -1,3 +1,4 @@
+-- All of this belongs to what the program promises (docs/promise.txt).
 -- The stores of a run, as plain maps: the store with which the machine's memory is used in all contracts, by the
 -- definitions of sp_cell.
 use Rattle.std.specs.Prelude.{ℕ, ◌==◌, List, [], Option, Some, None, Bool, true, false, ◌&&◌, not}
@@ -5,7 +6,8 @@ use Rattle.std.specs.List.{list_all}
 use Rattle.std.specs.FinMap as map
 use Rattle.sp_cell.specs.declared.cell.Cell.{Cell}
 use Rattle.sp_cell.specs.declared.spot.Spot.{Spot}
-use Rattle.sp_cell.specs.Map.{Content, Own, Shared, Output, Away, Map, Plain, with_map, owned, appended, output_of, output_spot}
+use Rattle.sp_cell.specs.Map.{Content, Own, Shared, Output, Away, Map, Plain, with_map, owned, appended, output_of}
+use Rattle.sp_cell.specs.Map.{output_spot}
 use Rattle.sp_cell.specs.Frame.{next_frame, newest, pushed, popped, root_map}
 use Rattle.sp_cell.specs.Fork.{child_of, handed, joined}
 use Rattle.sp_code.specs.Memory.{Stores, is_there}

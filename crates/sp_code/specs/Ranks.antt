@@ -1,6 +1,8 @@
+-- None of this belongs to what the program promises: it is for contracts between crates.
 -- Each way back to an instruction passes a tick or a call. This is why a turn ends. Sound code is required to have
 -- such ranks along what each turn comes to, and generated code is proved to have them at each instruction.
-use Rattle.std.specs.Prelude.{ℕ, zero, suc, ◌+◌, ◌<◌, List, [], ◌∷◌, length, Option, Some, None, nat_lt, if◌then◌else◌, slice_get}
+use Rattle.std.specs.Prelude.{ℕ, zero, suc, ◌+◌, ◌<◌, List, [], ◌∷◌, length, Option, Some, None, nat_lt, if◌then◌else◌}
+use Rattle.std.specs.Prelude.{slice_get}
 use Rattle.sp_code.specs.declared.instr.Instr.{Instr}
 use Rattle.sp_code.specs.declared.instr.Instr.TheVariants as i
 use Rattle.sp_code.specs.declared.code.Parts.{Parts}
@@ -94,11 +96,13 @@ AllBelow f n (p ∷ ps) = (f p < n) × AllBelow f n ps
 
 -- each way makes the rank fall, so none leads back
 unfoldable pub IsRanked : List Instr → Type 0
-IsRanked code = (p : ℕ) → AllBelow (rank (suc (length code)) code) (rank (suc (length code)) code p) (ways p (slice_get code p))
+IsRanked code = (p : ℕ) → AllBelow (rank (suc (length code)) code) (rank (suc (length code)) code p)
+    (ways p (slice_get code p))
 
 -- each way on from where a process stands makes the rank fall
 abbrev pub RanksFall : {M : Type 0} → Parts → Config M → Type 0
-RanksFall code (At pc st n) = AllBelow (rank (suc (length code.instrs)) code.instrs) (rank (suc (length code.instrs)) code.instrs pc) (ways pc (slice_get code.instrs pc))
+RanksFall code (At pc st n) = AllBelow (rank (suc (length code.instrs)) code.instrs)
+    (rank (suc (length code.instrs)) code.instrs pc) (ways pc (slice_get code.instrs pc))
 
 -- so does each from what the turn of a process comes to; nothing is asked of instructions to which nothing comes
 abbrev pub IsRankedAlong : {M : Type 0} → Ops M → Parts → Config M → Type 0

@@ -1,14 +1,18 @@
+-- All of this belongs to what the program promises (docs/promise.txt).
 -- Types, frames and scopes of a checked tree, as code needs them: sizes, offsets, slots and levels. The definition of
 -- code, its lengths and the generator's contracts share it.
-use Rattle.std.specs.Prelude.{ℕ, zero, suc, ◌==◌, List, [], ◌∷◌, ◌++◌, Option, Some, None, Bool, true, false, if◌then◌else◌, slice_get, map, sum, take, length}
+use Rattle.std.specs.Prelude.{ℕ, zero, suc, ◌==◌, List, [], ◌∷◌, ◌++◌, Option, Some, None, Bool, true, false}
+use Rattle.std.specs.Prelude.{if◌then◌else◌, slice_get, map, sum, take, length}
 use Rattle.sp_tree.specs.declared.checked.KindOf.{KindOf}
 use Rattle.sp_tree.specs.declared.checked.KindOf.TheVariants as kind
 use Rattle.sp_tree.specs.declared.checked.Role.{Role}
 use Rattle.sp_tree.specs.declared.checked.Role.TheVariants as role
-pub use Rattle.sp_tree.specs.Around.{Scope, OfBlock, OfIndex, is_block, is_index, one_more, level, parent_of, scopes_by, scopes_of}
+pub use Rattle.sp_tree.specs.Around.{Scope, OfBlock, OfIndex, is_block, is_index, one_more, level, parent_of, scopes_by}
+pub use Rattle.sp_tree.specs.Around.{scopes_of}
 pub use Rattle.sp_tree.specs.Formed.{as_list}
 use Rattle.sp_tree.specs.Cells.{sizes, first_or, variables_of}
-use Rattle.sp_tree.specs.Plain.{Expr, Typed, Var, Entire, Selectors, Whole, Select, Index, Field, Program, Variable, Block}
+use Rattle.sp_tree.specs.Plain.{Expr, Typed, Var, Entire, Selectors, Whole, Select, Index, Field, Program, Variable}
+use Rattle.sp_tree.specs.Plain.{Block}
 
 -- what values of a type are on the stack: an ordinal, a channel, or many cells
 pub data Sort : Type 0 where

@@ -1,3 +1,4 @@
+-- All of this belongs to what the program promises (docs/promise.txt).
 -- What the children of a fork take over: for each process statement the variables that move to its process, and those
 -- that it shares. The code of forks is given by it, and the facts of interference say which choices are right.
 use Rattle.std.specs.Prelude.{◌⊎◌, ℕ, List}

@@ -1,3 +1,4 @@
+-- All of this belongs to what the program promises (docs/promise.txt).
 -- How large code may be: so many instructions, layouts, fork tables and texts, and frames whose variables have
 -- numbers and small sizes. The invariant of `Code` keeps it, so that the machine's numbers fit.
 use Rattle.std.specs.Prelude.{ℕ, ◌≤◌, All, length}
@@ -27,8 +28,8 @@ HasSmallSizes l = All IsSize l.sizes
 abbrev pub HasChild : ForkTable → Type 0
 HasChild t = 1 ≤ length t.children
 
--- at most 1,048,576 instructions, layouts, fork tables and texts, of each; small frames with small variables; a child for
--- each fork
+-- at most 1,048,576 instructions, layouts, fork tables and texts, of each; small frames with small variables; a child
+-- for each fork
 pub record KeepsSizes (p : Parts) : Type 0 where
   pub instrs : length p.instrs ≤ 1048576
   pub layouts : length p.layouts ≤ 1048576

@@ -1,7 +1,9 @@
+-- Some of this belongs to what the program promises (docs/promise.txt).
 -- Code that runs safely: each turn ends, finds what its instructions need and touches what its process holds alone.
 -- The machine, the kernel and the runner require it, and generated code has it; so no part checks at run time what is
 -- proved once.
-use Rattle.std.specs.Prelude.{◌≡◌, ℕ, ◌+◌, ◌*◌, ◌≤◌, ◌==◌, ℤ, List, [], ◌∷◌, ◌++◌, length, Some, None, false, if◌then◌else◌, slice_get}
+use Rattle.std.specs.Prelude.{◌≡◌, ℕ, ◌+◌, ◌*◌, ◌≤◌, ◌==◌, ℤ, List, [], ◌∷◌, ◌++◌, length, Some, None, false}
+use Rattle.std.specs.Prelude.{if◌then◌else◌, slice_get}
 use Rattle.std.specs.FinMap as map
 use Rattle.sp_base.specs.declared.limits.Limits.{Limits}
 use Rattle.sp_base.specs.declared.limits.TheConstants.{TURN_TICKS}
@@ -25,7 +27,8 @@ use Rattle.sp_code.specs.Memory.{Setting, Frame, Memory, memory}
 use Rattle.sp_code.specs.PlainStore.{plain}
 use Rattle.sp_code.specs.Ranks.{IsRankedAlong}
 use Rattle.sp_code.specs.Formals.{HaveFormals}
-use Rattle.sp_code.specs.System.{System, Condition, Absent, Working, Waits, Joins, Laid, Gone, Over, store_of, plan_of, IsSystem, fault_of}
+use Rattle.sp_code.specs.System.{System, Condition, Absent, Working, Waits, Joins, Laid, Gone, Over, store_of, plan_of}
+use Rattle.sp_code.specs.System.{IsSystem, fault_of}
 
 -- a run of code on an input, with these limits
 abbrev pub run_of : Parts → List ℕ → Limits → Setting
@@ -37,7 +40,8 @@ run_of code input lim = record { code = code; input = input; limits = lim; pause
 abbrev pub identity : ℕ → ℕ → ℕ
 identity process frame = (process + frame) * (process + frame) + frame
 
--- what a frame number of a process means: the frame that it made under that number, or the one that it had from its parent
+-- what a frame number of a process means: the frame that it made under that number, or the one that it had from its
+-- parent
 abbrev pub means : List Frame → ℕ → ℕ
 means [] n = identity 0 n
 means (f ∷ fs) n = if f.number == n then identity f.owner f.number else means fs n
@@ -61,8 +65,8 @@ abbrev pub views_of : (ℕ → Condition Plain) → List ℕ → List View
 views_of condition [] = []
 views_of condition (q ∷ qs) = views_at (condition q) ++ views_of condition qs
 
--- held: each variable of a live frame is own in one store at most; where it is shared, all that share it have equal cells and none
--- owns it; every other store that knows it has it away
+-- held: each variable of a live frame is own in one store at most; where it is shared, all that share it have equal
+-- cells and none owns it; every other store that knows it has it away
 abbrev pub Held : System Plain → Type 0
 Held s = IsPartition (views_of s.condition (numbers 0 s.births.processes))
 
@@ -70,7 +74,8 @@ Held s = IsPartition (views_of s.condition (numbers 0 s.births.processes))
 
 -- no two layouts are of one block
 abbrev pub HasDistinctBlocks : List Layout → Type 0
-HasDistinctBlocks ls = (i j : ℕ) (l m : Layout) → slice_get ls i ≡ Some l → slice_get ls j ≡ Some m → l.block ≡ m.block → i ≡ j
+HasDistinctBlocks ls = (i j : ℕ) (l m : Layout) → slice_get ls i ≡ Some l → slice_get ls j ≡ Some m → l.block ≡ m.block
+    → i ≡ j
 
 -- a fork can be carried out: what it hands over is held, nothing is moved twice, and nothing that is moved is shared
 pub record CanSplit (p : Plain) (hs : List Handing) : Type 0 where
@@ -103,11 +108,18 @@ module _ (g : Setting) where
   -- all is well with the next turn of each process and with its event
   pub record IsSafeSystem (s : System Plain) : Type 0 where
     pub turns : (q : ℕ) (c : Config (Memory Plain)) → s.condition q ≡ Working c → IsSafe (memory plain g) g.code c
-    pub ranks : (q : ℕ) (c : Config (Memory Plain)) → s.condition q ≡ Working c → IsRankedAlong (memory plain g) g.code c
-    pub forks : (q table count : ℕ) (value : ℤ) (d : Config (Memory Plain)) → StopsAt s q (Forks table value count) d → CanSplit (store_of d) (plan_of plain g d table value count)
-    pub ends : (q left : ℕ) (b : Birth) (d e : Config (Memory Plain)) → StopsAt s q Ends d → s.births.birth q ≡ Some b → s.condition b.parent ≡ Joins left e → CanJoin (store_of e) (store_of d)
-    pub sends : (q z c k j : ℕ) (a : Address) (cells : List Cell) (d e : Config (Memory Plain)) → StopsAt s q (Sends c k cells) d → s.pending c ≡ Some z → s.condition z ≡ Waits (Receives c j a) e → CanPut (store_of e) a cells
-    pub receives : (q z c k j : ℕ) (a : Address) (cells : List Cell) (d e : Config (Memory Plain)) → StopsAt s q (Receives c k a) d → s.pending c ≡ Some z → s.condition z ≡ Waits (Sends c j cells) e → CanPut (store_of d) a cells
+    pub ranks : (q : ℕ) (c : Config (Memory Plain)) → s.condition q ≡ Working c
+        → IsRankedAlong (memory plain g) g.code c
+    pub forks : (q table count : ℕ) (value : ℤ) (d : Config (Memory Plain)) → StopsAt s q (Forks table value count) d
+        → CanSplit (store_of d) (plan_of plain g d table value count)
+    pub ends : (q left : ℕ) (b : Birth) (d e : Config (Memory Plain)) → StopsAt s q Ends d → s.births.birth q ≡ Some b
+        → s.condition b.parent ≡ Joins left e → CanJoin (store_of e) (store_of d)
+    pub sends : (q z c k j : ℕ) (a : Address) (cells : List Cell) (d e : Config (Memory Plain))
+        → StopsAt s q (Sends c k cells) d → s.pending c ≡ Some z → s.condition z ≡ Waits (Receives c j a) e
+        → CanPut (store_of e) a cells
+    pub receives : (q z c k j : ℕ) (a : Address) (cells : List Cell) (d e : Config (Memory Plain))
+        → StopsAt s q (Receives c k a) d → s.pending c ≡ Some z → s.condition z ≡ Waits (Sends c j cells) e
+        → CanPut (store_of d) a cells
 
 -- limits within their types, with room for the first process
 pub record AreLimits (lim : Limits) : Type 0 where
@@ -122,4 +134,5 @@ pub record AreLimits (lim : Limits) : Type 0 where
 pub record IsSound (code : Parts) : Type 0 where
   pub blocks : HasDistinctBlocks code.layouts
   pub formals : HaveFormals code.layouts
-  pub safe : (input : List ℕ) (lim : Limits) → AreLimits lim → (es : List Entry) (s : System Plain) → IsSystem plain (run_of code input lim) es s → IsSafeSystem (run_of code input lim) s
+  pub safe : (input : List ℕ) (lim : Limits) → AreLimits lim → (es : List Entry) (s : System Plain)
+      → IsSystem plain (run_of code input lim) es s → IsSafeSystem (run_of code input lim) s

@@ -1,6 +1,8 @@
+-- Some of this belongs to what the program promises (docs/promise.txt).
 -- The system of all processes of a run of code, along a journal. The laws of histories and the kernel's contracts
 -- speak of it, and sp_link compares it with the meaning: a step for each entry, with no worker and no queue in it.
-use Rattle.std.specs.Prelude.{◌≡◌, ℕ, zero, suc, ◌+◌, ◌-◌, ◌==◌, ℤ, pos, ◌+ℤ◌, List, [], ◌∷◌, Option, Some, None, Bool, true, false, if◌then◌else◌, cond, nat_lt, length, slice_get}
+use Rattle.std.specs.Prelude.{◌≡◌, ℕ, zero, suc, ◌+◌, ◌-◌, ◌==◌, ℤ, pos, ◌+ℤ◌, List, [], ◌∷◌, Option, Some, None, Bool}
+use Rattle.std.specs.Prelude.{true, false, if◌then◌else◌, cond, nat_lt, length, slice_get}
 use Rattle.sp_base.specs.declared.fault.Fault.{Fault}
 use Rattle.sp_base.specs.declared.fault.Fault.TheVariants as fault
 use Rattle.sp_base.specs.declared.limits.Limits.{Limits}
@@ -27,7 +29,8 @@ use Rattle.sp_code.specs.declared.code.ForkTable.{ForkTable}
 use Rattle.sp_code.specs.Tables.{child_at}
 use Rattle.sp_code.specs.Machine.{Stop, Forks, Opens, Sends, Receives, Ends, Pauses, Config, At, layout_of}
 use Rattle.sp_code.specs.Turns.{Turn, Stopped, Faulted, IsTurn}
-use Rattle.sp_code.specs.Memory.{Setting, Stores, Home, OfBlock, OfIndex, Frame, Memory, last_frames, referred, put_cell, put_cells, memory, first}
+use Rattle.sp_code.specs.Memory.{Setting, Stores, Home, OfBlock, OfIndex, Frame, Memory, last_frames, referred}
+use Rattle.sp_code.specs.Memory.{put_cell, put_cells, memory, first}
 use Rattle.sp_code.specs.Control.{Control, Out, control_at_start, noted, given, front}
 
 -- ---- the variables of a fork
@@ -98,7 +101,11 @@ index_by value k (Some x) = Some (0, value +ℤ pos k)
 
 -- what child k is handed
 abbrev pub handing_of : List Layout → List Frame → ℤ → ℕ → ChildTable → Handing
-handing_of ls fs value k c = record { moved = spots_of ls fs c.moved; shared = spots_of ls fs c.shared; index = index_by value k c.index }
+handing_of ls fs value k c = record {
+  moved = spots_of ls fs c.moved;
+  shared = spots_of ls fs c.shared;
+  index = index_by value k c.index;
+}
 
 -- for a number that no child has
 abbrev pub no_child : ChildTable
@@ -115,12 +122,13 @@ table_or (Some t) = t
 -- the handings of children i to i + n - 1
 abbrev pub plan_from : List Layout → List Frame → ForkTable → ℤ → ℕ → ℕ → List Handing
 plan_from ls fs t value i zero = []
-plan_from ls fs t value i (suc n) = handing_of ls fs value i (child_or (child_at t i)) ∷ plan_from ls fs t value (suc i) n
+plan_from ls fs t value i (suc n) = handing_of ls fs value i (child_or (child_at t i))
+    ∷ plan_from ls fs t value (suc i) n
 
 -- ---- the state
 
--- what a process is doing: it runs, or is at the start of a turn; it waits at an offer; it joins so many children yet; it was laid
--- down; it has ended, and its pieces went back to its parent; it was the first process, and has ended
+-- what a process is doing: it runs, or is at the start of a turn; it waits at an offer; it joins so many children yet;
+-- it was laid down; it has ended, and its pieces went back to its parent; it was the first process, and has ended
 pub data Condition (S : Type 0) : Type 0 where
   Absent : Condition S
   Working : (c : Config (Memory S)) → Condition S
@@ -130,8 +138,8 @@ pub data Condition (S : Type 0) : Type 0 where
   Gone : Condition S
   Over : (c : Config (Memory S)) → Condition S
 
--- the processes by their numbers; what the entries have given to processes and channels; whose offer is pending on a channel;
--- whether a fault stands; how many entries fork, open, send and receive there were
+-- the processes by their numbers; what the entries have given to processes and channels; whose offer is pending on a
+-- channel; whether a fault stands; how many entries fork, open, send and receive there were
 pub record System (S : Type 0) : Type 0 where
   pub condition : ℕ → Condition S
   pub births : Births
@@ -199,8 +207,10 @@ module _ {S : Type 0} where
 
   -- the fault of a stop that would pass a limit
   abbrev pub limit_of : Limits → System S → Stop → Option Fault
-  limit_of lim s (Forks t value n) = one_more_entry lim s (if nat_lt lim.processes (s.births.processes + n) then Some fault.F13 else None)
-  limit_of lim s (Opens a) = one_more_entry lim s (if nat_lt lim.channels (s.births.channels + 1) then Some fault.F14 else None)
+  limit_of lim s (Forks t value n) = one_more_entry lim s
+      (if nat_lt lim.processes (s.births.processes + n) then Some fault.F13 else None)
+  limit_of lim s (Opens a) = one_more_entry lim s
+      (if nat_lt lim.channels (s.births.channels + 1) then Some fault.F14 else None)
   limit_of lim s (Sends c k cs) = one_more_entry lim s None
   limit_of lim s (Receives c k a) = one_more_entry lim s None
   limit_of lim s Ends = None
@@ -270,9 +280,16 @@ module _ {S : Type 0} (stores : Stores S) (g : Setting) where
   -- the frames of a child, above them that of its index
   abbrev pub with_index_frame : ℕ → Handing → Option ℕ → List Frame → List Frame
   with_index_frame q h None fs = fs
-  with_index_frame q h (Some x) fs = record { owner = q; number = index_frame h; home = OfIndex x; link = length fs; references = [] } ∷ fs
+  with_index_frame q h (Some x) fs = record {
+    owner = q;
+    number = index_frame h;
+    home = OfIndex x;
+    link = length fs;
+    references = [];
+  } ∷ fs
 
-  -- child k of a fork at c, with the number q: its frames are its parent's, with the index's above; it is one level deeper
+  -- child k of a fork at c, with the number q: its frames are its parent's, with the index's above; it is one level
+  -- deeper
   abbrev pub newborn : Config (Memory S) → ℤ → ℕ → ℕ → ChildTable → Config (Memory S)
   newborn c value q k child =
       let h = handing_of g.code.layouts (frames_of c) value k child in
@@ -290,7 +307,9 @@ module _ {S : Type 0} (stores : Stores S) (g : Setting) where
   abbrev pub forked : ℕ → (table : ℕ) → ℤ → ℕ → Config (Memory S) → System S → System S
   forked q t value n c s = record s {
     condition = λ r.
-        cond (is_next s.births n r) (Working (newborn c value r (r - s.births.processes) (child_or (child_at (table_or (slice_get g.code.forks t)) (r - s.births.processes)))))
+        cond (is_next s.births n r) (Working
+        (newborn c value r (r - s.births.processes)
+        (child_or (child_at (table_or (slice_get g.code.forks t)) (r - s.births.processes)))))
         (cond (q == r) (Joins n (on_store (λ m. stores.handed m (plan_of c t value n)) c)) (s.condition r));
   }
 
@@ -326,13 +345,15 @@ module _ {S : Type 0} (stores : Stores S) (g : Setting) where
   -- an offer waits, or it meets the pending one, and then both go on
   abbrev pub sent : ℕ → Stop → (channel : ℕ) → List Cell → Config (Memory S) → Option ℕ → System S → System S
   sent q stop ch cs c None s = record (becomes q (Waits stop c) s) { pending = at_key ◌==◌ ch (Some q) s.pending }
-  sent q stop ch cs c (Some z) s = record (becomes q (Working c) (becomes z (received cs (s.condition z)) s)) { pending = at_key ◌==◌ ch None s.pending }
+  sent q stop ch cs c (Some z) s = record (becomes q (Working c) (becomes z (received cs (s.condition z)) s))
+      { pending = at_key ◌==◌ ch None s.pending }
 
   -- an offer to receive, by what is pending: it waits, or it takes the message
   abbrev pub taken : ℕ → Stop → (channel : ℕ) → Address → Config (Memory S) → Option ℕ → System S → System S
   taken q stop ch a c None s = record (becomes q (Waits stop c) s) { pending = at_key ◌==◌ ch (Some q) s.pending }
   taken q stop ch a c (Some z) s =
-      record (becomes q (Working (on_store (put_cells stores a (message_of (stop_of (s.condition z)))) c)) (becomes z (received [] (s.condition z)) s)) { pending = at_key ◌==◌ ch None s.pending }
+      record (becomes q (Working (on_store (put_cells stores a (message_of (stop_of (s.condition z)))) c))
+      (becomes z (received [] (s.condition z)) s)) { pending = at_key ◌==◌ ch None s.pending }
 
   -- a child's pieces go back to its parent, which goes on after the last one. The first process has none
   abbrev pub rejoined : Config (Memory S) → Condition S → Condition S
@@ -393,7 +414,8 @@ module _ {S : Type 0} (stores : Stores S) (g : Setting) where
   -- the turn of the entry's process, which runs, and then its event, which is the entry's, lead from s to t
   abbrev pub Enters : System S → ℕ → Event → System S → Type 0
   Enters s q e t =
-      (c : Config (Memory S)) × (s.condition q ≡ Working c) × (turn : Turn (Memory S)) × IsTurn (memory stores g) g.code c turn × (event_of g.limits s turn ≡ e) × (t ≡ after q turn s)
+      (c : Config (Memory S)) × (s.condition q ≡ Working c) × (turn : Turn (Memory S))
+      × IsTurn (memory stores g) g.code c turn × (event_of g.limits s turn ≡ e) × (t ≡ after q turn s)
 
   -- the entries, in order
   abbrev pub Leads : System S → List Entry → System S → Type 0
@@ -427,7 +449,8 @@ module _ {S : Type 0} (stores : Stores S) (g : Setting) where
   abbrev pub LegalFrom : Control → System S → List Note → Type 0
   LegalFrom k s [] = Unit {0}
   LegalFrom k s (n ∷ ns) =
-      (t : System S) × Gives k s n.worker n.given n.event n.got t × Gets (given n.given n.event n.got k) n.event n.got × LegalFrom (noted n k) t ns
+      (t : System S) × Gives k s n.worker n.given n.event n.got t × Gets (given n.given n.event n.got k) n.event n.got
+      × LegalFrom (noted n k) t ns
 
   -- a history is legal where the kernel, asked by one thread in that order from its opening state, gives these notes
   abbrev pub IsLegal : List Note → Type 0

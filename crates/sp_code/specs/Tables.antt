@@ -1,3 +1,4 @@
+-- All of this belongs to what the program promises (docs/promise.txt).
 -- The children of a fork table: one for each process statement, or one for all elements of a forall. The contract of
 -- `Code` and the machine's forks cite it.
 use Rattle.std.specs.Prelude.{ℕ, List, [], ◌∷◌, Option, Some, None, slice_get}

@@ -1,3 +1,4 @@
+-- Some of this belongs to what the program promises (docs/promise.txt).
 -- A turn of a process: its instructions up to the next stop, or to the first moment at which it is due. The machine's
 -- `turn` promises it, and the system steps by it; a relation, since an unsound process has no turn.
 use Rattle.std.specs.Prelude.{◌≡◌, ℕ, zero, suc, Bool, true, false}
@@ -11,8 +12,8 @@ pub data Turn (M : Type 0) : Type 0 where
   Stopped : (stop : Stop) (c : Config M) → Turn M
   Faulted : (fault : Fault) (c : Config M) → Turn M
 
--- what a process that is run for some instructions comes to: the end of its turn, an instruction that lacks what it needs, or
--- neither yet
+-- what a process that is run for some instructions comes to: the end of its turn, an instruction that lacks what it
+-- needs, or neither yet
 pub data Ran (M : Type 0) : Type 0 where
   Ended : (turn : Turn M) → Ran M
   Lacks : (c : Config M) → Ran M

@@ -25,7 +25,8 @@ pub enum Formal {
 }
 
 /// The frame of a block. It has the parameters first, in order, then the result where the block has one, then the local
-/// variables. The program's frame begins with the input as variable 0 and the output as variable 1, which are not listed.
+/// variables. The program's frame begins with the input as variable 0 and the output as variable 1, which are not
+/// listed.
 #[derive(Debug, Drop)]
 pub struct Layout {
     /// The number of the block.
@@ -88,7 +89,8 @@ impl ForkTable {
         }
     }
 
-    /// What the child of this number, from 0, begins with. Every child of a `forall` begins with the one that its table has.
+    /// What the child of this number, from 0, begins with. Every child of a `forall` begins with the one that its table
+    /// has.
     pub fn child(&self, number: u64) -> Option<&ChildTable>
         ensures { option_copied result ≡ child_at self.now number }
     {
@@ -109,9 +111,9 @@ pub struct Parts {
 }
 
 impl Parts {
-    /// Whether the parts are no larger than code may be: at most `MAX_CODE` instructions, layouts, fork tables and texts, of
-    /// each, at most `MAX_FRAME` variables in a frame, and a child in each fork table. The cells of a variable are a number of
-    /// 32 bits, by their type.
+    /// Whether the parts are no larger than code may be: at most `MAX_CODE` instructions, layouts, fork tables and
+    /// texts, of each, at most `MAX_FRAME` variables in a frame, and a child in each fork table. The cells of a
+    /// variable are a number of 32 bits, by their type.
     pub fn keeps_sizes(&self) -> bool
         ensures { IsTrue result ↔ KeepsSizes self.now }
     {

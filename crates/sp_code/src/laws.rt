@@ -1,5 +1,5 @@
-//! What follows from the definitions of what code does, for every code, input and limits. These functions do nothing: each
-//! one's contract is a law, and whoever rests on the law calls it or cites it.
+//! What follows from the definitions of what code does, for every code, input and limits. These functions do nothing:
+//! each one's contract is a law, and whoever rests on the law calls it or cites it.
 
 ghost use Rattle.std.specs.Prelude.{◌≡◌, ℕ, suc, List, length, slice_get, Some};
 ghost use Rattle.sp_tree.specs.Plain.{Program, Stmt, Block};
@@ -20,19 +20,21 @@ ghost use Rattle.sp_code.specs.Emitted.{code, program_code};
 ghost use Rattle.sp_code.specs.Stands.{IsFine, BlocksAt};
 ghost use Rattle.sp_code.specs.Quiet.{IsQuiet};
 
-/// One instruction, and one turn, is a function of the process; and where a turn is computed to an end, that is its end.
+/// One instruction, and one turn, is a function of the process; and where a turn is computed to an end, that is its
+/// end.
 pub fn turns_are_functions()
     ensures instruction { (g : Setting) (c d e : Config (Memory Plain)) → one (memory plain g) g.code c ≡ Goes d
         → one (memory plain g) g.code c ≡ Goes e → d ≡ e }
-    ensures turn { (g : Setting) (c : Config (Memory Plain)) (t u : Turn (Memory Plain)) → IsTurn (memory plain g) g.code c t
+    ensures turn { (g : Setting) (c : Config (Memory Plain)) (t u : Turn (Memory Plain))
+        → IsTurn (memory plain g) g.code c t
         → IsTurn (memory plain g) g.code c u → t ≡ u }
     ensures computed { (g : Setting) (n : ℕ) (c : Config (Memory Plain)) (t : Turn (Memory Plain))
         → turn_within (memory plain g) g.code n c ≡ Ended t → IsTurn (memory plain g) g.code c t }
 {}
 
-/// A turn along which the ranks fall comes to its end, or to an instruction that lacks what it needs, within a number of
-/// instructions that is computed from the code and the process. So a turn in which none lacks anything has an end. Where each
-/// instruction of the code makes the rank fall, the ranks fall along every turn.
+/// A turn along which the ranks fall comes to its end, or to an instruction that lacks what it needs, within a number
+/// of instructions that is computed from the code and the process. So a turn in which none lacks anything has an end.
+/// Where each instruction of the code makes the rank fall, the ranks fall along every turn.
 pub fn turns_of_ranked_code_end()
     ensures within { (g : Setting) (c : Config (Memory Plain)) → IsRankedAlong (memory plain g) g.code c
         → IsOver (turn_within (memory plain g) g.code (suc (most_steps g c)) c) }
@@ -44,22 +46,28 @@ pub fn turns_of_ranked_code_end()
 
 /// A turn makes at most one event, and there is at most one system along a journal.
 pub fn systems_are_functions()
-    ensures event { (g : Setting) (s : System Plain) (q : ℕ) (e f : Event) (t u : System Plain) → Enters plain g s q e t → Enters plain g s q f u → e ≡ f }
-    ensures system { (g : Setting) (es : List Entry) (t u : System Plain) → IsSystem plain g es t → IsSystem plain g es u → t ≡ u }
+    ensures event { (g : Setting) (s : System Plain) (q : ℕ) (e f : Event) (t u : System Plain) → Enters plain g s q e t
+        → Enters plain g s q f u → e ≡ f }
+    ensures system { (g : Setting) (es : List Entry) (t u : System Plain) → IsSystem plain g es t
+        → IsSystem plain g es u → t ≡ u }
 {}
 
-/// The code of a statement, and that of a whole program, has exactly the number of instructions that the table of lengths says.
+/// The code of a statement, and that of a whole program, has exactly the number of instructions that the table of
+/// lengths says.
 pub fn code_has_its_length()
-    ensures statement { (p : Program) (sc : List Scope) (t n q : ℕ) (s : Stmt) → length (code p sc t n q s) ≡ stmt_length p s }
-    ensures program { (p : Program) (moves shares : Stmt → List ℕ) → length (program_code p moves shares).instrs ≡ tree_length p }
+    ensures statement { (p : Program) (sc : List Scope) (t n q : ℕ) (s : Stmt)
+        → length (code p sc t n q s) ≡ stmt_length p s }
+    ensures program { (p : Program) (moves shares : Stmt → List ℕ)
+        → length (program_code p moves shares).instrs ≡ tree_length p }
 {}
 
-/// Where each block keeps the rules of names, types and variables, its code stands in the code of the program as it should; and a
-/// call finds the layout that the block has in the tree.
+/// Where each block keeps the rules of names, types and variables, its code stands in the code of the program as it
+/// should; and a call finds the layout that the block has in the tree.
 pub fn code_stands()
     ensures blocks { (p : Program) (moves shares : Stmt → List ℕ)
         → ((f q : ℕ) (b : Block) → slice_get p.blocks f ≡ Some b → IsFine p moves shares (IsQuiet p) f q b)
         → BlocksAt p moves shares (program_code p moves shares) (IsQuiet p) }
     ensures layouts { (p : Program) (moves shares : Stmt → List ℕ) (f : ℕ) (l : Layout)
-        → slice_get (program_code p moves shares).layouts f ≡ Some l → layout_of (program_code p moves shares).layouts f ≡ Some l }
+        → slice_get (program_code p moves shares).layouts f ≡ Some l
+        → layout_of (program_code p moves shares).layouts f ≡ Some l }
 {}

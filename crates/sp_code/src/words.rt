@@ -135,7 +135,8 @@ impl Instr {
         }
     }
 
-    /// Puts the instruction's text last into `out`, as `addr 0 2`. Where memory is refused a part of it may stand there.
+    /// Puts the instruction's text last into `out`, as `addr 0 2`. Where memory is refused a part of it may stand
+    /// there.
     pub fn put(self, out: &mut Vec<u8>) -> Result<(), Memory>
         ensures { OnOk result (out.new.items ≡ out.old.items ++ instr_text self) }
     {

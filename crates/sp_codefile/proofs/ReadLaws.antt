@@ -49,7 +49,8 @@ line_joins (x ∷ xs) a b e = by (x == 10) refl (first_split 10 xs) (λ y z g. l
     by : (t : Bool) → x == 10 ≡ t → (o : Option (List ℕ × List ℕ))
         → ((y z : List ℕ) → o ≡ Some (y, z) → xs ≡ y ++ 10 ∷ z) → cond t (Some ([], xs)) (with_first x o) ≡ Some (a, b)
         → x ∷ xs ≡ a ++ 10 ∷ b
-    by true f o h g = (λ i. eqb-true x 10 f i ∷ xs) ∙ (λ i. parts_first [] xs a b g i ++ 10 ∷ parts_second [] xs a b g i)
+    by true f o h g = (λ i. eqb-true x 10 f i ∷ xs)
+        ∙ (λ i. parts_first [] xs a b g i ++ 10 ∷ parts_second [] xs a b g i)
     by false f None h g = absurd (none_parts a b g)
     by false f (Some p) h g = ap (λ (y : List ℕ). x ∷ y) (h p.0 p.1 refl)
         ∙ (λ i. parts_first (x ∷ p.0) p.1 a b g i ++ 10 ∷ parts_second (x ∷ p.0) p.1 a b g i)

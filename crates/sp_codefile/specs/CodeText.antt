@@ -1,3 +1,4 @@
+-- All of this belongs to what the program promises (docs/promise.txt).
 -- The text of code, and which line of other bytes is the first bad one. The text has a first line, and then a line for
 -- each layout, text, instruction and child of a fork table. Writing and reading code files promise the same definition,
 -- which makes the two inverse.

@@ -1,3 +1,4 @@
+-- None of this belongs to what the program promises: it is for contracts between crates.
 -- Cutting a line into words, for the parts of the reader. No public contract cites these; they are recursive, so that
 -- proofs go by the bytes of a line.
 use Rattle.std.specs.Prelude.{ℕ, ◌==◌, ◌&&◌, nat_le, Bool, false, cond, List, [], ◌∷◌}

@@ -1,3 +1,4 @@
+-- None of this belongs to what the program promises: it is for contracts between crates.
 -- Code as a row of items, a line each: which can come next, with what text, and the parts with it. No public contract
 -- cites these; the parts of the reader promise them to each other, so that each line is looked at once.
 use Rattle.std.specs.Prelude.{◌≡◌, ℕ, ◌+◌, ◌-◌, ◌^◌, ◌<◌, List, [], ◌∷◌, ◌++◌, length, Option, Some, None, All, codes}

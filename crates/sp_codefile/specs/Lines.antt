@@ -1,3 +1,4 @@
+-- None of this belongs to what the program promises: it is for contracts between crates.
 -- The lines of layouts and children behind their first word, and what digits write, for the parts of the reader. No
 -- public contract cites these.
 use Rattle.std.specs.Prelude.{ℕ, ◌+◌, ◌*◌, ◌%◌, ◌==◌, nat_lt, get_or, cond, Bool, true, false, List, [], ◌∷◌, ◌++◌}

@@ -1,3 +1,4 @@
+-- None of this belongs to what the program promises: it is for contracts between crates.
 -- Instructions by their words, for the parts of the reader. No public contract cites these.
 use Rattle.std.specs.Prelude.{ℕ, pos, List, [], ◌∷◌, Option, find}
 use Rattle.std.specs.Str.{bytes_eq}

@@ -1,3 +1,4 @@
+-- Some of this belongs to what the program promises (docs/promise.txt).
 -- What `verify` answers: the contract of the verifier. It says both that the answer is right and that there is no
 -- other.
 use Rattle.std.specs.Prelude.{◌≡◌, ℕ, ◌<◌, Result, Ok, Err}

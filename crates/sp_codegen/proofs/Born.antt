@@ -1,5 +1,7 @@
 -- The children of a fork: where the code of each begins, its place in the tree, and the indexes that it is handed.
-use Rattle.std.proofs.Common.{◌≡◌, inl, inr, ⊎_elim, ℕ, zero, suc, ◌+◌, ◌≤◌, ◌==◌, ℤ, List, [], ◌∷◌, ◌++◌, Option, Some, None, Bool, true, false, if◌then◌else◌, length, refl, sym, ap, ◌∙◌, subst, arith, eqb-true, eq-eqb}
+use Rattle.std.proofs.Common.{◌≡◌, inl, inr, ⊎_elim, ℕ, zero, suc, ◌+◌, ◌≤◌, ◌==◌, ℤ, List, [], ◌∷◌, ◌++◌, Option, Some}
+use Rattle.std.proofs.Common.{None, Bool, true, false, if◌then◌else◌, length, refl, sym, ap, ◌∙◌, subst, arith}
+use Rattle.std.proofs.Common.{eqb-true, eq-eqb}
 use Rattle.std.specs.Prelude.{◌≢◌, ◌+ℤ◌, pos, slice_get}
 use Rattle.std.proofs.lemmas.Option.{same_Some}
 use Rattle.sp_tree.specs.declared.checked.Role.{Role}
@@ -44,58 +46,104 @@ use Rattle.sp_codegen.proofs.Follows.{slides, Follows, push_follows}
 
 -- ---- the code of each child
 
-module _ (p : Program) (moves shares : Stmt → List ℕ) (code : Code) (hush : ℕ → Type 0) (free : Bool) (sc : List Scope) where
+module _ (p : Program) (moves shares : Stmt → List ℕ) (code : Code) (hush : ℕ → Type 0) (free : Bool)
+    (sc : List Scope) where
   abbrev Is : Stmts → ℕ → ℕ → Birth → Type 0
   Is ss q k b = ChildIs p moves shares code hush free sc ss q k b
 
-  pub child_is : (ss : Stmts) (q k : ℕ) (b : Birth) → slice_get (children ss) k ≡ Some b → ChildrenAt p moves shares (Stands code) (HasFork code) (HasWords code) hush free sc q ss → Is ss q k b
+  pub child_is : (ss : Stmts) (q k : ℕ) (b : Birth) → slice_get (children ss) k ≡ Some b
+      → ChildrenAt p moves shares (Stands code) (HasFork code) (HasWords code) hush free sc q ss → Is ss q k b
   child_is No q k b e h = absurd (cc e)
-  child_is (And st rest) q zero b e h = record { statement = st; entry = q; table = refl; birth = sym (cc e); body = h.0; end = h.1; inside = λ u. inl }
+  child_is (And st rest) q zero b e h = record {
+    statement = st;
+    entry = q;
+    table = refl;
+    birth = sym (cc e);
+    body = h.0;
+    end = h.1;
+    inside = λ u. inl;
+  }
   child_is (And st rest) q (suc k) b e h =
       let z = child_is rest (after p q st + 1) k b e h.2 in
-      record { statement = z.statement; entry = z.entry; table = z.table; birth = z.birth; body = z.body; end = z.end; inside = λ u a. inr (z.inside u a) }
+      record {
+        statement = z.statement;
+        entry = z.entry;
+        table = z.table;
+        birth = z.birth;
+        body = z.body;
+        end = z.end;
+        inside = λ u a. inr (z.inside u a);
+      }
 
 -- the table of a child of a parallel
-pub table_at : (p : Program) (moves shares : Stmt → List ℕ) (ss : Stmts) (q k : ℕ) → child_at (record { children = children_tables p moves shares q ss }) k ≡ slice_get (children_tables p moves shares q ss) k
+pub table_at : (p : Program) (moves shares : Stmt → List ℕ) (ss : Stmts) (q k : ℕ)
+    → child_at (record { children = children_tables p moves shares q ss }) k
+    ≡ slice_get (children_tables p moves shares q ss) k
 table_at p moves shares No q k = refl
 table_at p moves shares (And st rest) q k = refl
 
 -- child k of a forall
-pub indexed_is : (x : ℕ) (st : Stmt) (low : ℤ) (n k : ℕ) (b : Birth) → slice_get (indexed_children x st low n) k ≡ Some b → b ≡ record { todo = push st []; index = Some (x, low +ℤ pos k) }
+pub indexed_is : (x : ℕ) (st : Stmt) (low : ℤ) (n k : ℕ) (b : Birth)
+    → slice_get (indexed_children x st low n) k ≡ Some b
+    → b ≡ record { todo = push st []; index = Some (x, low +ℤ pos k) }
 indexed_is x st low zero k b e = absurd (cc e)
-indexed_is x st low (suc n) zero b e = sym (cc e) ∙ ap (λ z. record { todo = push st []; index = Some (x, z) }) (nothing low)
+indexed_is x st low (suc n) zero b e = sym (cc e)
+    ∙ ap (λ z. record { todo = push st []; index = Some (x, z) }) (nothing low)
   where
     nothing : (a : ℤ) → a ≡ a +ℤ pos 0
     nothing a = Prim.grind arith
-indexed_is x st low (suc n) (suc k) b e = indexed_is x st (low +ℤ pos 1) n k b e ∙ ap (λ z. record { todo = push st []; index = Some (x, z) }) (one_on low k)
+indexed_is x st low (suc n) (suc k) b e = indexed_is x st (low +ℤ pos 1) n k b e
+    ∙ ap (λ z. record { todo = push st []; index = Some (x, z) }) (one_on low k)
   where
     one_on : (a : ℤ) (k : ℕ) → (a +ℤ pos 1) +ℤ pos k ≡ a +ℤ pos (suc k)
     one_on a k = Prim.grind arith
 
 -- ---- its place
 
-module _ (g : Setting) (W R : Loc → Type 0) (J : ℕ → Type 0) (sc : List Scope) (js : List Joint) (V T : Loc → Type 0) (st : Stmt) (aims : (l : Loc) → Aimed g.program (sources js) st l → V l) (uses : (l : Loc) → Used g.program (sources js) st l → T l) where
-  pub child_placed : (ss : Stmts) → Placed g W R J sc js (In_stmt (Parallel ss)) → ((u : Use) → In_stmt st u → In_stmts ss u) → Placed g V T (Seen sc js st) sc js (In_stmt st)
+module _ (g : Setting) (W R : Loc → Type 0) (J : ℕ → Type 0) (sc : List Scope) (js : List Joint) (V T : Loc → Type 0)
+    (st : Stmt) (aims : (l : Loc) → Aimed g.program (sources js) st l → V l)
+    (uses : (l : Loc) → Used g.program (sources js) st l → T l) where
+  pub child_placed : (ss : Stmts) → Placed g W R J sc js (In_stmt (Parallel ss))
+      → ((u : Use) → In_stmt st u → In_stmts ss u) → Placed g V T (Seen sc js st) sc js (In_stmt st)
   child_placed ss pl inside = record {
     chain = pl.chain;
     linked = pl.linked;
-    sound = child_sound g.program W R V T (sources js) [] None st (part (λ u a. inr (inl (inside u a))) pl.sound) aims uses;
+    sound = child_sound g.program W R V T (sources js) [] None st (part (λ u a. inr (inl (inside u a))) pl.sound) aims
+        uses;
     formed = λ u a. pl.formed u (inr (inl (inside u a)));
     indexes = λ x up a l j rest e. (x, up, a, l, (j, rest, e, refl));
   }
 
-  pub index_child_placed : (x : ℕ) (from1 to : Expr) → x ≢ 1 → Placed g W R J sc js (In_stmt (Forall x from1 to st)) → (q : Name) (v : ℤ) (jx : Joint) → jx.source ≡ record { owner = q; number = length js; home = OfIndex x v; link = length js; references = [] }
+  pub index_child_placed : (x : ℕ) (from1 to : Expr) → x ≢ 1 → Placed g W R J sc js (In_stmt (Forall x from1 to st))
+      → (q : Name) (v : ℤ) (jx : Joint) → jx.source
+      ≡ record { owner = q; number = length js; home = OfIndex x v; link = length js; references = [] }
       → Placed g V T (Seen (s.OfIndex x ∷ sc) (jx ∷ js) st) (s.OfIndex x ∷ sc) (jx ∷ js) (In_stmt st)
   index_child_placed x from1 to input pl q v jx e = record {
-    chain = (jx, js, refl, subst (λ z. HomeIs (s.OfIndex x) z) (sym (ap (λ (f : Frame). f.home) e)) refl, subst (λ z. Chain sc z) (sym (ap (λ (f : Frame). from f.link js) e ∙ from_all js)) pl.chain);
-    linked = subst (λ z. Linked (z ∷ sources js)) (sym new) (index_linked g.program (sources js) q (Some (x, v)) pl.linked);
-    sound = subst (λ z. Sound g.program V T (z ∷ sources js) (In_stmt st)) (sym new) (child_sound g.program W R V T (sources js) q (Some (x, v)) st (element_sound x from1 to st pl.sound) aims uses);
+    chain = (
+      jx,
+      js,
+      refl,
+      subst (λ z. HomeIs (s.OfIndex x) z) (sym (ap (λ (f : Frame). f.home) e)) refl,
+      subst (λ z. Chain sc z) (sym (ap (λ (f : Frame). from f.link js) e ∙ from_all js)) pl.chain,
+    );
+    linked = subst (λ z. Linked (z ∷ sources js)) (sym new)
+        (index_linked g.program (sources js) q (Some (x, v)) pl.linked);
+    sound = subst (λ z. Sound g.program V T (z ∷ sources js) (In_stmt st)) (sym new)
+        (child_sound g.program W R V T (sources js) q (Some (x, v)) st (element_sound x from1 to st pl.sound) aims
+        uses);
     formed = λ u a. formed_by u a;
     indexes = λ y up a l j rest u. (y, up, a, l, (j, rest, u, refl));
   }
     where
-      new : jx.source ≡ record { owner = q; number = length (sources js); home = OfIndex x v; link = length (sources js); references = [] }
-      new = e ∙ ap (λ z. record { owner = q; number = z; home = OfIndex x v; link = z; references = [] }) (sym (sources_length js))
+      new : jx.source ≡ record {
+        owner = q;
+        number = length (sources js);
+        home = OfIndex x v;
+        link = length (sources js);
+        references = [];
+      }
+      new = e ∙ ap (λ z. record { owner = q; number = z; home = OfIndex x v; link = z; references = [] })
+          (sym (sources_length js))
 
       -- it has no target, and its index is not the output
       formed_by : (u : Use) → In_stmt st u → IsFormedUse g.program u
@@ -104,7 +152,8 @@ module _ (g : Setting) (W R : Loc → Type 0) (J : ℕ → Type 0) (sc : List Sc
         where
           go : (b : Bool) → x == y ≡ b → y ≢ 1
           go true f = λ h. input (eqb-true x y f ∙ h)
-          go false f = pl.formed (use_of.Seen y) (inr (inr (inr (inl (a, λ h. (let bad : false ≡ true = sym f ∙ eq-eqb x y h in absurd (cc bad)))))))
+          go false f = pl.formed (use_of.Seen y)
+              (inr (inr (inr (inl (a, λ h. (let bad : false ≡ true = sym f ∙ eq-eqb x y h in absurd (cc bad)))))))
       formed_by (CallOf b args) a = pl.formed (CallOf b args) (inr (inr (inr (inl (a, tt)))))
       formed_by (ParallelOf ss) a = pl.formed (ParallelOf ss) (inr (inr (inr (inl (a, tt)))))
       formed_by (ForallOf y s) a = pl.formed (ForallOf y s) (inr (inr (inr (inl (a, tt)))))
@@ -116,7 +165,8 @@ module _ {M : Type 0} (ex : Execution M) where
   open ex use {setting as g, code, moves, shares, Quiet as hush, Writes as W, IsReadable as R, Indexes as J}
 
   -- a child's code is that of its statement, and then comes its end
-  pub child_follows : (st : Stmt) (sc : List Scope) (entry : ℕ) (moved shared : List ℕ) (index : Option ℕ) (js : List Joint) → Placed g W R J sc js (In_stmt st)
+  pub child_follows : (st : Stmt) (sc : List Scope) (entry : ℕ) (moved shared : List ℕ) (index : Option ℕ)
+      (js : List Joint) → Placed g W R J sc js (In_stmt st)
       → StandsAt g.program moves shares (Stands code) (HasFork code) (HasWords code) hush true sc entry st
       → Follows ex (after g.program entry st) [] js entry [] js (push st [])
   child_follows st sc entry moved shared index js pl h =
@@ -124,12 +174,15 @@ module _ {M : Type 0} (ex : Execution M) where
 
 -- ---- indexes
 
-module _ (p : Program) (formed : IsFormed p) (ls : List Layout) (laid : Laid p ls) (Called : Name → ℕ → Type 0) (x : ℕ) (v : Variable) (ev : slice_get p.variables x ≡ Some v) (iv : v.role ≡ role.Index) where
-  not_among : (fits : Role → Bool) → fits role.Index ≡ false → (xs : List (ℕ × Variable)) → AreKnown p formed xs → IsMember x (among fits xs) → ⊥
+module _ (p : Program) (formed : IsFormed p) (ls : List Layout) (laid : Laid p ls) (Called : Name → ℕ → Type 0) (x : ℕ)
+    (v : Variable) (ev : slice_get p.variables x ≡ Some v) (iv : v.role ≡ role.Index) where
+  not_among : (fits : Role → Bool) → fits role.Index ≡ false → (xs : List (ℕ × Variable)) → AreKnown p formed xs
+      → IsMember x (among fits xs) → ⊥
   not_among fits f [] k h = h
   not_among fits f (y ∷ ys) k h = go (fits y.1.role) refl (not_among fits f ys k.1) h
     where
-      go : (c : Bool) → fits y.1.role ≡ c → (IsMember x (among fits ys) → ⊥) → IsMember x (if c then y.0 ∷ among fits ys else among fits ys) → ⊥
+      go : (c : Bool) → fits y.1.role ≡ c → (IsMember x (among fits ys) → ⊥)
+          → IsMember x (if c then y.0 ∷ among fits ys else among fits ys) → ⊥
       go true e ih (inl a) =
           let vy : v ≡ y.1 = same_Some v y.1 (sym ev ∙ ap (λ z. slice_get p.variables z) a ∙ k.0) in
           let bad : false ≡ true = sym f ∙ ap fits (sym iv ∙ ap (λ (z : Variable). z.role) vy) ∙ e in
@@ -140,20 +193,26 @@ module _ (p : Program) (formed : IsFormed p) (ls : List Layout) (laid : Laid p l
   not_in_frame : (f : ℕ) (b : Block) → slice_get p.blocks f ≡ Some b → IsMember x (frame_of p f) → ⊥
   not_in_frame f b e h = ⊎_elim
       (λ (a : IsMember x (b.formals ++ as_list b.answer)). ⊎_elim
-      (λ (c : IsMember x b.formals). not_among is_parameter refl vs (are_known p formed f) (subst (λ z. IsMember x z) (formed.formals f b e) c))
-      (λ (c : IsMember x (as_list b.answer)). not_among is_answer refl vs (are_known p formed f) (subst (λ z. IsMember x z) (formed.answers f b e) c))
+      (λ (c : IsMember x b.formals). not_among is_parameter refl vs (are_known p formed f)
+      (subst (λ z. IsMember x z) (formed.formals f b e) c))
+      (λ (c : IsMember x (as_list b.answer)). not_among is_answer refl vs (are_known p formed f)
+      (subst (λ z. IsMember x z) (formed.answers f b e) c))
       (in_either x b.formals (as_list b.answer) a))
       (λ (a : IsMember x (among is_local vs)). not_among is_local refl vs (are_known p formed f) a)
-      (in_either x (b.formals ++ as_list b.answer) (among is_local vs) (subst (λ z. IsMember x z) (frame_is p formed f b e) h))
+      (in_either x (b.formals ++ as_list b.answer) (among is_local vs)
+      (subst (λ z. IsMember x z) (frame_is p formed f b e) h))
     where
       vs : List (ℕ × Variable)
       vs = variables_of f 0 p.variables
 
-  pub index_spot : (sc : List Scope) (n : ℕ) (js : List Joint) → Chain sc js → Paired p Called js → length js ≤ n → (up : ℕ) → level (is_index x) sc ≡ Some up → (j : Joint) (rest : List Joint) → up_at up js ≡ j ∷ rest → spot_from ls n (machines js) x ≡ Some (spot_at j.machine.number 0)
+  pub index_spot : (sc : List Scope) (n : ℕ) (js : List Joint) → Chain sc js → Paired p Called js → length js ≤ n
+      → (up : ℕ) → level (is_index x) sc ≡ Some up → (j : Joint) (rest : List Joint) → up_at up js ≡ j ∷ rest
+      → spot_from ls n (machines js) x ≡ Some (spot_at j.machine.number 0)
   index_spot [] n js ch pa l up e j rest u = absurd (cc e)
   index_spot (sp ∷ sc) n [] ch pa l up e j rest u = let z : [] ≡ ch.0 ∷ ch.1 = ch.2 in absurd (cc z)
   index_spot (sp ∷ sc) zero (k ∷ js) ch pa l up e j rest u = absurd (omega (arith, l))
-  index_spot (sp ∷ sc) (suc n) (k ∷ js) ch pa l up e j rest u = by_test (λ z d a b c f g. index_spot sc n z d a b c f j rest g) (is_index x sp) refl e
+  index_spot (sp ∷ sc) (suc n) (k ∷ js) ch pa l up e j rest u =
+      by_test (λ z d a b c f g. index_spot sc n z d a b c f j rest g) (is_index x sp) refl e
     where
       same : (k ≡ ch.0) × (js ≡ ch.1)
       same = (ap (λ z. a_joint z) ch.2, ap (λ z. rest_of z) ch.2)
@@ -170,13 +229,15 @@ module _ (p : Program) (formed : IsFormed p) (ls : List Layout) (laid : Laid p l
       home = subst (λ (z : Joint). HomeIs sp z.source.home) (sym same.0) ch.3
 
       outward : Chain sc (from k.source.link js)
-      outward = subst (λ z. Chain sc (from k.source.link z)) (sym same.1) (subst (λ (z : Joint). Chain sc (from z.source.link ch.1)) (sym same.0) ch.4)
+      outward = subst (λ z. Chain sc (from k.source.link z)) (sym same.1)
+          (subst (λ (z : Joint). Chain sc (from z.source.link ch.1)) (sym same.0) ch.4)
 
       outer : Option Spot
       outer = spot_from ls n (last_frames k.machine.link (machines js)) x
 
       outer_is : outer ≡ spot_from ls n (machines (from k.source.link js)) x
-      outer_is = ap (λ z. spot_from ls n (last_frames z (machines js)) x) (sym pa.1) ∙ ap (λ z. spot_from ls n z x) (last_machines k.source.link js pa.2)
+      outer_is = ap (λ z. spot_from ls n (last_frames z (machines js)) x) (sym pa.1)
+          ∙ ap (λ z. spot_from ls n z x) (last_machines k.source.link js pa.2)
 
       shorter : (a : ℕ) (is : List Joint) → length (from a is) ≤ length is
       shorter a [] = omega arith
@@ -186,32 +247,48 @@ module _ (p : Program) (formed : IsFormed p) (ls : List Layout) (laid : Laid p l
           go true h = omega arith
           go false h = omega (arith, h)
 
-      here : (t : Scope) (a : Home) (c : m.Home) → HomeIs t a → HomesAre p a c → is_index x t ≡ true → spot_in ls k.machine c x ≡ Some (spot_at k.machine.number 0)
+      here : (t : Scope) (a : Home) (c : m.Home) → HomeIs t a → HomesAre p a c → is_index x t ≡ true
+          → spot_in ls k.machine c x ≡ Some (spot_at k.machine.number 0)
       here (s.OfBlock b) a c hi ho t = absurd (cc t)
       here (s.OfIndex y) (OfBlock b) c hi ho t = absurd hi
       here (s.OfIndex y) (OfIndex z w) (m.OfBlock c) hi ho t = absurd ho
-      here (s.OfIndex y) (OfIndex z w) (m.OfIndex c) hi ho t = ap (λ b. if b then Some (record { frame = k.machine.number; variable = 0 }) else None) (eq-eqb x c (eqb-true x y t ∙ hi ∙ ho.0))
+      here (s.OfIndex y) (OfIndex z w) (m.OfIndex c) hi ho t =
+          ap (λ b. if b then Some (record { frame = k.machine.number; variable = 0 }) else None)
+          (eq-eqb x c (eqb-true x y t ∙ hi ∙ ho.0))
 
-      not_here : (t : Scope) (a : Home) (c : m.Home) → HomeIs t a → HomesAre p a c → is_index x t ≡ false → spot_in ls k.machine c x ≡ None
-      not_here t (OfBlock a) (m.OfBlock c) hi ho f = spot_no_frame p formed ls laid k.machine c ho.1.0 x (ap (λ z. slice_get p.blocks z) (sym ho.0) ∙ ho.1.1) (not_in_frame c ho.1.0 (ap (λ z. slice_get p.blocks z) (sym ho.0) ∙ ho.1.1))
+      not_here : (t : Scope) (a : Home) (c : m.Home) → HomeIs t a → HomesAre p a c → is_index x t ≡ false
+          → spot_in ls k.machine c x ≡ None
+      not_here t (OfBlock a) (m.OfBlock c) hi ho f =
+          spot_no_frame p formed ls laid k.machine c ho.1.0 x (ap (λ z. slice_get p.blocks z) (sym ho.0) ∙ ho.1.1)
+          (not_in_frame c ho.1.0 (ap (λ z. slice_get p.blocks z) (sym ho.0) ∙ ho.1.1))
       not_here t (OfBlock a) (m.OfIndex c) hi ho f = absurd ho
       not_here t (OfIndex z w) (m.OfBlock c) hi ho f = absurd ho
       not_here (s.OfBlock b) (OfIndex z w) (m.OfIndex c) hi ho f = absurd hi
-      not_here (s.OfIndex y) (OfIndex z w) (m.OfIndex c) hi ho f = ap (λ b. if b then Some (record { frame = k.machine.number; variable = 0 }) else None) (is_other x c (λ d. let bad : false ≡ true = sym f ∙ eq-eqb x y (d ∙ sym (hi ∙ ho.0)) in absurd (cc bad)))
+      not_here (s.OfIndex y) (OfIndex z w) (m.OfIndex c) hi ho f =
+          ap (λ b. if b then Some (record { frame = k.machine.number; variable = 0 }) else None)
+          (is_other x c (λ d. let bad : false ≡ true = sym f ∙ eq-eqb x y (d ∙ sym (hi ∙ ho.0)) in absurd (cc bad)))
 
-      by_test : ((z : List Joint) → Chain sc z → Paired p Called z → length z ≤ n → (a : ℕ) → level (is_index x) sc ≡ Some a → up_at a z ≡ j ∷ rest → spot_from ls n (machines z) x ≡ Some (spot_at j.machine.number 0)) → (b : Bool) → is_index x sp ≡ b → (if b then Some 0 else one_more (level (is_index x) sc)) ≡ Some up → or_outward (spot_in ls k.machine k.machine.home x) outer ≡ Some (spot_at j.machine.number 0)
+      by_test : ((z : List Joint) → Chain sc z → Paired p Called z → length z ≤ n → (a : ℕ)
+          → level (is_index x) sc ≡ Some a → up_at a z ≡ j ∷ rest
+          → spot_from ls n (machines z) x ≡ Some (spot_at j.machine.number 0)) → (b : Bool) → is_index x sp ≡ b
+          → (if b then Some 0 else one_more (level (is_index x) sc)) ≡ Some up
+          → or_outward (spot_in ls k.machine k.machine.home x) outer ≡ Some (spot_at j.machine.number 0)
       by_test ih true t d =
           let zero_up : 0 ≡ up = cc d in
           let kj : k ∷ js ≡ j ∷ rest = ap (λ z. up_at z (k ∷ js)) zero_up ∙ u in
-          ap (λ z. or_outward z outer) (here sp k.source.home k.machine.home home pa.0 t) ∙ ap (λ (z : Joint). Some (spot_at z.machine.number 0)) (first_of kj)
+          ap (λ z. or_outward z outer) (here sp k.source.home k.machine.home home pa.0 t)
+          ∙ ap (λ (z : Joint). Some (spot_at z.machine.number 0)) (first_of kj)
         where
           first_of : k ∷ js ≡ j ∷ rest → k ≡ j
           first_of e = cc e
-      by_test ih false t d = ap (λ z. or_outward z outer) (not_here sp k.source.home k.machine.home home pa.0 t) ∙ outer_is ∙ further (level (is_index x) sc) refl d
+      by_test ih false t d = ap (λ z. or_outward z outer) (not_here sp k.source.home k.machine.home home pa.0 t)
+          ∙ outer_is ∙ further (level (is_index x) sc) refl d
         where
-          further : (o : Option ℕ) → level (is_index x) sc ≡ o → one_more o ≡ Some up → spot_from ls n (machines (from k.source.link js)) x ≡ Some (spot_at j.machine.number 0)
+          further : (o : Option ℕ) → level (is_index x) sc ≡ o → one_more o ≡ Some up
+              → spot_from ls n (machines (from k.source.link js)) x ≡ Some (spot_at j.machine.number 0)
           further None f d = absurd (cc d)
           further (Some a) f d =
               let above : suc a ≡ up = cc d in
               let sh = shorter k.source.link js in
-              ih (from k.source.link js) outward (paired_from p Called k.source.link js pa.6) (omega (arith, l, sh)) a f (ap (λ z. up_at z (k ∷ js)) above ∙ u)
+              ih (from k.source.link js) outward (paired_from p Called k.source.link js pa.6) (omega (arith, l, sh)) a f
+              (ap (λ z. up_at z (k ∷ js)) above ∙ u)

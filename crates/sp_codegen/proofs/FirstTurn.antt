@@ -35,11 +35,17 @@ use Rattle.sp_codegen.proofs.Follows.{push_follows, slides}
 use Rattle.sp_codegen.proofs.Turn.{Turned, turn_meets}
 use Rattle.sp_codegen.proofs.Root.{NoChannel, IsFirst, NoIndexes, W, who, j0, root_stands, root_placed}
 
-pub laid_of : (p : Program) (code : Code) (moves shares : Stmt → List ℕ) (hush : ℕ → Type 0) → BlocksAt p moves shares code hush → ((f : ℕ) (l : Layout) → slice_get code.layouts f ≡ Some l → layout_of code.layouts f ≡ Some l) → Laid p code.layouts
+pub laid_of : (p : Program) (code : Code) (moves shares : Stmt → List ℕ) (hush : ℕ → Type 0)
+    → BlocksAt p moves shares code hush → ((f : ℕ) (l : Layout) → slice_get code.layouts f ≡ Some l
+    → layout_of code.layouts f ≡ Some l) → Laid p code.layouts
 laid_of p code moves shares hush blocks finds f b e = let z = blocks f b e in (z.layout, finds f z.layout z.at, z.is)
 
-module _ (g : Setting) (code : Code) (formed : IsFormed g.program) (types : HasSmallTypes g.program) (b : Block) (eb : slice_get g.program.blocks 0 ≡ Some b) (pause : ℕ) (moves shares : Stmt → List ℕ) (hush : ℕ → Type 0) (free : IsFreeOfInterference g.program)
-    (finds : (f : ℕ) (l : Layout) → slice_get code.layouts f ≡ Some l → layout_of code.layouts f ≡ Some l) (blocks : BlocksAt g.program moves shares code hush) (small : g.limits.depth ≤ 4294967295) (fits : size_of_frame g 0 ≤ g.limits.cells) where
+module _ (g : Setting) (code : Code) (formed : IsFormed g.program) (types : HasSmallTypes g.program) (b : Block)
+    (eb : slice_get g.program.blocks 0 ≡ Some b) (pause : ℕ) (moves shares : Stmt → List ℕ) (hush : ℕ → Type 0)
+    (free : IsFreeOfInterference g.program)
+    (finds : (f : ℕ) (l : Layout) → slice_get code.layouts f ≡ Some l → layout_of code.layouts f ≡ Some l)
+    (blocks : BlocksAt g.program moves shares code hush) (small : g.limits.depth ≤ 4294967295)
+    (fits : size_of_frame g 0 ≤ g.limits.cells) where
   abbrev p : Program
   p = g.program
 
@@ -52,8 +58,10 @@ module _ (g : Setting) (code : Code) (formed : IsFormed g.program) (types : HasS
   abbrev V : Loc → Type 0
   V l = W g code formed laid b eb pause NoChannel IsFirst (refl, refl) l
 
-  law : Keeps g w (due_after 0 pause) V V NoIndexes (memory plain (code_run g code pause)) (relation g code w NoChannel IsFirst V V NoIndexes 1 1 0 0 pause [])
-  law = instance g code w NoChannel IsFirst V V NoIndexes 1 1 0 0 pause [] formed types laid (omega arith) (λ n x. inl refl) (omega (arith, small)) (λ c d i j h k. absurd h)
+  law : Keeps g w (due_after 0 pause) V V NoIndexes (memory plain (code_run g code pause))
+      (relation g code w NoChannel IsFirst V V NoIndexes 1 1 0 0 pause [])
+  law = instance g code w NoChannel IsFirst V V NoIndexes 1 1 0 0 pause [] formed types laid (omega arith)
+      (λ n x. inl refl) (omega (arith, small)) (λ c d i j h k. absurd h)
 
   abbrev execution : Execution (Memory Plain)
   execution = record {
@@ -84,7 +92,9 @@ module _ (g : Setting) (code : Code) (formed : IsFormed g.program) (types : HasS
   js = j0 g code formed laid b eb pause NoChannel IsFirst (refl, refl) ∷ []
 
   -- a turn that begins and runs so
-  turn_by : (c : Config (Memory Plain)) (t : Turn (Memory Plain)) → begins (memory plain (code_run g code pause)) code c ≡ true → Runs (memory plain (code_run g code pause)) code c t → IsTurn (memory plain (code_run g code pause)) code c t
+  turn_by : (c : Config (Memory Plain)) (t : Turn (Memory Plain))
+      → begins (memory plain (code_run g code pause)) code c ≡ true
+      → Runs (memory plain (code_run g code pause)) code c t → IsTurn (memory plain (code_run g code pause)) code c t
   turn_by c t e r = subst (λ z. Begins z c t (Runs (memory plain (code_run g code pause)) code c t)) (sym e) r
 
   entry_is : entry_of plain (code_run g code pause) (layout_of code.layouts 0) ≡ layout.layout.entry
@@ -99,32 +109,74 @@ module _ (g : Setting) (code : Code) (formed : IsFormed g.program) (types : HasS
   turned : (k : ℕ) → Turned execution (At layout.layout.entry [] n0) end [] js
       (run (source.turn g (due_after 0 pause) k (push b.body [])) w (root g).own (first_store g))
   turned k = turn_meets execution
-      blocks end [] js layout.stands.end refl k (push b.body []) layout.layout.entry [] js (root g).own (first_store g) n0 (root_stands g code formed laid b eb pause NoChannel IsFirst (refl, refl) fits)
+      blocks end [] js layout.stands.end refl k (push b.body []) layout.layout.entry [] js (root g).own (first_store g)
+      n0 (root_stands g code formed laid b eb pause NoChannel IsFirst (refl, refl) fits)
       (push_follows execution
-      b.body end [] js (scopes_of p 0) layout.layout.entry [] js [] (root_placed g code formed laid b eb pause NoChannel IsFirst (refl, refl) free) (layout.stands.body true tt)
+      b.body end [] js (scopes_of p 0) layout.layout.entry [] js []
+      (root_placed g code formed laid b eb pause NoChannel IsFirst (refl, refl) free) (layout.stands.body true tt)
       (slides execution end [], refl, refl))
 
   fits_first : (memory plain (code_run g code pause)).fits n0 ≡ true
   fits_first = law.fits (root_stands g code formed laid b eb pause NoChannel IsFirst (refl, refl) fits)
 
-  by_outcome : (r : Came source.Stop × Store) → Turned execution (At layout.layout.entry [] n0) end [] js r → EndsAlike (code_run g code pause) (At layout.layout.entry [] n0) r
-  by_outcome (Got (source.Paused todo) o, s) q = (At q.0 q.1 q.2, turn_by (At layout.layout.entry [] n0) (Stopped Pauses (At q.0 q.1 q.2)) fits_first (q.4, q.5, q.6))
+  by_outcome : (r : Came source.Stop × Store) → Turned execution (At layout.layout.entry [] n0) end [] js r
+      → EndsAlike (code_run g code pause) (At layout.layout.entry [] n0) r
+  by_outcome (Got (source.Paused todo) o, s) q = (
+    At q.0 q.1 q.2,
+    turn_by (At layout.layout.entry [] n0) (Stopped Pauses (At q.0 q.1 q.2)) fits_first
+        (q.4, q.5, q.6),
+  )
   by_outcome (Got (source.Stops (Stepped todo)) o, s) q = tt
   by_outcome (Got (source.Stops (Ticked todo)) o, s) q = tt
-  by_outcome (Got (source.Stops (Opened todo)) o, s) q = (q.6, At q.0 q.1 q.2, turn_by (At layout.layout.entry [] n0) (Stopped (Opens q.6) (At q.0 q.1 q.2)) fits_first (q.4, q.8, q.9))
-  by_outcome (Got (source.Stops (Forked bs todo)) o, s) q = (q.5, At q.0 q.1 q.2, turn_by (At layout.layout.entry [] n0) (Stopped q.5 (At q.0 q.1 q.2)) fits_first (q.4, q.6, q.7))
-  by_outcome (Got (source.Stops (Offered c x cg todo)) o, s) q = (q.5, At q.0 q.1 q.2, turn_by (At layout.layout.entry [] n0) (Stopped q.5 (At q.0 q.1 q.2)) fits_first (q.4, q.6, q.7))
-  by_outcome (Got (source.Stops deeds.Ended) o, s) q = (At q.0 q.1 q.2, turn_by (At layout.layout.entry [] n0) (Stopped Ended (At q.0 q.1 q.2)) fits_first (At q.0 q.1 q.2, q.4, q.5))
-  by_outcome (Bad f, s) q = (q.at, turn_by (At layout.layout.entry [] n0) (Faulted f q.at) fits_first (q.at, q.comes, (q.fails, refl)))
+  by_outcome (Got (source.Stops (Opened todo)) o, s) q = (
+    q.6,
+    At q.0 q.1 q.2,
+    turn_by (At layout.layout.entry [] n0) (Stopped (Opens q.6) (At q.0 q.1 q.2)) fits_first
+        (q.4, q.8, q.9),
+  )
+  by_outcome (Got (source.Stops (Forked bs todo)) o, s) q = (
+    q.5,
+    At q.0 q.1 q.2,
+    turn_by (At layout.layout.entry [] n0) (Stopped q.5 (At q.0 q.1 q.2)) fits_first
+        (q.4, q.6, q.7),
+  )
+  by_outcome (Got (source.Stops (Offered c x cg todo)) o, s) q = (
+    q.5,
+    At q.0 q.1 q.2,
+    turn_by (At layout.layout.entry [] n0) (Stopped q.5 (At q.0 q.1 q.2)) fits_first
+        (q.4, q.6, q.7),
+  )
+  by_outcome (Got (source.Stops deeds.Ended) o, s) q = (
+    At q.0 q.1 q.2,
+    turn_by (At layout.layout.entry [] n0) (Stopped Ended (At q.0 q.1 q.2)) fits_first
+        (At q.0 q.1 q.2, q.4, q.5),
+  )
+  by_outcome (Bad f, s) q = (
+    q.at,
+    turn_by (At layout.layout.entry [] n0) (Faulted f q.at) fits_first
+        (q.at, q.comes, (q.fails, refl)),
+  )
   by_outcome (Lost, s) q = q
   by_outcome (Long, s) q = tt
 
-  pub first_turn : (k : ℕ) → EndsAlike (code_run g code pause) (first plain (code_run g code pause)) (run (source.turn g (due_after 0 pause) k (push b.body [])) w (root g).own (first_store g))
-  first_turn k = subst (λ z. EndsAlike (code_run g code pause) (At z [] n0) (run (source.turn g (due_after 0 pause) k (push b.body [])) w (root g).own (first_store g))) (sym entry_is) (by_outcome (run (source.turn g (due_after 0 pause) k (push b.body [])) w (root g).own (first_store g)) (turned k))
+  pub first_turn : (k : ℕ) → EndsAlike (code_run g code pause) (first plain (code_run g code pause))
+      (run (source.turn g (due_after 0 pause) k (push b.body [])) w (root g).own (first_store g))
+  first_turn k = subst (λ z. EndsAlike (code_run g code pause) (At z [] n0)
+      (run (source.turn g (due_after 0 pause) k (push b.body [])) w (root g).own (first_store g))) (sym entry_is)
+      (by_outcome (run (source.turn g (due_after 0 pause) k (push b.body [])) w (root g).own (first_store g))
+      (turned k))
 
 -- for the code of every tree whose blocks keep the rules
-pub first_turn_of_tree : (g : Setting) (moves shares : Stmt → List ℕ) (pause k : ℕ) (b : Block) → IsFormed g.program → HasSmallTypes g.program → IsFreeOfInterference g.program → ((f q : ℕ) (b : Block) → slice_get g.program.blocks f ≡ Some b → IsFine g.program moves shares (IsQuiet g.program) f q b)
+pub first_turn_of_tree : (g : Setting) (moves shares : Stmt → List ℕ) (pause k : ℕ) (b : Block) → IsFormed g.program
+    → HasSmallTypes g.program → IsFreeOfInterference g.program
+    → ((f q : ℕ) (b : Block) → slice_get g.program.blocks f ≡ Some b
+    → IsFine g.program moves shares (IsQuiet g.program) f q b)
     → slice_get g.program.blocks 0 ≡ Some b → g.limits.depth ≤ 4294967295 → size_of_frame g 0 ≤ g.limits.cells
-    → EndsAlike (code_run g (program_code g.program moves shares) pause) (first plain (code_run g (program_code g.program moves shares) pause)) (run (source.turn g (due_after 0 pause) k (push b.body [])) (record { name = []; forks = 0; opens = 0 }) (root g).own (first_store g))
+    → EndsAlike (code_run g (program_code g.program moves shares) pause)
+    (first plain (code_run g (program_code g.program moves shares) pause))
+    (run (source.turn g (due_after 0 pause) k (push b.body [])) (record { name = []; forks = 0; opens = 0 })
+    (root g).own (first_store g))
 first_turn_of_tree g moves shares pause k b formed types free fine eb small fits =
-    first_turn g (program_code g.program moves shares) formed types b eb pause moves shares (IsQuiet g.program) free (λ f l e. layout_found g.program f l e) (blocks_stand g.program moves shares (IsQuiet g.program) fine) small fits k
+    first_turn g (program_code g.program moves shares) formed types b eb pause moves shares (IsQuiet g.program) free
+    (λ f l e. layout_found g.program f l e) (blocks_stand g.program moves shares (IsQuiet g.program) fine) small
+    fits k

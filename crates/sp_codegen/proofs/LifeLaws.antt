@@ -20,7 +20,8 @@ use Rattle.sp_code.specs.Stands.{BlocksAt}
 use Rattle.sp_code.proofs.Blocks.{blocks_stand, layout_found}
 use Rattle.sp_codegen.specs.Following.{Turned}
 use Rattle.sp_codegen.specs.Joints.{Joint}
-use Rattle.sp_codegen.specs.Lives.{IsCompilable, Given, Consoles, Handed, writes_by, reads_by, Life, IsLife, code_of, Writes, IsReadable, due_of, operations_of, Laws, execution_of, IsAt}
+use Rattle.sp_codegen.specs.Lives.{IsCompilable, Given, Consoles, Handed, writes_by, reads_by, Life, IsLife, code_of}
+use Rattle.sp_codegen.specs.Lives.{Writes, IsReadable, due_of, operations_of, Laws, execution_of, IsAt}
 use Rattle.sp_codegen.specs.Meets.{AtEnd}
 use Rattle.sp_codegen.proofs.FirstTurn.{laid_of}
 use Rattle.sp_codegen.proofs.Instance.{instance}
@@ -28,11 +29,13 @@ use Rattle.sp_codegen.proofs.Safe.{turn_finishes, finishes_safe}
 use Rattle.sp_codegen.proofs.Turn.{turn_meets}
 use Rattle.sp_codegen.proofs.TurnsEnd.{Ended, turn_ends}
 
-module _ (g : Setting) (moves shares : Stmt → List ℕ) (pause : ℕ) (life : Life) (tree : IsCompilable g.program moves shares) where
+module _ (g : Setting) (moves shares : Stmt → List ℕ) (pause : ℕ) (life : Life)
+    (tree : IsCompilable g.program moves shares) where
   blocks : BlocksAt g.program moves shares (code_of g moves shares pause life) (IsQuiet g.program)
   blocks = blocks_stand g.program moves shares (IsQuiet g.program) tree.fine
 
-  found : (f : ℕ) (l : Layout) → slice_get (code_of g moves shares pause life).layouts f ≡ Some l → layout_of (code_of g moves shares pause life).layouts f ≡ Some l
+  found : (f : ℕ) (l : Layout) → slice_get (code_of g moves shares pause life).layouts f ≡ Some l
+      → layout_of (code_of g moves shares pause life).layouts f ≡ Some l
   found f l e = layout_found g.program f l e
 
   own_by : (q : Name) (x : Given) (n k : ℕ) → writes_by g.program q x (Cell q n k)
@@ -46,9 +49,15 @@ module _ (g : Setting) (moves shares : Stmt → List ℕ) (pause : ℕ) (life : 
 
   pub operations_keep : IsLife life → g.limits.depth ≤ 4294967295 → Laws g moves shares pause life
   operations_keep h small = record {
-    keeps = instance g (code_of g moves shares pause life) life.who (λ c j. slice_get life.channels j ≡ Some c) (λ q i. slice_get life.processes i ≡ Some q) (λ l. Writes g moves shares pause life l) (λ l. IsReadable g moves shares pause life l)
-        (λ k. Rattle.sp_codegen.specs.Lives.Indexes g moves shares pause life k) life.low life.base life.born life.since pause life.moved tree.formed tree.small (laid_of g.program (code_of g moves shares pause life) moves shares (IsQuiet g.program) blocks found) h.based
-        (λ n x. reads_all life.who.name life.given (Cell life.who.name n x) (own_by life.who.name life.given n x)) (let a = h.low in omega (arith, a, small)) h.channels;
+    keeps = instance g (code_of g moves shares pause life) life.who (λ c j. slice_get life.channels j ≡ Some c)
+        (λ q i. slice_get life.processes i ≡ Some q) (λ l. Writes g moves shares pause life l)
+        (λ l. IsReadable g moves shares pause life l)
+        (λ k. Rattle.sp_codegen.specs.Lives.Indexes g moves shares pause life k) life.low life.base life.born life.since
+        pause life.moved tree.formed tree.small
+        (laid_of g.program (code_of g moves shares pause life) moves shares (IsQuiet g.program) blocks found)
+        h.based
+        (λ n x. reads_all life.who.name life.given (Cell life.who.name n x) (own_by life.who.name life.given n x))
+        (let a = h.low in omega (arith, a, small)) h.channels;
     free = tree.free;
     reads_written = λ l w. reads_all life.who.name life.given l w;
     own_written = λ n x. own_by life.who.name life.given n x;
@@ -56,16 +65,20 @@ module _ (g : Setting) (moves shares : Stmt → List ℕ) (pause : ℕ) (life : 
     layouts_found = found;
   }
 
-  module _ (h : Laws g moves shares pause life) (end : ℕ) (base : List Entry) (below js : List Joint) (todo : List Item) (pc : ℕ) (stack : List Entry) (o : Own) (s : Store) (n : Memory Plain)
+  module _ (h : Laws g moves shares pause life) (end : ℕ) (base : List Entry) (below js : List Joint) (todo : List Item)
+      (pc : ℕ) (stack : List Entry) (o : Own) (s : Store) (n : Memory Plain)
       (it : IsAt g moves shares pause life h end base below js todo pc stack o s n) where
     -- k steps at most
     abbrev result : ℕ → Came source.Stop × Store
     result k = run (source.turn g (due_of g moves shares pause life) k todo) life.who o s
 
-    pub turn_alike : (k : ℕ) → Turned (execution_of g moves shares pause life h) (At pc stack n) end base below (result k)
-    turn_alike k = turn_meets (execution_of g moves shares pause life h) blocks end base below it.ends it.outer k todo pc stack js o s n it.stands it.follows
+    pub turn_alike : (k : ℕ) → Turned (execution_of g moves shares pause life h) (At pc stack n) end base below
+        (result k)
+    turn_alike k = turn_meets (execution_of g moves shares pause life h) blocks end base below it.ends it.outer k todo
+        pc stack js o s n it.stands it.follows
 
-    at_end : (r : Came source.Stop × Store) → Ended g (due_of g moves shares pause life) r → Turned (execution_of g moves shares pause life h) (At pc stack n) end base below r → AtEnd r
+    at_end : (r : Came source.Stop × Store) → Ended g (due_of g moves shares pause life) r
+        → Turned (execution_of g moves shares pause life h) (At pc stack n) end base below r → AtEnd r
     at_end (Got (source.Paused todo) o, m) e t = tt
     at_end (Got (source.Stops (Stepped todo)) o, m) e t = e
     at_end (Got (source.Stops (Ticked todo)) o, m) e t = e
@@ -81,11 +94,15 @@ module _ (g : Setting) (moves shares : Stmt → List ℕ) (pause : ℕ) (life : 
     pub turn_over : AllFit (weight_of g.program) todo → (b : ℕ) × ((k : ℕ) → b < k → AtEnd (result k))
     turn_over light = (
       budget g (weight_of g.program) o.ticks + weights todo,
-      λ k lt. at_end (result k) (turn_ends g (due_of g moves shares pause life) k todo life.who o s light lt) (turn_alike k),
+      λ k lt. at_end (result k) (turn_ends g (due_of g moves shares pause life) k todo life.who o s light lt)
+          (turn_alike k),
     )
 
-    pub turn_safe : AllFit (weight_of g.program) todo → IsSafe (operations_of g moves shares pause life) (code_of g moves shares pause life) (At pc stack n)
+    pub turn_safe : AllFit (weight_of g.program) todo
+        → IsSafe (operations_of g moves shares pause life) (code_of g moves shares pause life) (At pc stack n)
     turn_safe light =
         let over = turn_over light in
         let k = suc over.0 in
-        finishes_safe (operations_of g moves shares pause life) (code_of g moves shares pause life) (At pc stack n) (turn_finishes (execution_of g moves shares pause life h) (At pc stack n) end base below (result k) (turn_alike k) (over.1 k (omega arith)))
+        finishes_safe (operations_of g moves shares pause life) (code_of g moves shares pause life) (At pc stack n)
+        (turn_finishes (execution_of g moves shares pause life h) (At pc stack n) end base below (result k)
+        (turn_alike k) (over.1 k (omega arith)))

@@ -8,9 +8,11 @@ pub within_more : (a b : ℕ) (js : List Joint) → a ≤ b → OwnersWithin a j
 within_more a b [] l h = tt
 within_more a b (j ∷ js) l h = let c = h.0 in (omega (arith, c, l), within_more a b js l h.1)
 
-pub within_at : (a n : ℕ) (js : List Joint) (k : Joint) (rest : List Joint) → OwnersWithin a js → from n js ≡ k ∷ rest → length k.source.owner ≤ a
+pub within_at : (a n : ℕ) (js : List Joint) (k : Joint) (rest : List Joint) → OwnersWithin a js → from n js ≡ k ∷ rest
+    → length k.source.owner ≤ a
 within_at a n [] k rest h e = absurd (cc e)
 within_at a n (j ∷ js) k rest h e = ⊎_elim
-    (λ (c : (n ≡ suc (length js)) × (j ∷ js ≡ k ∷ rest)). (let d : j ≡ k = cc c.1 in subst (λ (z : Joint). length z.source.owner ≤ a) d h.0))
+    (λ (c : (n ≡ suc (length js)) × (j ∷ js ≡ k ∷ rest)).
+    (let d : j ≡ k = cc c.1 in subst (λ (z : Joint). length z.source.owner ≤ a) d h.0))
     (λ (c : from n js ≡ k ∷ rest). within_at a n js k rest h.1 c)
     (from_cases n j js k rest e)

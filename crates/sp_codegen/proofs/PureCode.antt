@@ -2,27 +2,37 @@
 use Rattle.std.proofs.Common.{◌≡◌, ℕ, ◌+◌, List, [], ◌∷◌, Option, Some, None, Bool, true, inl, inr, refl}
 use Rattle.std.specs.Prelude.{slice_get}
 use Rattle.sp_tree.specs.declared.checked.Role.TheVariants as role
-use Rattle.sp_tree.specs.Plain.{Expr, Typed, ExprForm, Number, Read, Unary, Binary, Apply, Standard, AtInput, Var, Entire, Index, Field, Selectors, Whole, Select, ByValue, ByReference, Actuals, Nothing, Pass, Program, Variable, Stmt, Empty, Assign, Call, Sequence, If, IfElse, While, Repeat, For, Case, Parallel, Forall, Assume, ReadValue, ReadLine, WriteValue, WriteText, WriteLine, Open, Send, Receive, Stmts, No, And, On, Arms, NoArm, Or}
+use Rattle.sp_tree.specs.Plain.{Expr, Typed, ExprForm, Number, Read, Unary, Binary, Apply, Standard, AtInput, Var}
+use Rattle.sp_tree.specs.Plain.{Entire, Index, Field, Selectors, Whole, Select, ByValue, ByReference, Actuals, Nothing}
+use Rattle.sp_tree.specs.Plain.{Pass, Program, Variable, Stmt, Empty, Assign, Call, Sequence, If, IfElse, While, Repeat}
+use Rattle.sp_tree.specs.Plain.{For, Case, Parallel, Forall, Assume, ReadValue, ReadLine, WriteValue, WriteText}
+use Rattle.sp_tree.specs.Plain.{WriteLine, Open, Send, Receive, Stmts, No, And, On, Arms, NoArm, Or}
 use Rattle.sp_tree.specs.Interference.{IsMember, IsFunction}
 use Rattle.sp_meaning.specs.Own.{Item, Do, First, Again, Test, Leave, Break}
-use Rattle.sp_meaning.proofs.Pure.{DoFunctionsTakeValues, IsLocal, PureExpr, PureForm, PureVar, PureSelectors, PureValues, PureActuals, PureWidth, PureStmt, PureStmts, PureArms, PureItems, AreBlocksPure}
+use Rattle.sp_meaning.proofs.Pure.{DoFunctionsTakeValues, IsLocal, PureExpr, PureForm, PureVar, PureSelectors}
+use Rattle.sp_meaning.proofs.Pure.{PureValues, PureActuals, PureWidth, PureStmt, PureStmts, PureArms, PureItems}
+use Rattle.sp_meaning.proofs.Pure.{AreBlocksPure}
 use Rattle.sp_code.specs.declared.code.ForkTable.{ForkTable}
 use Rattle.sp_code.specs.declared.code.Parts.{Parts}
 use Rattle.sp_code.specs.declared.instr.Instr.{Instr}
 use Rattle.sp_code.specs.Machine.{Entry, outside}
 use Rattle.sp_code.specs.Places.{after_value, after_var, after_tests, after, after_arms}
 use Rattle.sp_code.specs.Scopes.{Sort, Ordinals, Channels, Many, NoSort, Scope, OfIndex, scopes_of, sort}
-use Rattle.sp_code.specs.Stands.{ForVar, ValueAt, FormAt, PlaceAt, SelectedAt, ActualsAt, WidthAt, RightAt, StandsAt, AllAt, ChildrenAt, ArmsAt, Stands, HasFork, HasWords, BlocksAt}
+use Rattle.sp_code.specs.Stands.{ForVar, ValueAt, FormAt, PlaceAt, SelectedAt, ActualsAt, WidthAt, RightAt, StandsAt}
+use Rattle.sp_code.specs.Stands.{AllAt, ChildrenAt, ArmsAt, Stands, HasFork, HasWords, BlocksAt}
 use Rattle.sp_codegen.specs.Joints.{Joint}
 use Rattle.sp_codegen.specs.Executions.{Execution}
 use Rattle.sp_codegen.specs.Following.{Follows}
 
-module _ (p : Program) (values : DoFunctionsTakeValues p) (moves shares : Stmt → List ℕ) (Is : ℕ → Instr → Type 0) (HasTable : ℕ → ForkTable → Type 0) (HasText : ℕ → List ℕ → Type 0) (hush : ℕ → Type 0) where
+module _ (p : Program) (values : DoFunctionsTakeValues p) (moves shares : Stmt → List ℕ) (Is : ℕ → Instr → Type 0)
+    (HasTable : ℕ → ForkTable → Type 0) (HasText : ℕ → List ℕ → Type 0) (hush : ℕ → Type 0) where
   mutual
-    expr_pure : (e : Expr) (sc : List Scope) (q : ℕ) → ValueAt p moves shares Is HasTable HasText hush sc q e → PureExpr p e
+    expr_pure : (e : Expr) (sc : List Scope) (q : ℕ) → ValueAt p moves shares Is HasTable HasText hush sc q e
+        → PureExpr p e
     expr_pure (Typed k form) sc q h = form_pure form k sc q h
 
-    form_pure : (form : ExprForm) (k : ℕ) (sc : List Scope) (q : ℕ) → FormAt p moves shares Is HasTable HasText hush sc q k form → PureForm p form
+    form_pure : (form : ExprForm) (k : ℕ) (sc : List Scope) (q : ℕ)
+        → FormAt p moves shares Is HasTable HasText hush sc q k form → PureForm p form
     form_pure (Number n) k sc q h = tt
     form_pure (Read v) k sc q h = var_pure v k sc q h.0
     form_pure (Unary op a) k sc q h = expr_pure a sc q h.0
@@ -33,32 +43,43 @@ module _ (p : Program) (values : DoFunctionsTakeValues p) (moves shares : Stmt �
     form_pure (Standard f a) k sc q h = expr_pure a sc q h.2
     form_pure (AtInput f) k sc q h = tt
 
-    var_pure : (v : Var) (k : ℕ) (sc : List Scope) (q : ℕ) → PlaceAt p moves shares Is HasTable HasText hush sc q v k → PureVar p v
+    var_pure : (v : Var) (k : ℕ) (sc : List Scope) (q : ℕ) → PlaceAt p moves shares Is HasTable HasText hush sc q v k
+        → PureVar p v
     var_pure (Entire x ss) k sc q h = selectors_pure ss h.0 k sc (q + 1) h.2
 
-    selectors_pure : (ss : Selectors) (k k2 : ℕ) (sc : List Scope) (q : ℕ) → SelectedAt p moves shares Is HasTable HasText hush sc q ss k k2 → PureSelectors p ss
+    selectors_pure : (ss : Selectors) (k k2 : ℕ) (sc : List Scope) (q : ℕ)
+        → SelectedAt p moves shares Is HasTable HasText hush sc q ss k k2 → PureSelectors p ss
     selectors_pure Whole k k2 sc q h = tt
-    selectors_pure (Select (Index e) rest) k k2 sc q h = (expr_pure e sc q h.5, selectors_pure rest h.3 k2 sc (after_value q e + 1) h.8)
+    selectors_pure (Select (Index e) rest) k k2 sc q h =
+        (expr_pure e sc q h.5, selectors_pure rest h.3 k2 sc (after_value q e + 1) h.8)
     selectors_pure (Select (Field f) rest) k k2 sc q h = selectors_pure rest h.2 k2 sc (q + 1) h.6
 
     -- the arguments of a function, none of whose parameters is a variable parameter
-    values_pure : (args : Actuals) (xs : List ℕ) (sc : List Scope) (q : ℕ) → ((x : ℕ) → IsMember x xs → (v : Variable) → slice_get p.variables x ≡ Some v → v.role ≡ role.Reference → ⊥) → ActualsAt p moves shares Is HasTable HasText hush sc q args xs → PureValues p args
+    values_pure : (args : Actuals) (xs : List ℕ) (sc : List Scope) (q : ℕ)
+        → ((x : ℕ) → IsMember x xs → (v : Variable) → slice_get p.variables x ≡ Some v → v.role ≡ role.Reference → ⊥)
+        → ActualsAt p moves shares Is HasTable HasText hush sc q args xs → PureValues p args
     values_pure Nothing xs sc q never h = tt
     values_pure (Pass a rest) [] sc q never h = absurd h
-    values_pure (Pass (ByValue e) rest) (x ∷ xs) sc q never h = (expr_pure e sc q h.0, values_pure rest xs sc (after_value q e) (λ y m. never y (inr m)) h.2)
+    values_pure (Pass (ByValue e) rest) (x ∷ xs) sc q never h =
+        (expr_pure e sc q h.0, values_pure rest xs sc (after_value q e) (λ y m. never y (inr m)) h.2)
     values_pure (Pass (ByReference v) rest) (x ∷ xs) sc q never h = never x (inl refl) h.3.0 h.3.1 h.3.3
 
-  actuals_pure : (args : Actuals) (xs : List ℕ) (sc : List Scope) (q : ℕ) → ActualsAt p moves shares Is HasTable HasText hush sc q args xs → PureActuals p args
+  actuals_pure : (args : Actuals) (xs : List ℕ) (sc : List Scope) (q : ℕ)
+      → ActualsAt p moves shares Is HasTable HasText hush sc q args xs → PureActuals p args
   actuals_pure Nothing xs sc q h = tt
   actuals_pure (Pass a rest) [] sc q h = absurd h
-  actuals_pure (Pass (ByValue e) rest) (x ∷ xs) sc q h = (expr_pure e sc q h.0, actuals_pure rest xs sc (after_value q e) h.2)
-  actuals_pure (Pass (ByReference v) rest) (x ∷ xs) sc q h = (var_pure v h.0 sc q h.1, actuals_pure rest xs sc (after_var q v) h.4)
+  actuals_pure (Pass (ByValue e) rest) (x ∷ xs) sc q h =
+      (expr_pure e sc q h.0, actuals_pure rest xs sc (after_value q e) h.2)
+  actuals_pure (Pass (ByReference v) rest) (x ∷ xs) sc q h =
+      (var_pure v h.0 sc q h.1, actuals_pure rest xs sc (after_var q v) h.4)
 
-  width_pure : (w : Option Expr) (sc : List Scope) (q : ℕ) → WidthAt p moves shares Is HasTable HasText hush sc q w → PureWidth p w
+  width_pure : (w : Option Expr) (sc : List Scope) (q : ℕ) → WidthAt p moves shares Is HasTable HasText hush sc q w
+      → PureWidth p w
   width_pure None sc q h = tt
   width_pure (Some e) sc q h = expr_pure e sc q h.0
 
-  right_pure : (z : Sort) (form : ExprForm) (k : ℕ) (sc : List Scope) (q : ℕ) → RightAt p moves shares Is HasTable HasText hush sc q k z form → PureForm p form
+  right_pure : (z : Sort) (form : ExprForm) (k : ℕ) (sc : List Scope) (q : ℕ)
+      → RightAt p moves shares Is HasTable HasText hush sc q k z form → PureForm p form
   right_pure Ordinals form k sc q h = form_pure form k sc q h.0
   right_pure Channels form k sc q h = form_pure form k sc q h.0
   right_pure Many (Number n) k sc q h = absurd h
@@ -74,24 +95,37 @@ module _ (p : Program) (values : DoFunctionsTakeValues p) (moves shares : Stmt �
   for_local sc x h = (h.0, h.1, h.2)
 
   mutual
-    pub stmt_pure : (s : Stmt) (free : Bool) (sc : List Scope) (q : ℕ) → StandsAt p moves shares Is HasTable HasText hush free sc q s → PureStmt p s
+    pub stmt_pure : (s : Stmt) (free : Bool) (sc : List Scope) (q : ℕ)
+        → StandsAt p moves shares Is HasTable HasText hush free sc q s → PureStmt p s
     stmt_pure Empty free sc q h = tt
-    stmt_pure (Assign v (Typed k form)) free sc q h = (var_pure v k sc q h.0, right_pure (sort p k) form k sc (after_var q v) h.2)
+    stmt_pure (Assign v (Typed k form)) free sc q h =
+        (var_pure v k sc q h.0, right_pure (sort p k) form k sc (after_var q v) h.2)
     stmt_pure (Call f args) free sc q h = actuals_pure args h.0.formals sc q h.1
     stmt_pure (Sequence ss) free sc q h = all_pure ss free sc q h
     stmt_pure (If e a) free sc q h = (expr_pure e sc q h.0.0, stmt_pure a free sc (after_value q e + 1) h.2)
-    stmt_pure (IfElse e a b) free sc q h = (expr_pure e sc q h.0.0, stmt_pure a free sc (after_value q e + 1) h.2, stmt_pure b free sc (after p (after_value q e + 1) a + 1) h.4)
+    stmt_pure (IfElse e a b) free sc q h = (
+      expr_pure e sc q h.0.0,
+      stmt_pure a free sc (after_value q e + 1) h.2,
+      stmt_pure b free sc (after p (after_value q e + 1) a + 1) h.4,
+    )
     stmt_pure (While e s) free sc q h = (expr_pure e sc q h.0.0, stmt_pure s free sc (after_value q e + 1 + 1) h.3)
     stmt_pure (Repeat s e) free sc q h = (expr_pure e sc (after p (q + 1) s) h.2.0, stmt_pure s free sc (q + 1) h.1)
     stmt_pure (For x from down to s) free sc q h =
-        let t = after_value (after_value q from) to in
-        (expr_pure from sc q h.0.0, expr_pure to sc (after_value q from) h.1.0, for_local sc x h.2.0, stmt_pure s free sc (t + 1 + 1) h.2.3)
+        let t = after_value (after_value q from) to in (
+          expr_pure from sc q h.0.0,
+          expr_pure to sc (after_value q from) h.1.0,
+          for_local sc x h.2.0,
+          stmt_pure s free sc (t + 1 + 1) h.2.3,
+        )
     stmt_pure (Case e arms) free sc q h =
         let b = after_tests (after_value q e) arms in
         (expr_pure e sc q h.0.0, arms_pure arms free sc (b + 1) (after_arms p (b + 1) arms) h.3)
     stmt_pure (Parallel ss) free sc q h = children_pure ss free sc (q + 1 + 1) h.4
-    stmt_pure (Forall x from to s) free sc q h =
-        (expr_pure from sc q h.2.0, expr_pure to sc (after_value q from) h.3.0, stmt_pure s free (OfIndex x ∷ sc) (after_value (after_value q from) to + 1 + 1) h.6)
+    stmt_pure (Forall x from to s) free sc q h = (
+      expr_pure from sc q h.2.0,
+      expr_pure to sc (after_value q from) h.3.0,
+      stmt_pure s free (OfIndex x ∷ sc) (after_value (after_value q from) to + 1 + 1) h.6,
+    )
     stmt_pure (Assume e) free sc q h = expr_pure e sc q h.0.0
     stmt_pure (ReadValue v) free sc q h = var_pure v h.0 sc q h.2
     stmt_pure ReadLine free sc q h = tt
@@ -102,38 +136,63 @@ module _ (p : Program) (values : DoFunctionsTakeValues p) (moves shares : Stmt �
     stmt_pure (Send c e) free sc q h = (expr_pure c sc q h.0, expr_pure e sc (after_value q c) h.2)
     stmt_pure (Receive c v) free sc q h = (expr_pure c sc q h.1, var_pure v h.0 sc (after_value q c) h.3)
 
-    all_pure : (ss : Stmts) (free : Bool) (sc : List Scope) (q : ℕ) → AllAt p moves shares Is HasTable HasText hush free sc q ss → PureStmts p ss
+    all_pure : (ss : Stmts) (free : Bool) (sc : List Scope) (q : ℕ)
+        → AllAt p moves shares Is HasTable HasText hush free sc q ss → PureStmts p ss
     all_pure No free sc q h = tt
     all_pure (And s rest) free sc q h = (stmt_pure s free sc q h.0, all_pure rest free sc (after p q s) h.1)
 
-    children_pure : (ss : Stmts) (free : Bool) (sc : List Scope) (q : ℕ) → ChildrenAt p moves shares Is HasTable HasText hush free sc q ss → PureStmts p ss
+    children_pure : (ss : Stmts) (free : Bool) (sc : List Scope) (q : ℕ)
+        → ChildrenAt p moves shares Is HasTable HasText hush free sc q ss → PureStmts p ss
     children_pure No free sc q h = tt
-    children_pure (And s rest) free sc q h = (stmt_pure s free sc q h.0, children_pure rest free sc (after p q s + 1) h.2)
+    children_pure (And s rest) free sc q h =
+        (stmt_pure s free sc q h.0, children_pure rest free sc (after p q s + 1) h.2)
 
-    arms_pure : (arms : Arms) (free : Bool) (sc : List Scope) (q end : ℕ) → ArmsAt p moves shares Is HasTable HasText hush free sc q arms end → PureArms p arms
+    arms_pure : (arms : Arms) (free : Bool) (sc : List Scope) (q end : ℕ)
+        → ArmsAt p moves shares Is HasTable HasText hush free sc q arms end → PureArms p arms
     arms_pure NoArm free sc q end h = tt
-    arms_pure (Or (On ms s) rest) free sc q end h = (stmt_pure s free sc q h.0, arms_pure rest free sc (after p q s + 1) end h.2)
+    arms_pure (Or (On ms s) rest) free sc q end h =
+        (stmt_pure s free sc q h.0, arms_pure rest free sc (after p q s + 1) end h.2)
 
 -- the program's blocks
-pub blocks_pure : (p : Program) → DoFunctionsTakeValues p → (moves shares : Stmt → List ℕ) (code : Parts) (hush : ℕ → Type 0) → BlocksAt p moves shares code hush → AreBlocksPure p
-blocks_pure p values moves shares code hush blocks f b e = let z = blocks f b e in stmt_pure p values moves shares (Stands code) (HasFork code) (HasWords code) hush b.body true (scopes_of p f) z.layout.entry (z.stands.body true tt)
+pub blocks_pure : (p : Program) → DoFunctionsTakeValues p
+    → (moves shares : Stmt → List ℕ) (code : Parts) (hush : ℕ → Type 0) → BlocksAt p moves shares code hush
+    → AreBlocksPure p
+blocks_pure p values moves shares code hush blocks f b e = let z = blocks f b e in
+    stmt_pure p values moves shares (Stands code) (HasFork code) (HasWords code) hush b.body true (scopes_of p f)
+    z.layout.entry (z.stands.body true tt)
 
 -- what a process has left to do where it stands in its code
 module _ {M : Type 0} (ex : Execution M) (values : DoFunctionsTakeValues ex.setting.program) where
   open ex use {setting as g, code, moves, shares, Quiet as hush}
 
-  pub follows_pure : (end : ℕ) (base : List Entry) (below : List Joint) (pc : ℕ) (stack : List Entry) (fs : List Joint) (todo : List Item) → Follows ex end base below pc stack fs todo → PureItems g.program todo
+  pub follows_pure : (end : ℕ) (base : List Entry) (below : List Joint) (pc : ℕ) (stack : List Entry) (fs : List Joint)
+      (todo : List Item) → Follows ex end base below pc stack fs todo → PureItems g.program todo
   follows_pure end base below pc stack fs [] h = tt
-  follows_pure end base below pc stack fs (Do s ∷ todo) h = (stmt_pure g.program values moves shares (Stands code) (HasFork code) (HasWords code) hush s (outside stack) h.1 h.0 h.4, follows_pure end base below (after g.program h.0 s) stack fs todo h.5)
+  follows_pure end base below pc stack fs (Do s ∷ todo) h = (
+    stmt_pure g.program values moves shares (Stands code) (HasFork code) (HasWords code) hush s (outside stack) h.1
+        h.0 h.4,
+    follows_pure end base below (after g.program h.0 s) stack fs todo h.5,
+  )
   follows_pure end base below pc stack fs (First x lo hi d s ∷ todo) h = (
-    (for_local g.program values moves shares (Stands code) (HasFork code) (HasWords code) hush h.1 x h.6.0, stmt_pure g.program values moves shares (Stands code) (HasFork code) (HasWords code) hush s (outside h.2) h.1 (h.0 + 1 + 1) h.6.3),
+    (
+      for_local g.program values moves shares (Stands code) (HasFork code) (HasWords code) hush h.1 x h.6.0,
+      stmt_pure g.program values moves shares (Stands code) (HasFork code) (HasWords code) hush s (outside h.2) h.1
+          (h.0 + 1 + 1) h.6.3,
+    ),
     follows_pure end base below (after g.program (h.0 + 1 + 1) s + 1) h.2 fs todo h.7,
   )
   follows_pure end base below pc stack fs (Again x hi d s ∷ todo) h = (
-    (for_local g.program values moves shares (Stands code) (HasFork code) (HasWords code) hush h.1 x h.6.0, stmt_pure g.program values moves shares (Stands code) (HasFork code) (HasWords code) hush s (outside h.2) h.1 (h.0 + 1 + 1) h.6.3),
+    (
+      for_local g.program values moves shares (Stands code) (HasFork code) (HasWords code) hush h.1 x h.6.0,
+      stmt_pure g.program values moves shares (Stands code) (HasFork code) (HasWords code) hush s (outside h.2) h.1
+          (h.0 + 1 + 1) h.6.3,
+    ),
     follows_pure end base below (after g.program (h.0 + 1 + 1) s + 1) h.2 fs todo h.7,
   )
-  follows_pure end base below pc stack fs (Test s e ∷ todo) h =
-      (stmt_pure g.program values moves shares (Stands code) (HasFork code) (HasWords code) hush (Repeat s e) (outside stack) h.1 h.0 h.4, follows_pure end base below (after g.program h.0 (Repeat s e)) stack fs todo h.5)
+  follows_pure end base below pc stack fs (Test s e ∷ todo) h = (
+    stmt_pure g.program values moves shares (Stands code) (HasFork code) (HasWords code) hush (Repeat s e)
+        (outside stack) h.1 h.0 h.4,
+    follows_pure end base below (after g.program h.0 (Repeat s e)) stack fs todo h.5,
+  )
   follows_pure end base below pc stack fs (Leave ∷ todo) h = follows_pure end base below h.1 h.2 h.4 todo h.9
   follows_pure end base below pc stack fs (Break f ∷ todo) h = absurd h

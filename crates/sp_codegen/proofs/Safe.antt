@@ -26,7 +26,8 @@ module _ {M : Type 0} (ops : Ops M) (code : Code) where
   no_last : (c d : Config M) → one ops code c ≡ Goes d → IsLast (one ops code c) → ⊥
   no_last c d e h = subst IsLast e h
 
-  safe_in : (n k : ℕ) (c e d : Config M) → ComesIn ops code n c e → IsLast (one ops code e) → ComesIn ops code k c d → one ops code d ≡ Stuck → ⊥
+  safe_in : (n k : ℕ) (c e d : Config M) → ComesIn ops code n c e → IsLast (one ops code e) → ComesIn ops code k c d
+      → one ops code d ≡ Stuck → ⊥
   safe_in zero zero c e d h l k x = subst IsLast (ap (one ops code) (sym h ∙ k) ∙ x) l
   safe_in zero (suc k) c e d h l g x = no_last c g.0 g.1 (subst (λ z. IsLast (one ops code z)) (sym h) l)
   safe_in (suc n) zero c e d h l g x = let bad : Goes h.0 ≡ Stuck = sym h.1 ∙ ap (one ops code) g ∙ x in absurd (cc bad)
@@ -47,14 +48,16 @@ module _ {M : Type 0} (ex : Execution M) where
   last_by : (c : Config M) (x : One M) → one ops code c ≡ x → IsLast ops code x → IsLast ops code (one ops code c)
   last_by c x e l = subst (λ z. IsLast ops code z) (sym e) l
 
-  pub turn_finishes : (c : Config M) (end : ℕ) (base : List Entry) (below : List Joint) (r : Came source.Stop × Store) → Turned ex c end base below r → AtEnd r → Finishes ops code c
+  pub turn_finishes : (c : Config M) (end : ℕ) (base : List Entry) (below : List Joint) (r : Came source.Stop × Store)
+      → Turned ex c end base below r → AtEnd r → Finishes ops code c
   turn_finishes c end base below (Got (source.Paused todo) o, s) q h = (q.4, q.5, last_by _ _ q.6 tt)
   turn_finishes c end base below (Got (source.Stops (Stepped todo)) o, s) q h = absurd h
   turn_finishes c end base below (Got (source.Stops (Ticked todo)) o, s) q h = absurd h
   turn_finishes c end base below (Got (source.Stops (Opened todo)) o, s) q h = (q.4, q.8, last_by _ _ q.9 tt)
   turn_finishes c end base below (Got (source.Stops (Forked bs todo)) o, s) q h = (q.4, q.6, last_by _ _ q.7 tt)
   turn_finishes c end base below (Got (source.Stops (Offered ch k cg todo)) o, s) q h = (q.4, q.6, last_by _ _ q.7 tt)
-  turn_finishes c end base below (Got (source.Stops Ended) o, s) q h = (At q.0 q.1 q.2, q.4, last_by (At q.0 q.1 q.2) _ q.5 tt)
+  turn_finishes c end base below (Got (source.Stops Ended) o, s) q h =
+      (At q.0 q.1 q.2, q.4, last_by (At q.0 q.1 q.2) _ q.5 tt)
   turn_finishes c end base below (Bad f, s) q h = (q.at, q.comes, last_by _ _ q.fails tt)
   turn_finishes c end base below (Lost, s) q h = absurd h
   turn_finishes c end base below (Long, s) q h = absurd h

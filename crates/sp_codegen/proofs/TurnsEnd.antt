@@ -28,17 +28,23 @@ module _ (g : Setting) (due : Own → Bool) where
   Ended (Lost, s) = Unit {0}
   Ended (Long, s) = ⊥
 
-  pub turn_ends : (k : ℕ) (todo : List Item) (w : Who) (o : Own) (s : Store) → AllFit K todo → budget g K o.ticks + weights todo < k → Ended (run (source.turn g due k todo) w o s)
+  pub turn_ends : (k : ℕ) (todo : List Item) (w : Who) (o : Own) (s : Store) → AllFit K todo
+      → budget g K o.ticks + weights todo < k → Ended (run (source.turn g due k todo) w o s)
   turn_ends zero todo w o s f h = absurd (omega (arith, h))
   turn_ends (suc k) todo w o s f h =
       subst Ended (sym (run_bind (source.one g due todo) (source.onward g due (source.turn g due k)) w o s))
-      (go (λ todo1 o1 s1 f1 h1. turn_ends k todo1 w o1 s1 f1 h1) (run (source.one g due todo) w o s) (deed_is g (record { todo = todo; who = w; own = o }) s f))
+      (go (λ todo1 o1 s1 f1 h1. turn_ends k todo1 w o1 s1 f1 h1) (run (source.one g due todo) w o s)
+      (deed_is g (record { todo = todo; who = w; own = o }) s f))
     where
-      go : ((todo1 : List Item) (o1 : Own) (s1 : Store) → AllFit K todo1 → budget g K o1.ticks + weights todo1 < k → Ended (run (source.turn g due k todo1) w o1 s1)) → (r : Came Deed × Store) → Result o.ticks (Deeds g K o.ticks (weights todo)) r.0 → Ended (then_run (source.onward g due (source.turn g due k)) w r)
+      go : ((todo1 : List Item) (o1 : Own) (s1 : Store) → AllFit K todo1 → budget g K o1.ticks + weights todo1 < k
+          → Ended (run (source.turn g due k todo1) w o1 s1)) → (r : Came Deed × Store)
+          → Result o.ticks (Deeds g K o.ticks (weights todo)) r.0
+          → Ended (then_run (source.onward g due (source.turn g due k)) w r)
       go ih (Got (Stepped todo1) o1, s1) d = ih todo1 o1 s1 d.1.1 (omega (arith, d.1.0, h))
       go ih (Got (Ticked todo1) o1, s1) d = by_due (due o1)
         where
-          by_due : (b : Bool) → Ended (run (if b then give (source.Paused todo1) else source.turn g due k todo1) w o1 s1)
+          by_due : (b : Bool) → Ended (run (if b then give (source.Paused todo1) else source.turn g due k todo1) w o1
+              s1)
           by_due true = tt
           by_due false = ih todo1 o1 s1 d.1.1 (omega (arith, d.1.0, h))
       go ih (Got (Opened todo1) o1, s1) d = tt
@@ -53,5 +59,6 @@ module _ (g : Setting) (due : Own → Bool) where
   abbrev pub enough_turn : Process → ℕ
   enough_turn pr = suc (budget g K pr.own.ticks + weights pr.todo)
 
-  pub this_turn_ends : (pr : Process) (s : Store) → AllFit K pr.todo → Ended (run (source.turn g due (enough_turn pr) pr.todo) pr.who pr.own s)
+  pub this_turn_ends : (pr : Process) (s : Store) → AllFit K pr.todo
+      → Ended (run (source.turn g due (enough_turn pr) pr.todo) pr.who pr.own s)
   this_turn_ends pr s f = turn_ends (enough_turn pr) pr.todo pr.who pr.own s f (omega arith)

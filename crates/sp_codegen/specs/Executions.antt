@@ -1,3 +1,4 @@
+-- None of this belongs to what the program promises: it is for contracts between crates.
 -- One process that runs the code of a tree: all that the simulation of its turns speaks of, and what it asks of it. The
 -- simulation is proved over this record, and `Lives` gives one for each process of a run.
 use Rattle.std.specs.Prelude.{◌≡◌, ℕ, List, Some, Bool, slice_get}
@@ -34,5 +35,6 @@ pub record Execution (M : Type 0) : Type 1 where
   pub reads_written : (l : Loc) → Writes l → IsReadable l
   pub free : IsFreeOfInterference setting.program
   pub own_written : (n x : ℕ) → Writes (Cell who.name n x)
-  pub uses_formed : (f : ℕ) (b : Block) → slice_get setting.program.blocks f ≡ Some b → (u : Use) → In_stmt b.body u → IsFormedUse setting.program u
+  pub uses_formed : (f : ℕ) (b : Block) → slice_get setting.program.blocks f ≡ Some b → (u : Use) → In_stmt b.body u
+      → IsFormedUse setting.program u
   pub layouts_found : (f : ℕ) (l : Layout) → slice_get code.layouts f ≡ Some l → layout_of code.layouts f ≡ Some l

@@ -1,6 +1,8 @@
+-- None of this belongs to what the program promises: it is for contracts between crates.
 -- Where a process stands in its code: the code from its place on is that of what it has left to do; and how a turn of
 -- it ends as the meaning's turn does. The laws of turns promise it, for any execution.
-use Rattle.std.specs.Prelude.{◌≡◌, ◌⊎◌, ℕ, ◌+◌, ℤ, pos, ◌+ℤ◌, ◌-ℤ◌, nat_abs, int_lt, nat_lt, List, [], ◌∷◌, Some, Bool, true, false, slice_get, length}
+use Rattle.std.specs.Prelude.{◌≡◌, ◌⊎◌, ℕ, ◌+◌, ℤ, pos, ◌+ℤ◌, ◌-ℤ◌, nat_abs, int_lt, nat_lt, List, [], ◌∷◌, Some, Bool}
+use Rattle.std.specs.Prelude.{true, false, slice_get, length}
 use Rattle.sp_base.specs.declared.fault.Fault.{Fault}
 use Rattle.sp_tree.specs.Plain.{Expr, Program, Stmt, Repeat, Parallel, Forall, Stmts}
 use Rattle.sp_tree.specs.Uses.{Use, In_stmt, In_loop}
@@ -10,13 +12,17 @@ use Rattle.sp_cell.specs.declared.spot.Address.{Address as Ptr}
 use Rattle.sp_meaning.specs.Maps.{at_key}
 use Rattle.sp_meaning.specs.Model.{Channel, Cargo, Message as Given, Takes}
 use Rattle.sp_meaning.specs.Values.{Chan}
-use Rattle.sp_meaning.specs.Own.{Held, Tree, Position, Written, Address, Own, Item, Do, First, Again, Test, Leave, Break, Came, Got, Bad, Lost, Long, assigned, same_loc}
-use Rattle.sp_meaning.specs.Deeds.{Deed, Stepped, Ticked, Opened, Forked, Offered, Birth, is_range, children, indexed_children}
+use Rattle.sp_meaning.specs.Own.{Held, Tree, Position, Written, Address, Own, Item, Do, First, Again, Test, Leave}
+use Rattle.sp_meaning.specs.Own.{Break, Came, Got, Bad, Lost, Long, assigned, same_loc}
+use Rattle.sp_meaning.specs.Deeds.{Deed, Stepped, Ticked, Opened, Forked, Offered, Birth, is_range, children}
+use Rattle.sp_meaning.specs.Deeds.{indexed_children}
 use Rattle.sp_meaning.specs.Deeds as deeds
 use Rattle.sp_meaning.specs.Run.{Store}
 use Rattle.sp_code.specs.declared.code.Parts.{Parts as Code}
 use Rattle.sp_code.specs.declared.instr.Instr.TheVariants as i
-use Rattle.sp_code.specs.Machine.{Entry, Did, Done, Failed, Stop, Opens, Sends, Receives, Forks, Ends as Ended, Pauses, Ops, Config, At, One, Goes, Stops, Fails, outside, paced, then_go, one, instruction, values_in}
+use Rattle.sp_code.specs.Machine.{Entry, Did, Done, Failed, Stop, Opens, Sends, Receives, Forks, Ends as Ended, Pauses}
+use Rattle.sp_code.specs.Machine.{Ops, Config, At, One, Goes, Stops, Fails, outside, paced, then_go, one, instruction}
+use Rattle.sp_code.specs.Machine.{values_in}
 use Rattle.sp_code.specs.Machine as m
 use Rattle.sp_code.specs.Turns.{Comes}
 use Rattle.sp_code.specs.Scopes.{Scope, OfIndex, Channels, sort}
@@ -33,7 +39,8 @@ abbrev pub StandsFor : {M : Type 0} → Relation M → Config M → Store → Ty
 StandsFor rel (At pc st n) s = (js : List Joint) × (o : Own) × rel.Stand js o s n
 
 -- the machine comes to an instruction that fails, and its memory stands for the store that the meaning then has
-pub record Breaks {M : Type 0} (ops : Ops M) (rel : Relation M) (code : Code) (c : Config M) (f : Fault) (s : Store) : Type 0 where
+pub record Breaks {M : Type 0} (ops : Ops M) (rel : Relation M) (code : Code) (c : Config M) (f : Fault) (s : Store) :
+    Type 0 where
   pub at : Config M
   pub comes : Comes ops code c at
   pub fails : one ops code at ≡ Fails f
@@ -57,7 +64,19 @@ IsOwned ops Ended n = Unit {0}
 IsOwned ops Pauses n = Unit {0}
 
 module _ {M : Type 0} (ex : Execution M) where
-  open ex use {setting as g, code, moves, shares, Quiet as hush, who as w, Writes as W, IsReadable as R, Indexes as J, operations as ops, relation as rel}
+  open ex use {
+    setting as g,
+    code,
+    moves,
+    shares,
+    Quiet as hush,
+    who as w,
+    Writes as W,
+    IsReadable as R,
+    Indexes as J,
+    operations as ops,
+    relation as rel,
+  }
 
   abbrev p : Program
   p = g.program
@@ -70,69 +89,103 @@ module _ {M : Type 0} (ex : Execution M) where
     pub by : (n : M) → Comes ops code (At pc stack n) (At q stack n)
 
   abbrev pub Turns : Bool → List Scope → ℕ → ℕ → Bool → Stmt → Type 0
-  Turns free sc q x down s = TurnsAt p moves shares (Stands code) (HasFork code) (HasWords code) hush sc q x down (after p (q + 1 + 1) s) (StandsAt p moves shares (Stands code) (HasFork code) (HasWords code) hush free sc (q + 1 + 1) s)
+  Turns free sc q x down s = TurnsAt p moves shares (Stands code) (HasFork code) (HasWords code) hush sc q x down
+      (after p (q + 1 + 1) s) (StandsAt p moves shares (Stands code) (HasFork code) (HasWords code) hush free sc
+      (q + 1 + 1) s)
 
-  -- from this place, with this stack and these frames, the code is that of what is left, and then comes to the end, with the stack base and the frames below
+  -- from this place, with this stack and these frames, the code is that of what is left, and then comes to the end,
+  -- with the stack base and the frames below
   abbrev pub Follows : ℕ → List Entry → List Joint → ℕ → List Entry → List Joint → List Item → Type 0
   Follows end base below pc stack fs [] = Slides pc end stack × (stack ≡ base) × (fs ≡ below)
   Follows end base below pc stack fs (Do s ∷ todo) =
-      (q : ℕ) × (sc : List Scope) × Slides pc q stack × Pl sc fs (In_stmt s) × (StandsAt p moves shares (Stands code) (HasFork code) (HasWords code) hush (outside stack) sc q s) × Follows end base below (after p q s) stack fs todo
+      (q : ℕ) × (sc : List Scope) × Slides pc q stack × Pl sc fs (In_stmt s)
+      × (StandsAt p moves shares (Stands code) (HasFork code) (HasWords code) hush (outside stack) sc q s)
+      × Follows end base below (after p q s) stack fs todo
   Follows end base below pc stack fs (First x low high down s ∷ todo) =
-      (q : ℕ) × (sc : List Scope) × (st : List Entry) × Slides pc q stack × (stack ≡ m.Number high ∷ m.Number low ∷ st) × Pl sc fs (In_loop x s) × (Turns (outside st) sc q x down s) × Follows end base below (after p (q + 1 + 1) s + 1) st fs todo × (is_range down low high ≡ true)
+      (q : ℕ) × (sc : List Scope) × (st : List Entry) × Slides pc q stack × (stack ≡ m.Number high ∷ m.Number low ∷ st)
+      × Pl sc fs (In_loop x s) × (Turns (outside st) sc q x down s)
+      × Follows end base below (after p (q + 1 + 1) s + 1) st fs todo × (is_range down low high ≡ true)
   Follows end base below pc stack fs (Again x limit down s ∷ todo) =
-      (q : ℕ) × (sc : List Scope) × (st : List Entry) × Slides pc (after p (q + 1 + 1) s) stack × (stack ≡ m.Number limit ∷ st) × Pl sc fs (In_loop x s) × (Turns (outside st) sc q x down s) × Follows end base below (after p (q + 1 + 1) s + 1) st fs todo
+      (q : ℕ) × (sc : List Scope) × (st : List Entry) × Slides pc (after p (q + 1 + 1) s) stack
+      × (stack ≡ m.Number limit ∷ st) × Pl sc fs (In_loop x s) × (Turns (outside st) sc q x down s)
+      × Follows end base below (after p (q + 1 + 1) s + 1) st fs todo
   Follows end base below pc stack fs (Test s e ∷ todo) =
-      (q : ℕ) × (sc : List Scope) × Slides pc (after p (q + 1) s) stack × Pl sc fs (In_stmt (Repeat s e)) × (StandsAt p moves shares (Stands code) (HasFork code) (HasWords code) hush (outside stack) sc q (Repeat s e)) × Follows end base below (after p q (Repeat s e)) stack fs todo
+      (q : ℕ) × (sc : List Scope) × Slides pc (after p (q + 1) s) stack × Pl sc fs (In_stmt (Repeat s e))
+      × (StandsAt p moves shares (Stands code) (HasFork code) (HasWords code) hush (outside stack) sc q
+      (Repeat s e)) × Follows end base below (after p q (Repeat s e)) stack fs todo
   Follows end base below pc stack fs (Leave ∷ todo) =
-      (q r : ℕ) × (st : List Entry) × (f : Joint) × (rest : List Joint) × Slides pc q stack × (stack ≡ m.Link r ∷ st) × (slice_get code.instrs q ≡ Some i.Return) × (fs ≡ f ∷ rest) × Follows end base below r st rest todo × rel.Mine f rest
+      (q r : ℕ) × (st : List Entry) × (f : Joint) × (rest : List Joint) × Slides pc q stack × (stack ≡ m.Link r ∷ st)
+      × (slice_get code.instrs q ≡ Some i.Return) × (fs ≡ f ∷ rest) × Follows end base below r st rest todo
+      × rel.Mine f rest
   Follows end base below pc stack fs (Break f ∷ todo) = ⊥
 
   -- what is sent or received, at the stop
   abbrev pub CargoIs : List Joint → Channel → ℕ → Cargo Held Address → Stop → Type 0
-  CargoIs fs c k (Given (Tree v)) z = (j : ℕ) × (e : Entry) × (z ≡ Sends j k (cells_in e)) × rel.Named c j × Stood rel p (sort p k) k v e
+  CargoIs fs c k (Given (Tree v)) z = (j : ℕ) × (e : Entry) × (z ≡ Sends j k (cells_in e)) × rel.Named c j
+      × Stood rel p (sort p k) k v e
   CargoIs fs c k (Given (Position n)) z = ⊥
   CargoIs fs c k (Given (Written bs)) z = ⊥
-  CargoIs fs c k (Takes a) z = (j : ℕ) × (t : Ptr) × (z ≡ Receives j k t) × rel.Named c j × (a.kind ≡ k) × rel.Points fs a t × R a.spot
+  CargoIs fs c k (Takes a) z = (j : ℕ) × (t : Ptr) × (z ≡ Receives j k t) × rel.Named c j × (a.kind ≡ k)
+      × rel.Points fs a t × R a.spot
 
   -- the children of a parallel statement with their code, which begins at q
   abbrev pub ParallelIs : Bool → List Joint → List Birth → Stop → Type 0
   ParallelIs free fs bs z =
-      (ss : Stmts) × (table q : ℕ) × (sc : List Scope) × (z ≡ Forks table (pos 0) (length (children_tables p moves shares q ss))) × HasFork code table (record { children = children_tables p moves shares q ss }) × (bs ≡ children ss)
-      × ChildrenAt p moves shares (Stands code) (HasFork code) (HasWords code) hush free sc q ss × Pl sc fs (In_stmt (Parallel ss))
+      (ss : Stmts) × (table q : ℕ) × (sc : List Scope)
+      × (z ≡ Forks table (pos 0) (length (children_tables p moves shares q ss)))
+      × HasFork code table (record { children = children_tables p moves shares q ss }) × (bs ≡ children ss)
+      × ChildrenAt p moves shares (Stands code) (HasFork code) (HasWords code) hush free sc q ss
+      × Pl sc fs (In_stmt (Parallel ss))
 
   -- those of a forall, of which there is one for each value
   abbrev pub ForallIs : Bool → List Joint → List Birth → Stop → Type 0
   ForallIs free fs bs z =
-      (x : ℕ) × (from to : Expr) × (s : Stmt) × (lo hi : ℤ) × (table q : ℕ) × (sc : List Scope) × (z ≡ Forks table lo (values_in lo hi)) × HasFork code table (record { children = child_table p moves shares q (Some x) s ∷ [] })
+      (x : ℕ) × (from to : Expr) × (s : Stmt) × (lo hi : ℤ) × (table q : ℕ) × (sc : List Scope)
+      × (z ≡ Forks table lo (values_in lo hi))
+      × HasFork code table (record { children = child_table p moves shares q (Some x) s ∷ [] })
       × (bs ≡ indexed_children x s lo (nat_abs ((hi -ℤ lo) +ℤ pos 1))) × (int_lt hi lo ≡ false)
-      × StandsAt p moves shares (Stands code) (HasFork code) (HasWords code) hush free (OfIndex x ∷ sc) q s × (slice_get code.instrs (after p q s) ≡ Some i.End) × Pl sc fs (In_stmt (Forall x from to s))
+      × StandsAt p moves shares (Stands code) (HasFork code) (HasWords code) hush free (OfIndex x ∷ sc) q s
+      × (slice_get code.instrs (after p q s) ≡ Some i.End) × Pl sc fs (In_stmt (Forall x from to s))
 
   abbrev pub ForkIs : Bool → List Joint → List Birth → Stop → Type 0
   ForkIs free fs bs z = ParallelIs free fs bs z ⊎ ForallIs free fs bs z
 
   -- one step of a process: where the machine stands after it, or at which stop
   abbrev pub Made : Config M → (List Item → List Joint → ℕ → List Entry → Type 0) → Came Deed × Store → Type 0
-  Made c Q (Got (Stepped todo) o, s) = (pc : ℕ) × (st : List Entry) × (n : M) × (fs : List Joint) × Comes ops code c (At pc st n) × rel.Stand fs o s n × Q todo fs pc st
+  Made c Q (Got (Stepped todo) o, s) = (pc : ℕ) × (st : List Entry) × (n : M) × (fs : List Joint)
+      × Comes ops code c (At pc st n) × rel.Stand fs o s n × Q todo fs pc st
   Made c Q (Got (Ticked todo) o, s) =
-      (pc : ℕ) × (st : List Entry) × (n : M) × (fs : List Joint) × (d : Config M) × Comes ops code c d × (one ops code d ≡ paced ops code pc st n) × rel.Stand fs o s n × Q todo fs pc st
+      (pc : ℕ) × (st : List Entry) × (n : M) × (fs : List Joint) × (d : Config M) × Comes ops code c d
+      × (one ops code d ≡ paced ops code pc st n) × rel.Stand fs o s n × Q todo fs pc st
   Made c Q (Got (Opened todo) o, s) =
-      (pc : ℕ) × (st : List Entry) × (n : M) × (fs : List Joint) × (d : Config M) × (a : Address) × (t : Ptr) × (s0 : Store) × Comes ops code c d × (one ops code d ≡ Stops (Opens t) (At pc st n)) × rel.Stand fs o s0 n × rel.Points fs a t × R a.spot
-      × (s ≡ at_key same_loc a.spot (assigned a (s0 a.spot) (Tree (Chan (record { owner = w.name; nth = w.opens })))) s0) × Q todo fs pc st × (outside st ≡ true) × (sort p a.kind ≡ Channels)
+      (pc : ℕ) × (st : List Entry) × (n : M) × (fs : List Joint) × (d : Config M) × (a : Address) × (t : Ptr)
+      × (s0 : Store) × Comes ops code c d × (one ops code d ≡ Stops (Opens t) (At pc st n)) × rel.Stand fs o s0 n
+      × rel.Points fs a t × R a.spot
+      × (s ≡ at_key same_loc a.spot (assigned a (s0 a.spot) (Tree (Chan (record { owner = w.name; nth = w.opens }))))
+      s0) × Q todo fs pc st × (outside st ≡ true) × (sort p a.kind ≡ Channels)
   Made c Q (Got (Forked bs todo) o, s) =
-      (pc : ℕ) × (st : List Entry) × (n : M) × (fs : List Joint) × (d : Config M) × (z : Stop) × Comes ops code c d × (one ops code d ≡ Stops z (At pc st n)) × rel.Stand fs o s n × Q todo fs pc st × (outside st ≡ true) × ForkIs (outside st) fs bs z × (nat_lt o.depth g.limits.depth ≡ true)
+      (pc : ℕ) × (st : List Entry) × (n : M) × (fs : List Joint) × (d : Config M) × (z : Stop) × Comes ops code c d
+      × (one ops code d ≡ Stops z (At pc st n)) × rel.Stand fs o s n × Q todo fs pc st × (outside st ≡ true)
+      × ForkIs (outside st) fs bs z × (nat_lt o.depth g.limits.depth ≡ true)
   Made c Q (Got (Offered ch k g todo) o, s) =
-      (pc : ℕ) × (st : List Entry) × (n : M) × (fs : List Joint) × (d : Config M) × (z : Stop) × Comes ops code c d × (one ops code d ≡ Stops z (At pc st n)) × rel.Stand fs o s n × CargoIs fs ch k g z × Q todo fs pc st × (outside st ≡ true) × IsOwned ops z n
-  Made c Q (Got deeds.Ended o, s) = (pc : ℕ) × (st : List Entry) × (n : M) × (fs : List Joint) × Comes ops code c (At pc st n) × (one ops code (At pc st n) ≡ Stops Ended (At pc st n)) × rel.Stand fs o s n × Q [] fs pc st × (outside st ≡ true)
+      (pc : ℕ) × (st : List Entry) × (n : M) × (fs : List Joint) × (d : Config M) × (z : Stop) × Comes ops code c d
+      × (one ops code d ≡ Stops z (At pc st n)) × rel.Stand fs o s n × CargoIs fs ch k g z × Q todo fs pc st
+      × (outside st ≡ true) × IsOwned ops z n
+  Made c Q (Got deeds.Ended o, s) = (pc : ℕ) × (st : List Entry) × (n : M) × (fs : List Joint)
+      × Comes ops code c (At pc st n) × (one ops code (At pc st n) ≡ Stops Ended (At pc st n)) × rel.Stand fs o s n
+      × Q [] fs pc st × (outside st ≡ true)
   Made c Q (Bad f, s) = Breaks ops rel code c f s
   Made c Q (Lost, s) = ⊥
   Made c Q (Long, s) = Unit {0}
 
-  -- one turn of the code as the local steps of the meaning up to the first moment at which the process is due, or its next step is one
-  -- of the kernel
+  -- one turn of the code as the local steps of the meaning up to the first moment at which the process is due, or its
+  -- next step is one of the kernel
   abbrev pub Turned : Config M → ℕ → List Entry → List Joint → Came source.Stop × Store → Type 0
   Turned c end base below (Got (source.Paused todo) o, s) =
-      (pc : ℕ) × (st : List Entry) × (n : M) × (fs : List Joint) × (d : Config M) × Comes ops code c d × (one ops code d ≡ Stops Pauses (At pc st n)) × rel.Stand fs o s n × Follows end base below pc st fs todo
-  Turned c end base below (Got (source.Stops d) o, s) = Made c (λ todo fs pc st. Follows end base below pc st fs todo) (Got d o, s)
+      (pc : ℕ) × (st : List Entry) × (n : M) × (fs : List Joint) × (d : Config M) × Comes ops code c d
+      × (one ops code d ≡ Stops Pauses (At pc st n)) × rel.Stand fs o s n × Follows end base below pc st fs todo
+  Turned c end base below (Got (source.Stops d) o, s) =
+      Made c (λ todo fs pc st. Follows end base below pc st fs todo) (Got d o, s)
   Turned c end base below (Bad f, s) = Breaks ops rel code c f s
   Turned c end base below (Lost, s) = ⊥
   Turned c end base below (Long, s) = Unit {0}

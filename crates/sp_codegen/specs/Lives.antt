@@ -1,7 +1,9 @@
+-- None of this belongs to what the program promises: it is for contracts between crates.
 -- A process of a run as data: its name, what its birth gave it, and the numbers of channels and processes. What it may
 -- write and read follows from this; so the laws of its turns can be told of every process, memory and store. The
 -- contracts of this crate speak of lives.
-use Rattle.std.specs.Prelude.{◌≡◌, ◌⊎◌, ℕ, ℤ, suc, ◌+◌, ◌≤◌, ◌==◌, Bool, true, List, [], ◌∷◌, Some, IsSome, slice_get, length}
+use Rattle.std.specs.Prelude.{◌≡◌, ◌⊎◌, ℕ, ℤ, suc, ◌+◌, ◌≤◌, ◌==◌, Bool, true, List, [], ◌∷◌, Some, IsSome, slice_get}
+use Rattle.std.specs.Prelude.{length}
 use Rattle.std.specs.FinMap as map
 use Rattle.sp_cell.specs.declared.spot.Handing.{Handing}
 use Rattle.sp_cell.specs.declared.spot.Spot.{Spot}
@@ -44,15 +46,16 @@ pub record IsCompilable (p : Program) (moves shares : Stmt → List ℕ) : Type 
   pub free : IsFreeOfInterference p
   pub fine : (f q : ℕ) (b : Block) → slice_get p.blocks f ≡ Some b → IsFine p moves shares (IsQuiet p) f q b
 
--- what a process has beside its own: the first one the input and the output, a child what its statement has to do with in the
--- frames of its parent. scopes, frames: those in which it begins
+-- what a process has beside its own: the first one the input and the output, a child what its statement has to do with
+-- in the frames of its parent. scopes, frames: those in which it begins
 pub data Given : Type 0 where
   Consoles : Given
   Handed : (parent : List Joint) (scopes : List Scope) (frames : List Joint) (statement : Stmt) → Given
 
 -- how many frames stand below that of an index that the statement uses
 abbrev pub Seen : List Scope → List Joint → Stmt → ℕ → Type 0
-Seen sc js st h = (x : ℕ) × (up : ℕ) × In_stmt st (use_of.Seen x) × (level (is_index x) sc ≡ Some up) × ((j : Joint) × (rest : List Joint) × (up_at up js ≡ j ∷ rest) × (length rest ≡ h))
+Seen sc js st h = (x : ℕ) × (up : ℕ) × In_stmt st (use_of.Seen x) × (level (is_index x) sc ≡ Some up)
+    × ((j : Joint) × (rest : List Joint) × (up_at up js ≡ j ∷ rest) × (length rest ≡ h))
 
 abbrev pub writes_by : Program → Name → Given → Loc → Type 0
 writes_by p q Consoles l = All First q l
@@ -66,8 +69,9 @@ abbrev pub indexes_by : Given → ℕ → Type 0
 indexes_by Consoles h = ⊥
 indexes_by (Handed older sc js st) h = Seen sc js st h
 
--- channels, processes: by their numbers. low: above the frame numbers that its store knew at its birth; base: how many frames it had
--- then; born: its depth then; since: its ticks at its last entry; moved: what its fork gave it for its own
+-- channels, processes: by their numbers. low: above the frame numbers that its store knew at its birth; base: how many
+-- frames it had then; born: its depth then; since: its ticks at its last entry; moved: what its fork gave it for its
+-- own
 pub record Life : Type 0 where
   pub who : Who
   pub given : Given
@@ -81,7 +85,8 @@ pub record Life : Type 0 where
 
 -- no channel has two numbers; a process was born above what its store knew, with a frame at least
 pub record IsLife (life : Life) : Type 0 where
-  pub channels : (c d : Channel) (i j : ℕ) → slice_get life.channels i ≡ Some c → slice_get life.channels j ≡ Some d → same_channel c d ≡ (i == j)
+  pub channels : (c d : Channel) (i j : ℕ) → slice_get life.channels i ≡ Some c → slice_get life.channels j ≡ Some d
+      → same_channel c d ≡ (i == j)
   pub based : 1 ≤ life.base
   pub low : life.low ≤ life.born + 1
 
@@ -112,11 +117,13 @@ module _ (g : Setting) (moves shares : Stmt → List ℕ) (pause : ℕ) (life : 
   operations_of = memory plain (code_run g code_of pause)
 
   abbrev pub relation_of : Relation (Memory Plain)
-  relation_of = relation g code_of life.who Named Called Writes IsReadable Indexes life.low life.base life.born life.since pause life.moved
+  relation_of = relation g code_of life.who Named Called Writes IsReadable Indexes life.low life.base life.born
+      life.since pause life.moved
 
   -- its memory stands for its own part and what it holds of the store
   abbrev pub Stands : List Joint → Own → Store → Memory Plain → Type 0
-  Stands js o s n = Stand g code_of life.who Named Called Writes IsReadable Indexes life.low life.base life.born life.since pause life.moved js o s n
+  Stands js o s n = Stand g code_of life.who Named Called Writes IsReadable Indexes life.low life.base life.born
+      life.since pause life.moved js o s n
 
   -- what all operations keep, and that a call finds its block
   pub record Laws : Type 0 where
@@ -124,8 +131,10 @@ module _ (g : Setting) (moves shares : Stmt → List ℕ) (pause : ℕ) (life : 
     pub free : IsFreeOfInterference g.program
     pub reads_written : (l : Loc) → Writes l → IsReadable l
     pub own_written : (n x : ℕ) → Writes (Cell life.who.name n x)
-    pub uses_formed : (f : ℕ) (b : Block) → slice_get g.program.blocks f ≡ Some b → (u : Use) → In_stmt b.body u → IsFormedUse g.program u
-    pub layouts_found : (f : ℕ) (l : Layout) → slice_get code_of.layouts f ≡ Some l → layout_of code_of.layouts f ≡ Some l
+    pub uses_formed : (f : ℕ) (b : Block) → slice_get g.program.blocks f ≡ Some b → (u : Use) → In_stmt b.body u
+        → IsFormedUse g.program u
+    pub layouts_found : (f : ℕ) (l : Layout) → slice_get code_of.layouts f ≡ Some l
+        → layout_of code_of.layouts f ≡ Some l
 
   abbrev pub execution_of : Laws → Execution (Memory Plain)
   execution_of h = record {
@@ -153,8 +162,10 @@ module _ (g : Setting) (moves shares : Stmt → List ℕ) (pause : ℕ) (life : 
   abbrev pub IsPlaced : List Scope → List Joint → (Use → Type 0) → Type 0
   IsPlaced sc js Here = Placed g Writes IsReadable Indexes sc js Here
 
-  -- it stands, and its code follows what it has left to do and then comes to the end of a process. No function is being called
-  pub record IsAt (h : Laws) (end : ℕ) (base : List Entry) (below js : List Joint) (todo : List Item) (pc : ℕ) (stack : List Entry) (o : Own) (s : Store) (n : Memory Plain) : Type 0 where
+  -- it stands, and its code follows what it has left to do and then comes to the end of a process. No function is being
+  -- called
+  pub record IsAt (h : Laws) (end : ℕ) (base : List Entry) (below js : List Joint) (todo : List Item) (pc : ℕ)
+      (stack : List Entry) (o : Own) (s : Store) (n : Memory Plain) : Type 0 where
     pub stands : Stands js o s n
     pub follows : Follows (execution_of h) end base below pc stack js todo
     pub ends : slice_get code_of.instrs end ≡ Some i.End
@@ -166,12 +177,33 @@ module _ (g : Setting) (moves shares : Stmt → List ℕ) (pause : ℕ) (life : 
 
 -- the first process
 abbrev pub first_life : List Channel → List Name → Life
-first_life channels processes = record { who = record { name = []; forks = 0; opens = 0 }; given = Consoles; channels = channels; processes = processes; low = 1; base = 1; born = 0; since = 0; moved = [] }
+first_life channels processes = record {
+  who = record { name = []; forks = 0; opens = 0 };
+  given = Consoles;
+  channels = channels;
+  processes = processes;
+  low = 1;
+  base = 1;
+  born = 0;
+  since = 0;
+  moved = [];
+}
 
 -- a child that does a statement: older: the frames of its parent; depth: that of its parent
-abbrev pub child_life : Life → Who → (older : List Joint) → List Scope → (frames : List Joint) → Stmt → (depth : ℕ) → Handing → Life
+abbrev pub child_life : Life → Who → (older : List Joint) → List Scope → (frames : List Joint) → Stmt → (depth : ℕ)
+    → Handing → Life
 child_life parent who older scopes frames s depth h =
-    record { who = who; given = Handed older scopes frames s; channels = parent.channels; processes = parent.processes; low = suc (index_frame h); base = length frames; born = depth + 1; since = 0; moved = h.moved }
+    record {
+      who = who;
+      given = Handed older scopes frames s;
+      channels = parent.channels;
+      processes = parent.processes;
+      low = suc (index_frame h);
+      base = length frames;
+      born = depth + 1;
+      since = 0;
+      moved = h.moved;
+    }
 
 -- its own part at its birth
 abbrev pub own_at_birth : List Frame → (depth : ℕ) → Own
@@ -187,4 +219,10 @@ IsAway hs back q = In q (moved_of hs) × NotIn q back
 
 -- the frame of a forall's index, above these
 abbrev pub index_frame_of : Name → (below : List Joint) → ℕ → ℤ → Frame
-index_frame_of q below x value = record { owner = q; number = length below; home = Home_of x value; link = length below; references = [] }
+index_frame_of q below x value = record {
+  owner = q;
+  number = length below;
+  home = Home_of x value;
+  link = length below;
+  references = [];
+}

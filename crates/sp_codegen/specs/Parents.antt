@@ -1,3 +1,4 @@
+-- None of this belongs to what the program promises: it is for contracts between crates.
 -- A fork: what a child of it begins with in the code, and how its parent stands while it joins: but for what moved
 -- away. The laws of forks and joins promise it.
 use Rattle.std.specs.Prelude.{◌≡◌, ◌⊎◌, ℕ, suc, ℤ, pos, List, [], ◌∷◌, Some, None, IsSome, Bool, slice_get}
@@ -26,12 +27,14 @@ use Rattle.sp_codegen.specs.Joints.{Joint, from}
 use Rattle.sp_codegen.specs.Lives.{Life, code_of, Named, Called, Writes, IsReadable, Indexes}
 use Rattle.sp_codegen.specs.Standing.{spot_at, Live, HeldAt, Stand}
 
-module _ (p : Program) (moves shares : Stmt → List ℕ) (code : Code) (hush : ℕ → Type 0) (free : Bool) (sc : List Scope) where
+module _ (p : Program) (moves shares : Stmt → List ℕ) (code : Code) (hush : ℕ → Type 0) (free : Bool)
+    (sc : List Scope) where
   -- child k of a parallel statement
   pub record ChildIs (ss : Stmts) (q k : ℕ) (b : Birth) : Type 0 where
     pub statement : Stmt
     pub entry : ℕ
-    pub table : slice_get (children_tables p moves shares q ss) k ≡ Some (child_table p moves shares entry None statement)
+    pub table : slice_get (children_tables p moves shares q ss) k
+        ≡ Some (child_table p moves shares entry None statement)
     pub birth : b ≡ record { todo = push statement []; index = None }
     pub body : StandsAt p moves shares (Stands code) (HasFork code) (HasWords code) hush free sc entry statement
     pub end : slice_get code.instrs (after p entry statement) ≡ Some i.End
@@ -42,20 +45,27 @@ abbrev pub Fixed : Map → Spot → ℤ → Type 0
 Fixed mp q v = piece_of (fin.get mp q) ≡ Some (cell.Ordinal v ∷ [])
 
 abbrev pub PositionIs : Store → Map → Type 0
-PositionIs s mp = (k : ℕ) × (s Input ≡ Position k) × (piece_of (fin.get mp position_at.spot) ≡ Some (cell.Ordinal (pos k) ∷ []))
+PositionIs s mp = (k : ℕ) × (s Input ≡ Position k)
+    × (piece_of (fin.get mp position_at.spot) ≡ Some (cell.Ordinal (pos k) ∷ []))
 
 abbrev pub OutputIs : Store → Map → Type 0
 OutputIs s mp = (bs : List ℕ) × (s Output ≡ Written bs) × (fin.get mp output_spot ≡ Some (Bytes bs))
 
-module _ (g : Setting) (code : Code) (w : Who) (Names : Channel → ℕ → Type 0) (Calls : Name → ℕ → Type 0) (W R : Loc → Type 0) (J : ℕ → Type 0) (low base born since pause : ℕ) (moved : List Spot) where
+module _ (g : Setting) (code : Code) (w : Who) (Names : Channel → ℕ → Type 0) (Calls : Name → ℕ → Type 0)
+    (W R : Loc → Type 0) (J : ℕ → Type 0) (low base born since pause : ℕ) (moved : List Spot) where
   -- n: the memory at the fork; mp: its map now; A: the spots that moved to children that are not joined yet
-  pub record Joining (A : Spot → Type 0) (js : List Joint) (o : Own) (s : Store) (n : Memory Plain) (mp : Map) : Type 0 where
+  pub record Joining (A : Spot → Type 0) (js : List Joint) (o : Own) (s : Store) (n : Memory Plain) (mp : Map) : Type
+      0 where
     pub store : Store
     pub before : Stand g code w Names Calls W R J low base born since pause moved js o store n
     pub known : (q : Spot) → IsSome (fin.get mp q) → IsSome (fin.get n.store.map q)
     pub unaway : (q : Spot) → fin.get mp q ≡ Some Away → A q
-    pub held : (q : Name) (h x : ℕ) → (l : Live g.program js q h x) → R (Cell q h x) → A (spot_at l.joint.machine.number (slot g.program x)) ⊎ HeldAt g code w Names Calls W R J low base born since pause moved s mp (Cell q h x) (spot_at l.joint.machine.number (slot g.program x)) l.info.kind
-    pub indexes : (h : ℕ) → J h → (j : Joint) (rest : List Joint) (x : ℕ) (v : ℤ) → from (suc h) js ≡ j ∷ rest → j.source.home ≡ OfIndex x v → A (spot_at j.machine.number 0) ⊎ Fixed mp (spot_at j.machine.number 0) v
+    pub held : (q : Name) (h x : ℕ) → (l : Live g.program js q h x) → R (Cell q h x)
+        → A (spot_at l.joint.machine.number (slot g.program x))
+        ⊎ HeldAt g code w Names Calls W R J low base born since pause moved s mp (Cell q h x)
+        (spot_at l.joint.machine.number (slot g.program x)) l.info.kind
+    pub indexes : (h : ℕ) → J h → (j : Joint) (rest : List Joint) (x : ℕ) (v : ℤ) → from (suc h) js ≡ j ∷ rest
+        → j.source.home ≡ OfIndex x v → A (spot_at j.machine.number 0) ⊎ Fixed mp (spot_at j.machine.number 0) v
     pub position : R Input → A position_at.spot ⊎ PositionIs s mp
     pub output : R Output → A output_spot ⊎ OutputIs s mp
 
@@ -68,17 +78,26 @@ abbrev pub AreKnown : Memory Plain → List Handing → Type 0
 AreKnown n hs = (q : Spot) → In q (moved_of hs) ⊎ In q (shared_of hs) → IsSome (fin.get n.store.map q)
 
 -- who waits for children stands but for the spots that are away
-abbrev pub Joins : (g : Setting) (moves shares : Stmt → List ℕ) (pause : ℕ) (life : Life) → (Spot → Type 0) → List Joint → Own → Store → Memory Plain → Map → Type 0
+abbrev pub Joins : (g : Setting) (moves shares : Stmt → List ℕ) (pause : ℕ) (life : Life) → (Spot → Type 0) → List Joint
+    → Own → Store → Memory Plain → Map → Type 0
 Joins g moves shares pause life away js o s n mp =
-    Joining g (code_of g moves shares pause life) life.who (λ c j. Named g moves shares pause life c j) (λ q k. Called g moves shares pause life q k) (λ l. Writes g moves shares pause life l) (λ l. IsReadable g moves shares pause life l) (λ h. Indexes g moves shares pause life h) life.low life.base life.born life.since pause life.moved away js o s n mp
+    Joining g (code_of g moves shares pause life) life.who (λ c j. Named g moves shares pause life c j)
+    (λ q k. Called g moves shares pause life q k) (λ l. Writes g moves shares pause life l)
+    (λ l. IsReadable g moves shares pause life l) (λ h. Indexes g moves shares pause life h) life.low life.base
+    life.born life.since pause life.moved away js o s n mp
 
 module _ (g : Setting) (moves shares : Stmt → List ℕ) (pause : ℕ) (life : Life) where
   -- what moved to the child may be read by it and is still known to it, and was its parent's at the fork
   pub record GivesBack (child : Life) (js ks : List Joint) (n nc : Memory Plain) : Type 0 where
-    pub live : (q : Name) (h x : ℕ) → (l : Live g.program js q h x) → IsReadable g moves shares pause life (Cell q h x) → In (spot_at l.joint.machine.number (slot g.program x)) nc.store.moved
-        → IsReadable g moves shares pause child (Cell q h x) × ((k : Live g.program ks q h x) × (k.joint ≡ l.joint) × (k.info ≡ l.info))
-    pub no_index : (h : ℕ) → Indexes g moves shares pause life h → (j : Joint) (rest : List Joint) → (x : ℕ) (v : ℤ) → from (suc h) js ≡ j ∷ rest → j.source.home ≡ OfIndex x v → NotIn (spot_at j.machine.number 0) nc.store.moved
-    pub input : IsReadable g moves shares pause life Input → In position_at.spot nc.store.moved → IsReadable g moves shares pause child Input
-    pub output : IsReadable g moves shares pause life Output → In output_spot nc.store.moved → IsReadable g moves shares pause child Output
+    pub live : (q : Name) (h x : ℕ) → (l : Live g.program js q h x) → IsReadable g moves shares pause life (Cell q h x)
+        → In (spot_at l.joint.machine.number (slot g.program x)) nc.store.moved
+        → IsReadable g moves shares pause child (Cell q h x)
+        × ((k : Live g.program ks q h x) × (k.joint ≡ l.joint) × (k.info ≡ l.info))
+    pub no_index : (h : ℕ) → Indexes g moves shares pause life h → (j : Joint) (rest : List Joint) → (x : ℕ) (v : ℤ)
+        → from (suc h) js ≡ j ∷ rest → j.source.home ≡ OfIndex x v → NotIn (spot_at j.machine.number 0) nc.store.moved
+    pub input : IsReadable g moves shares pause life Input → In position_at.spot nc.store.moved
+        → IsReadable g moves shares pause child Input
+    pub output : IsReadable g moves shares pause life Output → In output_spot nc.store.moved
+        → IsReadable g moves shares pause child Output
     pub kept : (q : Spot) → In q nc.store.moved → IsSome (fin.get nc.store.map q)
     pub old : (q : Spot) → In q nc.store.moved → IsSome (fin.get n.store.map q)

@@ -49,7 +49,8 @@ accepted_send : IsSend Accepted.the_field.row
 accepted_send = struct_send (s.shape Accepted.the_type) (checked_send, (sets.the_field_send, tt))
 
 compiled_send : IsSend CompiledText.the_row
-compiled_send = recorded_send CompiledText.the_field.row _ _ CompiledText.the_type.to_one (struct_send (s.shape CompiledText.the_type) (accepted_send, (code.the_send, tt)))
+compiled_send = recorded_send CompiledText.the_field.row _ _ CompiledText.the_type.to_one
+    (struct_send (s.shape CompiledText.the_type) (accepted_send, (code.the_send, tt)))
 
 pub answer_send : IsSend (Result.the_row CompiledText.the_row Halt.the_row)
 answer_send = result.the_send CompiledText.the_row Halt.the_row compiled_send halt.the_send

@@ -18,13 +18,18 @@ use Rattle.sp_compile.specs.Codes.{Codes, IsCompiled, halt_of}
 pub same_sets : (a b : Checked) (s t : Sets) → a ≡ b → s ≡ t → AreSets (program_of b) t → AreSets (program_of a) s
 same_sets a b s t e f h = subst (λ (z : Checked × Sets). AreSets (program_of z.0) z.1) (λ i. (sym e i, sym f i)) h
 
-pub same_answer : (a b : Checked) (r : Result Parts GenError) → a ≡ b → Answered (program_of a) r → Answered (program_of b) r
+pub same_answer : (a b : Checked) (r : Result Parts GenError) → a ≡ b → Answered (program_of a) r
+    → Answered (program_of b) r
 same_answer a b r e h = subst (λ (z : Checked). Answered (program_of z) r) e h
 
 -- code, and none
-pub made : (text : List ℕ) (a : Accepted) (code : Parts) → IsAccepted text (program_of a.checked) → AreSets (program_of a.checked) a.sets → Answered (program_of a.checked) (Ok code) → IsCompiled text (record { accepted = a; code = code })
+pub made : (text : List ℕ) (a : Accepted) (code : Parts) → IsAccepted text (program_of a.checked)
+    → AreSets (program_of a.checked) a.sets → Answered (program_of a.checked) (Ok code)
+    → IsCompiled text (record { accepted = a; code = code })
 made text a code accepted sets h = record { accepted = accepted; sets = sets; short = h.0; code = h.1 }
 
-pub stopped : (text : List ℕ) (p : c.Program) (e : GenError) (halt : Halt) → IsAccepted text p → Answered p (Err e) → halt ≡ halt_of e → Codes text (Err halt)
-stopped text p (gen.TooLong n) halt accepted h e = subst (λ (z : Halt). Codes text (Err z)) (sym e) (inr (p, accepted, h.0, refl))
+pub stopped : (text : List ℕ) (p : c.Program) (e : GenError) (halt : Halt) → IsAccepted text p → Answered p (Err e)
+    → halt ≡ halt_of e → Codes text (Err halt)
+stopped text p (gen.TooLong n) halt accepted h e =
+    subst (λ (z : Halt). Codes text (Err z)) (sym e) (inr (p, accepted, h.0, refl))
 stopped text p gen.Memory halt accepted h e = subst (λ (z : Halt). Codes text (Err z)) (sym e) tt

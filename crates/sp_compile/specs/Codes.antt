@@ -1,3 +1,4 @@
+-- Some of this belongs to what the program promises (docs/promise.txt).
 -- What a text is by all rules: its tree with its sets and its code, or the first rule that it breaks. The contract of
 -- the whole compilation promises it, and the top call's texts cite it.
 use Rattle.std.specs.Prelude.{◌≡◌, ◌⊎◌, ℕ, ◌<◌, ◌≤◌, List, Result, Ok, Err}
@@ -47,4 +48,5 @@ Codes text (Err halt.Memory) = Unit {0}
 
 -- the text breaks no rule, and this is the listing of its code
 abbrev pub HasListing : List ℕ → List ℕ → Type 0
-HasListing text out = (p : c.Program) × IsAccepted text p × (tree_length (bare p) ≤ 1048576) × (code : Parts) × IsCodeOf (bare p) code × (out ≡ listing_text code)
+HasListing text out = (p : c.Program) × IsAccepted text p × (tree_length (bare p) ≤ 1048576) × (code : Parts)
+    × IsCodeOf (bare p) code × (out ≡ listing_text code)

@@ -50,7 +50,8 @@ some_there : (xs : List ℕ) → (xs ≡ [] → ⊥) → not (length xs == 0) �
 some_there [] h = absurd (h refl)
 some_there (x ∷ xs) h =
     not_from_false (length (x ∷ xs) == 0)
-    (false_from_ne_true (length (x ∷ xs) == 0) (λ e. let f = eqb-true (length (x ∷ xs)) 0 e in absurd (omega (arith, f))))
+    (false_from_ne_true (length (x ∷ xs) == 0)
+    (λ e. let f = eqb-true (length (x ∷ xs)) 0 e in absurd (omega (arith, f))))
 
 no_key : (x : ℕ) → has [] x ≡ true → ⊥
 no_key x e = cc e
@@ -97,7 +98,8 @@ module _ (stored loaded : List ℕ) (t : ChildTable) where
         r.0,
         r.1,
         aside_from t.index (handed_keys t) r.0 r.2,
-        λ m. not_true_and_false (has (known_keys t) r.0) (index_kept (handed_keys t) t.index r.0 (member_handed t r.0 m)) r.2,
+        λ m. not_true_and_false (has (known_keys t) r.0)
+            (index_kept (handed_keys t) t.index r.0 (member_handed t r.0 m)) r.2,
       )
 
   loads_from : LoadsBeyond loaded t → goes_beyond (known_keys t) loaded ≡ true
@@ -115,7 +117,8 @@ module _ (stored loaded : List ℕ) (t : ChildTable) where
   shared_twice e d =
       not_true_and_false (all_new (moved_keys t) t.shared)
       (new_from (moved_keys t) t.shared (different_back t.moved t.shared d)
-      (λ x m. false_from_ne_true (has (moved_keys t) x) (λ h. different_apart x t.moved t.shared d (moved_member t x h) m)))
+      (λ x m. false_from_ne_true (has (moved_keys t) x)
+      (λ h. different_apart x t.moved t.shared d (moved_member t x h) m)))
       e
 
   all_once : all_new [] t.moved ≡ true → all_new (moved_keys t) t.shared ≡ true → AllDifferent (handed_to t)
@@ -158,7 +161,8 @@ module _ (stored loaded : List ℕ) (t : ChildTable) where
       first (inl e) (inl f) = absurd (d (all_once e f))
       first (inl e) (inr f) =
           or_right (not (all_new [] t.moved)) (not (all_new (moved_keys t) t.shared) || is_loose t)
-          (or_left (not (all_new (moved_keys t) t.shared)) (is_loose t) (not_from_false (all_new (moved_keys t) t.shared) f))
+          (or_left (not (all_new (moved_keys t) t.shared)) (is_loose t)
+          (not_from_false (all_new (moved_keys t) t.shared) f))
   ill_from (inr z) =
       or_right (not (all_new [] t.moved)) (not (all_new (moved_keys t) t.shared) || is_loose t)
       (or_right (not (all_new (moved_keys t) t.shared)) (is_loose t) (loose_from z))

@@ -130,7 +130,6 @@ deep_linked a b l o e s t = links_as a b (λ m f. (m ≡ l.entry) × (f ≡ e)) 
     × (o ≡ Some f)) (λ m f w. (w.0, s ∙ ap Some (sym w.1))) (λ m f w. (w.0, same_Some f e (sym w.1 ∙ s))) t
 
 module _ (l : Layout) (n : ℕ) (ss : List Shape) where
-
   pub deeper_more : (a b d : List (List Edge)) (j : ℕ) (s : Shape) → slice_get ss j ≡ Some s
       → Links a b (IsDeeper l n ss j) → Links b d (λ m e. (m ≡ l.entry) × (deep_edge l n j s ≡ Some e))
       → Links a d (IsDeeper l n ss (j + 1))
@@ -164,7 +163,8 @@ module _ (l : Layout) (n : ℕ) (ss : List Shape) where
       from m e (q, (d, z, (s, i, w))) =
           ⊎_elim (λ x. (q, (d, x, (s, i, w))))
           (λ x. absurd (none-some s (sym (none d
-          (⊎_elim (λ y. let v : d ≡ j = y in omega (arith, v)) (λ y. omega (arith, y)) x)) ∙ i))) (less_same_or_more d j)
+          (⊎_elim (λ y. let v : d ≡ j = y in omega (arith, v)) (λ y. omega (arith, y)) x)) ∙ i)))
+          (less_same_or_more d j)
 
   -- the edges of all operands are those of formals and actual variables
   passed_is : (y k x left : ℕ) (v : Option ℕ) (f : Option Formal) (s : Shape) → v ≡ Some y

@@ -101,7 +101,8 @@ pub one_here : (ks : List ℕ) (k : ℕ) → has (with_one ks k) k ≡ true
 one_here = key_here nat_cmp nat_exact nat_same
 
 pub one_other : (ks : List ℕ) (k q : ℕ) → has (with_one ks k) q ≡ false → has ks q ≡ false
-one_other ks k q e = false_from_ne_true (has ks q) (λ h. not_true_and_false (has (with_one ks k) q) (one_kept ks k q h) e)
+one_other ks k q e = false_from_ne_true (has ks q)
+    (λ h. not_true_and_false (has (with_one ks k) q) (one_kept ks k q h) e)
 
 -- ---- all of a list
 

@@ -217,7 +217,6 @@ children_more f g h n k t ts e u v = tells_as f h (λ z. IsOf n (OneIsHanded ts 
 -- ---- at an instruction
 
 module _ (c : Parts) (p : ℕ) where
-
   -- ---- where it is reached
 
   module _ (shapes : Shapes) (are : AreShapes c shapes) where

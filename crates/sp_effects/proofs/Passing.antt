@@ -274,7 +274,8 @@ module _ (c : Parts) (e : Effects) (are : AreEffects c e) (ks : List (ℕ × ℕ
       let y = a.0 in
       outer_from e ks j l.entry Xs x (at_member l ss (length l.formals) (length l.formals - 1 - k) x
       (omega (arith, y)) a.1) ((touched x).1 h)
-      (false_from_ne_true (owns ks j x) (λ g. m (own_member c.layouts j l is x (sym (ap (λ (z : List (ℕ × ℕ)). owns z j x) own)
+      (false_from_ne_true (owns ks j x) (λ g. m
+      (own_member c.layouts j l is x (sym (ap (λ (z : List (ℕ × ℕ)). owns z j x) own)
       ∙ g))))
 
   pub clash_rule : call_clashes e ks j l ss ≡ true → fork.BreaksV7 c (Does c) (HasStop c) l b ss
@@ -283,7 +284,8 @@ module _ (c : Parts) (e : Effects) (are : AreEffects c e) (ks : List (ℕ × ℕ
     where
       go : Twice l ss (length l.formals) ⊎ AllDifferent Xs → not (all_new [] Xs) ≡ true → IsTwice l ss
       go (inl t) k = twice_is l ss t
-      go (inr d) k = absurd (not_true_and_false (all_new [] Xs) (new_from [] Xs d (λ x m. refl)) (not-true (all_new [] Xs) k))
+      go (inr d) k = absurd (not_true_and_false (all_new [] Xs) (new_from [] Xs d (λ x m. refl))
+          (not-true (all_new [] Xs) k))
 
   pub rule_clash : fork.BreaksV7 c (Does c) (HasStop c) l b ss → call_clashes e ks j l ss ≡ true
   rule_clash (inl t) = or_left (not (all_new [] Xs)) (meets_outer e ks j l.entry Xs)

@@ -90,7 +90,6 @@ along_more a b x row own d k e h u v = tells_as a x (λ g. AlongOne row own d k 
         ∙ h)) w.4)) (below_or_last w.0 k w.2)
 
 module _ (rows : List (List Edge)) (own : List (ℕ × ℕ)) where
-
   pub row_leads : (a b : List Fact) (f : Fact) (r row : List Edge) (mine : Bool) → slice_get rows f.area ≡ Some r
       → row ≡ r → mine ≡ is_own own f.area f.deed → Tells a b (AlongOne row mine f.deed (length row))
       → Tells a b (Leads rows own f)

@@ -139,7 +139,13 @@ module _ (c : Parts) (k : Keeps c) (kept : (p : ℕ) → BreaksV1 c p → ⊥) (
             alike : (t : Bool) → n == j ≡ t → n ≡ j
             alike true h = eqb-true n j h
             alike false h = absurd (kept l.entry
-                (BlocksApart (j, l, is, refl, inl (n, l, g, (λ z. not_true_and_false (n == j) (eq-eqb n j z) h), refl))))
+                (BlocksApart (
+                  j,
+                  l,
+                  is,
+                  refl,
+                  inl (n, l, g, (λ z. not_true_and_false (n == j) (eq-eqb n j z) h), refl),
+                )))
 
     is_called : fork.IsCalledInside c (Does c) (HasStop c) (Inside c) l.block → flag_at flags j ≡ true
     is_called (a, p, up, ss, m, there, call, round) =

@@ -1,3 +1,4 @@
+-- None of this belongs to what the program promises: it is for contracts between crates.
 -- What the children before another one of their table are handed, as a verifier keeps it.
 use Rattle.std.specs.Prelude.{◌≡◌, ◌↔◌, ℕ, List, true}
 use Rattle.sp_code.specs.declared.code.ChildTable.{ChildTable}

@@ -1,3 +1,4 @@
+-- None of this belongs to what the program promises: it is for contracts between crates.
 -- What areas of code do, in a table: the variables that each stores and loads, and whether it comes to a stop. An area
 -- stands in the table under its first instruction, which is that of no other area.
 use Rattle.std.specs.Prelude.{◌≡◌, ◌⊎◌, ◌↔◌, ℕ, ◌<◌, ◌||◌, Bool, true, List, IsTrue, Some, length, slice_get}

@@ -1,3 +1,4 @@
+-- None of this belongs to what the program promises: it is for contracts between crates.
 -- Facts about areas of code, in the order in which they are found: an area, by its first instruction, stores a
 -- variable, loads one, or comes to a stop.
 use Rattle.std.specs.Prelude.{◌≡◌, ◌⊎◌, ℕ, ◌==◌, ◌&&◌, ◌++◌, List, [], ◌∷◌, Some, Bool, true, false, if◌then◌else◌}

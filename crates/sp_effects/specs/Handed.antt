@@ -1,3 +1,4 @@
+-- None of this belongs to what the program promises: it is for contracts between crates.
 -- Rule V6 as a verifier tests it: of each child what it is handed, held against its effects and against what the
 -- children before it in its table are handed.
 use Rattle.std.specs.Prelude.{◌≡◌, ◌⊎◌, ◌<◌, ℕ, ◌==◌, List, [], Option, Some, None, Bool, false, ◌&&◌, ◌||◌, not}

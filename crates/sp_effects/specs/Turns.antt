@@ -1,3 +1,4 @@
+-- None of this belongs to what the program promises: it is for contracts between crates.
 -- Rule V7 at a block that is called inside itself, as a verifier tests it: which layouts are those of such blocks, by
 -- flags, and what the blocks do outside themselves.
 use Rattle.std.specs.Prelude.{◌≡◌, ◌⊎◌, ◌↔◌, ◌<◌, ℕ, ◌-◌, ◌==◌, if◌then◌else◌, List, Option, Some, None, Bool, true}

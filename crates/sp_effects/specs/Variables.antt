@@ -1,3 +1,4 @@
+-- None of this belongs to what the program promises: it is for contracts between crates.
 -- Which variables blocks have: an ordered set of the places of layouts, each with a variable.
 use Rattle.std.specs.Prelude.{◌≡◌, ℕ, ◌+◌, List, [], ◌∷◌, Some, Bool, false, ◌&&◌, ◌||◌, not, nat_le, slice_get}
 use Rattle.std.specs.List.{list_any}

@@ -1,3 +1,4 @@
+-- Some of this belongs to what the program promises (docs/promise.txt).
 -- What following a journal says of a program: the contract of `follow`. A journal is followed exactly where the meaning
 -- of the program is defined along it, so that a journal which fits shows a schedule of the program itself.
 use Rattle.std.specs.Prelude.{◌≡◌, ℕ, suc, ◌<◌, List, length, take, Result, Ok, Err}

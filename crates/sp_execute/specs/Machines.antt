@@ -1,3 +1,4 @@
+-- All of this belongs to what the program promises (docs/promise.txt).
 -- What a run of code says without a program that the code is of: the contract of `run_code`. The contract of the top
 -- call cites it for code files.
 use Rattle.std.specs.Prelude.{ℕ, List}

@@ -1,3 +1,4 @@
+-- Some of this belongs to what the program promises (docs/promise.txt).
 -- What a run of the code of a program says of the program. The contracts of `execute` promise it, and the headline is
 -- made of it: machine, kernel and meaning put together for one run.
 use Rattle.std.specs.Prelude.{◌≡◌, ℕ, List}

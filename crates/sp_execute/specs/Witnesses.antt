@@ -1,3 +1,4 @@
+-- Some of this belongs to what the program promises (docs/promise.txt).
 -- What the witness of a run's race is, and what it shows. The contract of `witness` and the law `races_are_shown`
 -- promise it, and the contract of the top call cites both.
 use Rattle.std.specs.Prelude.{◌≡◌, ◌↔◌, ℕ, List, Option, Some, None}

@@ -1,5 +1,6 @@
 -- The foralls of each block have numbers of the block's own indices.
-use Rattle.std.proofs.Common.{◌≡◌, refl, ap, sym, ◌∙◌, subst, ℕ, zero, suc, ◌+◌, ◌≤◌, List, [], ◌∷◌, ◌++◌, Option, Some, Bool, true, false, length, slice_get, arith}
+use Rattle.std.proofs.Common.{◌≡◌, refl, ap, sym, ◌∙◌, subst, ℕ, zero, suc, ◌+◌, ◌≤◌, List, [], ◌∷◌, ◌++◌, Option, Some}
+use Rattle.std.proofs.Common.{Bool, true, false, length, slice_get, arith}
 use Rattle.std.specs.Prelude.{nat_le, map}
 use Rattle.std.proofs.lemmas.Option.{same_Some}
 use Rattle.sp_tree.specs.declared.checked.Role.TheVariants as role
@@ -9,17 +10,24 @@ use Rattle.sp_tree.specs.Scopes.{Env, look, find, find_in, or_else}
 use Rattle.sp_tree.specs.NameWalk as w
 use Rattle.sp_tree.specs.NameWalk.{role_of}
 use Rattle.sp_tree.specs.PlainNamed as n
-use Rattle.sp_tree.specs.PlainSyntax.{Expression, At, ExpressionForm, Number, Quoted, Read, Apply, Unary, Binary, Variable, Entire, Selector, Index, Field, Selectors, Whole, Select, Argument, Pass, Width, NoWidth, Within, Arguments, NoArgument, AndArgument}
+use Rattle.sp_tree.specs.PlainSyntax.{Expression, At, ExpressionForm, Number, Quoted, Read, Apply, Unary, Binary}
+use Rattle.sp_tree.specs.PlainSyntax.{Variable, Entire, Selector, Index, Field, Selectors, Whole, Select, Argument}
+use Rattle.sp_tree.specs.PlainSyntax.{Pass, Width, NoWidth, Within, Arguments, NoArgument, AndArgument}
 use Rattle.sp_tree.specs.Plain as plain
 use Rattle.sp_facts.proofs.Calm.{calm_parts}
 use Rattle.sp_tree.specs.declared.checked.Variable as checked
 use Rattle.sp_tree.specs.Scopes.{Local, inside, opened, declared, most, variable, next_variable}
-use Rattle.sp_tree.specs.NameWalk.{statement_local, statements_local, other_local, arms_local, arm_local, branches_local, form_local, indexed, deeper}
+use Rattle.sp_tree.specs.NameWalk.{statement_local, statements_local, other_local, arms_local, arm_local}
+use Rattle.sp_tree.specs.NameWalk.{branches_local, form_local, indexed, deeper}
 use Rattle.sp_tree.specs.NamedTree.{named_statement, indices}
-use Rattle.sp_tree.specs.PlainSyntax.{Statement, Does, Form, Empty, Assign, Call, Sequence, If, While, Repeat, Case, For, Parallel, Forall, Assume, Other, NoElse, Else, Statements, NoStatement, AndThen, Arm, On, Arms, NoArm, Or, Branches, NoBranch, Beside}
+use Rattle.sp_tree.specs.PlainSyntax.{Statement, Does, Form, Empty, Assign, Call, Sequence, If, While, Repeat, Case}
+use Rattle.sp_tree.specs.PlainSyntax.{For, Parallel, Forall, Assume, Other, NoElse, Else, Statements, NoStatement}
+use Rattle.sp_tree.specs.PlainSyntax.{AndThen, Arm, On, Arms, NoArm, Or, Branches, NoBranch, Beside}
 use Rattle.sp_facts.proofs.Numbering.{statement_adds}
 use Rattle.sp_tree.specs.Scopes.{put, closed, next_constant, next_kind, next_block}
-use Rattle.sp_tree.specs.NameWalk.{names_local, formals_local, title_local, answer_local, heading_local, constants_local, kind_local, type_local, parts_local, part_local, block_meaning, references}
+use Rattle.sp_tree.specs.NameWalk.{names_local, formals_local, title_local, answer_local, heading_local}
+use Rattle.sp_tree.specs.NameWalk.{constants_local, kind_local, type_local, parts_local, part_local, block_meaning}
+use Rattle.sp_tree.specs.NameWalk.{references}
 use Rattle.sp_tree.specs.NamedTree.{formals_named, answer_named, parts_named, part_named}
 use Rattle.sp_tree.specs.PlainSyntax.{Part, Const, Kind, Var, Proc, Parts, NoPart, Declare}
 use Rattle.sp_facts.proofs.Numbering.{answer_adds, parts_move, part_moves}
@@ -45,13 +53,17 @@ abbrev AllOf : ℕ → List checked.Variable → Type 0
 AllOf b = Each (λ (u : checked.Variable). (u.block ≡ b) × (u.role ≡ role.Index))
 
 indices_of_ : (block : ℕ) (s : Statement) → AllOf block (indices block s)
-indices_of_ block s = indices_each (λ (u : checked.Variable). (u.block ≡ block) × (u.role ≡ role.Index)) block (λ x. (refl, refl)) s
+indices_of_ block s = indices_each (λ (u : checked.Variable). (u.block ≡ block) × (u.role ≡ role.Index)) block
+    (λ x. (refl, refl)) s
 
 module _ (p : plain.Program) (m : ℕ) where
   -- a number between is that of one of them
-  between : (k block : ℕ) (us : List checked.Variable) → Holds p m k us → AllOf block us → (y : ℕ) → k ≤ y → suc y ≤ k + length us → (v : plain.Variable) × (slice_get p.variables y ≡ Some v) × (v.block ≡ block) × (v.role ≡ role.Index)
+  between : (k block : ℕ) (us : List checked.Variable) → Holds p m k us → AllOf block us → (y : ℕ) → k ≤ y
+      → suc y ≤ k + length us → (v : plain.Variable) × (slice_get p.variables y ≡ Some v) × (v.block ≡ block)
+      × (v.role ≡ role.Index)
   between k block [] h a y l r = absurd (omega (arith, l, r))
-  between k block (u ∷ us) h a y l r = go (λ c. between (suc k) block us h.1 a.1 y c (omega (arith, r))) (nat_le y k) refl
+  between k block (u ∷ us) h a y l r = go (λ c. between (suc k) block us h.1 a.1 y c (omega (arith, r))) (nat_le y k)
+      refl
     where
       yes : nat_le y k ≡ true → y ≤ k
       yes e = Prim.grind (arith, e)
@@ -59,36 +71,65 @@ module _ (p : plain.Program) (m : ℕ) where
       not_ : nat_le y k ≡ false → suc k ≤ y
       not_ e = Prim.grind (arith, e)
 
-      go : (suc k ≤ y → (v : plain.Variable) × (slice_get p.variables y ≡ Some v) × (v.block ≡ block) × (v.role ≡ role.Index)) → (b : Bool) → nat_le y k ≡ b → (v : plain.Variable) × (slice_get p.variables y ≡ Some v) × (v.block ≡ block) × (v.role ≡ role.Index)
-      go next true e = let z = yes e in (h.0.0, subst (λ w. slice_get p.variables w ≡ Some h.0.0) (let w : k ≡ y = omega (arith, l, z) in w) h.0.1, h.0.3 ∙ a.0.0, h.0.2 ∙ a.0.1)
+      go : (suc k ≤ y → (v : plain.Variable) × (slice_get p.variables y ≡ Some v) × (v.block ≡ block)
+          × (v.role ≡ role.Index)) → (b : Bool) → nat_le y k ≡ b → (v : plain.Variable)
+          × (slice_get p.variables y ≡ Some v) × (v.block ≡ block) × (v.role ≡ role.Index)
+      go next true e = let z = yes e in (
+        h.0.0,
+        subst (λ w. slice_get p.variables w ≡ Some h.0.0) (let w : k ≡ y = omega (arith, l, z) in w) h.0.1,
+        h.0.3
+            ∙ a.0.0,
+        h.0.2 ∙ a.0.1,
+      )
       go next false e = next (not_ e)
 
-  spans_join : (k : ℕ) (xs ys : List n.Block) → AreSpans p k xs → AreSpans p (k + length xs) ys → AreSpans p k (xs ++ ys)
+  spans_join : (k : ℕ) (xs ys : List n.Block) → AreSpans p k xs → AreSpans p (k + length xs) ys
+      → AreSpans p k (xs ++ ys)
   spans_join k [] ys x y = subst (λ z. AreSpans p z ys) (let z : k + 0 ≡ k = omega arith in z) y
-  spans_join k (b ∷ xs) ys x y = (x.0, spans_join (suc k) xs ys x.1 (subst (λ z. AreSpans p z ys) (let z : k + suc (length xs) ≡ suc k + length xs = omega arith in z) y))
+  spans_join k (b ∷ xs) ys x y = (
+    x.0,
+    spans_join (suc k) xs ys x.1
+        (subst (λ z. AreSpans p z ys) (let z : k + suc (length xs) ≡ suc k + length xs = omega arith in z) y),
+  )
 
   -- the statement part of a block
-  body_spans : (around : List names.Scope) (l : Local) (block : ℕ) (body : Statement) → w.statement_sites [] together all_at around l body ≡ [] → Holds p m (next_variable l.counts) (indices block body)
-      → (lo : ℕ) × IsNumbered lo (named_statement around l body) × ((y : ℕ) → lo ≤ y → suc y ≤ ends lo (named_statement around l body) → (v : plain.Variable) × (slice_get p.variables y ≡ Some v) × (v.block ≡ block) × (v.role ≡ role.Index))
+  body_spans : (around : List names.Scope) (l : Local) (block : ℕ) (body : Statement)
+      → w.statement_sites [] together all_at around l body ≡ []
+      → Holds p m (next_variable l.counts) (indices block body)
+      → (lo : ℕ) × IsNumbered lo (named_statement around l body)
+      × ((y : ℕ) → lo ≤ y → suc y ≤ ends lo (named_statement around l body) → (v : plain.Variable)
+      × (slice_get p.variables y ≡ Some v) × (v.block ≡ block) × (v.role ≡ role.Index))
   body_spans around l block body calm holds =
       let r = statement_numbered around l body calm in
       let e = r.1 in
-      let a = (statement_adds block around l body calm).2 in
-      (next_variable l.counts, r.0, λ y x z. between (next_variable l.counts) block (indices block body) holds (indices_of_ block body) y x (omega (arith, z, e, a)))
+      let a = (statement_adds block around l body calm).2 in (
+        next_variable l.counts,
+        r.0,
+        λ y x z. between (next_variable l.counts) block (indices block body) holds
+            (indices_of_ block body) y x (omega (arith, z, e, a)),
+      )
 
   mutual
-    pub parts_spans : (around : List names.Scope) (l : Local) (ps : Parts) → w.parts_sites [] together all_at around l ps ≡ [] → Holds p m (next_variable l.counts) (parts_named around l ps).variables → AreSpans p (next_block l.counts) (parts_named around l ps).blocks
+    pub parts_spans : (around : List names.Scope) (l : Local) (ps : Parts)
+        → w.parts_sites [] together all_at around l ps ≡ []
+        → Holds p m (next_variable l.counts) (parts_named around l ps).variables
+        → AreSpans p (next_block l.counts) (parts_named around l ps).blocks
     parts_spans around l NoPart calm holds = tt
     parts_spans around l (Declare q rest) calm holds =
         let next = part_local l q in
-        let two = calm_parts (w.part_sites [] together all_at around l q) (w.parts_sites [] together all_at around next rest) calm in
+        let two = calm_parts (w.part_sites [] together all_at around l q)
+        (w.parts_sites [] together all_at around next rest) calm in
         let a = part_named around l q in
         let b = parts_named around next rest in
         let moved = part_moves around l q two.0 in
         let h = holds_parts p m (next_variable l.counts) a.variables b.variables holds in
-        spans_join (next_block l.counts) a.blocks b.blocks (part_spans around l q two.0 h.0) (subst (λ z. AreSpans p z b.blocks) moved.3 (parts_spans around next rest two.1 (subst (λ z. Holds p m z b.variables) (sym moved.2) h.1)))
+        spans_join (next_block l.counts) a.blocks b.blocks (part_spans around l q two.0 h.0)
+        (subst (λ z. AreSpans p z b.blocks) moved.3
+        (parts_spans around next rest two.1 (subst (λ z. Holds p m z b.variables) (sym moved.2) h.1)))
 
-    part_spans : (around : List names.Scope) (l : Local) (q : Part) → w.part_sites [] together all_at around l q ≡ [] → Holds p m (next_variable l.counts) (part_named around l q).variables → AreSpans p (next_block l.counts) (part_named around l q).blocks
+    part_spans : (around : List names.Scope) (l : Local) (q : Part) → w.part_sites [] together all_at around l q ≡ []
+        → Holds p m (next_variable l.counts) (part_named around l q).variables
+        → AreSpans p (next_block l.counts) (part_named around l q).blocks
     part_spans around l (Const x c) calm holds = tt
     part_spans around l (Kind x k) calm holds = tt
     part_spans around l (Var xs t) calm holds = tt
@@ -113,11 +154,15 @@ module _ (p : plain.Program) (m : ℕ) where
         let a2 = (answer_adds formals env f x answer).2 in
         let p2 = (parts_move in_ head parts pieces.2).2 in
         let at_head : k + length av + length bv ≡ next_variable head.counts = omega (arith, t2, f2, a2) in
-        let at_body : k + length av + length bv + length inner.variables ≡ next_variable (parts_local head parts).counts = omega (arith, t2, f2, a2, p2) in
+        let at_body : k + length av + length bv + length inner.variables
+        ≡ next_variable (parts_local head parts).counts = omega (arith, t2, f2, a2, p2) in
         let number = head_number around l x fs answer parts body calm in
         let blocks_ = head_blocks around l x fs answer parts body calm in (
-          body_spans in_ (parts_local head parts) f body pieces.3 (subst (λ z. Holds p m (next_variable (parts_local head parts).counts) (indices z body)) number (subst (λ z. Holds p m z d) at_body v3.1)),
-          subst (λ z. AreSpans p z inner.blocks) blocks_ (parts_spans in_ head parts pieces.2 (subst (λ z. Holds p m z inner.variables) at_head v3.0)),
+          body_spans in_ (parts_local head parts) f body pieces.3
+              (subst (λ z. Holds p m (next_variable (parts_local head parts).counts) (indices z body)) number
+              (subst (λ z. Holds p m z d) at_body v3.1)),
+          subst (λ z. AreSpans p z inner.blocks) blocks_
+              (parts_spans in_ head parts pieces.2 (subst (λ z. Holds p m z inner.variables) at_head v3.0)),
         )
 
 -- ---- the program
@@ -129,9 +174,13 @@ module _ (s : syntax.Program) (calm : names_broken s ≡ []) where
   abbrev inner_ : n.Program
   inner_ = parts_named std empty s.block.parts
 
-  calm_two : (w.parts_sites [] together all_at std empty s.block.parts ≡ []) × (w.statement_sites [] together all_at std (parts_local empty s.block.parts) s.block.body ≡ [])
-  calm_two = calm_parts (w.parts_sites [] together all_at std empty s.block.parts) (w.statement_sites [] together all_at std (parts_local empty s.block.parts) s.block.body)
-      (calm_parts (w.files_sites [] together all_at [] s.heading) (together (w.parts_sites [] together all_at std empty s.block.parts) (w.statement_sites [] together all_at std (parts_local empty s.block.parts) s.block.body)) calm).1
+  calm_two : (w.parts_sites [] together all_at std empty s.block.parts ≡ [])
+      × (w.statement_sites [] together all_at std (parts_local empty s.block.parts) s.block.body ≡ [])
+  calm_two = calm_parts (w.parts_sites [] together all_at std empty s.block.parts)
+      (w.statement_sites [] together all_at std (parts_local empty s.block.parts) s.block.body)
+      (calm_parts (w.files_sites [] together all_at [] s.heading)
+      (together (w.parts_sites [] together all_at std empty s.block.parts)
+      (w.statement_sites [] together all_at std (parts_local empty s.block.parts) s.block.body)) calm).1
 
   abbrev p_ : plain.Program
   p_ = tree s calm
@@ -144,19 +193,25 @@ module _ (s : syntax.Program) (calm : names_broken s ≡ []) where
       let m_ = length n_.constants in
       let rest = (held s calm).1.1 in
       let vs = holds_parts p_ m_ 2 inner_.variables (indices 0 s.block.body) rest in
-      let moved = (parts_move std empty s.block.parts calm_two.0).2 in
-      (body_spans p_ m_ std (parts_local empty s.block.parts) 0 s.block.body calm_two.1 (subst (λ z. Holds p_ m_ z (indices 0 s.block.body)) (sym moved) vs.1), parts_spans p_ m_ std empty s.block.parts calm_two.0 vs.0)
+      let moved = (parts_move std empty s.block.parts calm_two.0).2 in (
+        body_spans p_ m_ std (parts_local empty s.block.parts) 0 s.block.body calm_two.1
+            (subst (λ z. Holds p_ m_ z (indices 0 s.block.body)) (sym moved) vs.1),
+        parts_spans p_ m_ std empty s.block.parts calm_two.0 vs.0,
+      )
 
   abbrev last : List (Option ℕ)
   last = (blocks_after (env_of n_) (starts_of n_.blocks) n_.blocks).variables
 
-  pub has_ : (ks : List (Option ℕ)) (us : List checked.Variable) (x : ℕ) (v : plain.Variable) (o : Option ℕ) → slice_get (map variable_of (checked_variables ks us)) x ≡ Some v → slice_get ks x ≡ Some o → v.kind ≡ or_zero o
+  pub has_ : (ks : List (Option ℕ)) (us : List checked.Variable) (x : ℕ) (v : plain.Variable) (o : Option ℕ)
+      → slice_get (map variable_of (checked_variables ks us)) x ≡ Some v → slice_get ks x ≡ Some o → v.kind ≡ or_zero o
   has_ ks [] x v o e f = absurd (cc e)
   has_ [] (u ∷ us) x v o e f = absurd (cc e)
-  has_ (k ∷ ks) (u ∷ us) zero v o e f = sym (ap (λ (z : plain.Variable). z.kind) (same_Some (variable_of (record u { kind = or_zero k })) v e)) ∙ ap or_zero (same_Some k o f)
+  has_ (k ∷ ks) (u ∷ us) zero v o e f = sym (ap (λ (z : plain.Variable). z.kind)
+      (same_Some (variable_of (record u { kind = or_zero k })) v e)) ∙ ap or_zero (same_Some k o f)
   has_ (k ∷ ks) (u ∷ us) (suc x) v o e f = has_ ks us x v o e f
 
-  pub room_ : (ks : List (Option ℕ)) (us : List checked.Variable) (x : ℕ) (v : plain.Variable) → slice_get (map variable_of (checked_variables ks us)) x ≡ Some v → suc x ≤ length us
+  pub room_ : (ks : List (Option ℕ)) (us : List checked.Variable) (x : ℕ) (v : plain.Variable)
+      → slice_get (map variable_of (checked_variables ks us)) x ≡ Some v → suc x ≤ length us
   room_ ks [] x v e = absurd (cc e)
   room_ [] (u ∷ us) x v e = absurd (cc e)
   room_ (k ∷ ks) (u ∷ us) zero v e = omega arith
@@ -168,4 +223,6 @@ module _ (s : syntax.Program) (calm : names_broken s ≡ []) where
 
   -- each index has in the tree the type of its forall's first limit
   pub indices_typed : AreBlocksTyped p_ (env_of n_) (starts_of n_.blocks) n_.blocks
-  indices_typed = blocks_typed p_ last (λ x v o at l. has_ last n_.variables x v o at l) (length n_.variables) (λ x v at. room_ last n_.variables x v at) 0 (env_of n_) (starts_of n_.blocks) n_.blocks (types_length (numbers_of n_) n_.variables) spans refl
+  indices_typed = blocks_typed p_ last (λ x v o at l. has_ last n_.variables x v o at l) (length n_.variables)
+      (λ x v at. room_ last n_.variables x v at) 0 (env_of n_) (starts_of n_.blocks) n_.blocks
+      (types_length (numbers_of n_) n_.variables) spans refl

@@ -1,5 +1,6 @@
 -- Where a list of broken rules is empty, no part of it has one.
-use Rattle.std.proofs.Common.{◌≡◌, refl, ap, sym, ◌∙◌, ℕ, List, [], ◌∷◌, Option, Some, None, Bool, true, false, if◌then◌else◌, arith}
+use Rattle.std.proofs.Common.{◌≡◌, refl, ap, sym, ◌∙◌, ℕ, List, [], ◌∷◌, Option, Some, None, Bool, true, false}
+use Rattle.std.proofs.Common.{if◌then◌else◌, arith}
 use Rattle.std.specs.Prelude.{not, nat_eq, ◌||◌}
 use Rattle.std.proofs.lemmas.Bool.{not-false}
 use Rattle.std.proofs.lemmas.Option.{same_Some}
@@ -42,7 +43,8 @@ taken_some : (rs : List Refusal) (r : Refusal) → taken rs (Some r) ≡ None �
 taken_some [] r e = absurd (cc e)
 taken_some (s ∷ rs) r e = go (λ x. taken_some rs x) (before s r) e
   where
-    go : ((x : Refusal) → taken rs (Some x) ≡ None → ⊥) → (b : Bool) → taken rs (if b then Some s else Some r) ≡ None → ⊥
+    go : ((x : Refusal) → taken rs (Some x) ≡ None → ⊥) → (b : Bool) → taken rs (if b then Some s else Some r) ≡ None
+        → ⊥
     go next true e = next s e
     go next false e = next r e
 
@@ -54,9 +56,11 @@ pub calm_if : (r : Rule) (at : Place) (b : Bool) → breaks_if r at b ≡ None �
 calm_if r at true e = absurd (cc e)
 calm_if r at false e = refl
 
-pub calm_unless : (r : Rule) (at : Place) (takes : ℕ → Bool) (o : Option ℕ) (k : ℕ) → o ≡ Some k → unless r at takes o ≡ None → takes k ≡ true
+pub calm_unless : (r : Rule) (at : Place) (takes : ℕ → Bool) (o : Option ℕ) (k : ℕ) → o ≡ Some k
+    → unless r at takes o ≡ None → takes k ≡ true
 calm_unless r at takes None k e u = absurd (cc e)
-calm_unless r at takes (Some j) k e u = ap takes (sym (same_Some j k e)) ∙ not-false (takes j) (calm_if r at (not (takes j)) u)
+calm_unless r at takes (Some j) k e u = ap takes (sym (same_Some j k e))
+    ∙ not-false (takes j) (calm_if r at (not (takes j)) u)
 
 pub nat_eq_is : (a b : ℕ) → nat_eq a b ≡ true → a ≡ b
 nat_eq_is a b e = Prim.grind (arith, e)

@@ -11,15 +11,20 @@ use Rattle.sp_tree.specs.Scopes.{Env, look, find, find_in, or_else}
 use Rattle.sp_tree.specs.NameWalk as w
 use Rattle.sp_tree.specs.NameWalk.{role_of}
 use Rattle.sp_tree.specs.PlainNamed as n
-use Rattle.sp_tree.specs.PlainSyntax.{Expression, At, ExpressionForm, Number, Quoted, Read, Apply, Unary, Binary, Variable, Entire, Selector, Index, Field, Selectors, Whole, Select, Argument, Pass, Width, NoWidth, Within, Arguments, NoArgument, AndArgument}
+use Rattle.sp_tree.specs.PlainSyntax.{Expression, At, ExpressionForm, Number, Quoted, Read, Apply, Unary, Binary}
+use Rattle.sp_tree.specs.PlainSyntax.{Variable, Entire, Selector, Index, Field, Selectors, Whole, Select, Argument}
+use Rattle.sp_tree.specs.PlainSyntax.{Pass, Width, NoWidth, Within, Arguments, NoArgument, AndArgument}
 use Rattle.sp_facts.proofs.Calm.{calm_parts}
 use Rattle.sp_tree.specs.declared.checked.Variable as checked
 use Rattle.sp_tree.specs.declared.meaning.Sort.TheVariants as sort
 use Rattle.sp_tree.specs.NameRules.{Declares}
 use Rattle.sp_tree.specs.Scopes.{Local, inside, opened, declared, most, variable, next_variable}
-use Rattle.sp_tree.specs.NameWalk.{statement_local, statements_local, other_local, arms_local, arm_local, branches_local, form_local, indexed, deeper}
+use Rattle.sp_tree.specs.NameWalk.{statement_local, statements_local, other_local, arms_local, arm_local}
+use Rattle.sp_tree.specs.NameWalk.{branches_local, form_local, indexed, deeper}
 use Rattle.sp_tree.specs.NamedTree.{indices}
-use Rattle.sp_tree.specs.PlainSyntax.{Statement, Does, Form, Empty, Assign, Call, Sequence, If, While, Repeat, Case, For, Parallel, Forall, Assume, Other, NoElse, Else, Statements, NoStatement, AndThen, Arm, On, Arms, NoArm, Or, Branches, NoBranch, Beside}
+use Rattle.sp_tree.specs.PlainSyntax.{Statement, Does, Form, Empty, Assign, Call, Sequence, If, While, Repeat, Case}
+use Rattle.sp_tree.specs.PlainSyntax.{For, Parallel, Forall, Assume, Other, NoElse, Else, Statements, NoStatement}
+use Rattle.sp_tree.specs.PlainSyntax.{AndThen, Arm, On, Arms, NoArm, Or, Branches, NoBranch, Beside}
 use Rattle.sp_facts.proofs.Numbering.{room_at, statement_adds}
 use Rattle.sp_tree.specs.declared.meaning.Counts.{Counts}
 use Rattle.sp_tree.specs.declared.syntax.SynFormal.{SynFormal}
@@ -27,8 +32,11 @@ use Rattle.sp_tree.specs.declared.syntax.SynKind.{SynKind}
 use Rattle.sp_tree.specs.declared.syntax.SynKind.TheVariants as kinds
 use Rattle.sp_tree.specs.NameRules.{Uses, AsKind}
 use Rattle.sp_tree.specs.Scopes.{put, closed, next_constant, next_kind, next_block}
-use Rattle.sp_tree.specs.NameWalk.{names_local, formals_local, title_local, answer_local, heading_local, constants_local, kind_local, type_local, parts_local, part_local, block_meaning, references}
-use Rattle.sp_tree.specs.NamedTree.{kind_number, variables_named, formals_named, answer_named, enumerated, constants_named, parts_named, part_named}
+use Rattle.sp_tree.specs.NameWalk.{names_local, formals_local, title_local, answer_local, heading_local}
+use Rattle.sp_tree.specs.NameWalk.{constants_local, kind_local, type_local, parts_local, part_local, block_meaning}
+use Rattle.sp_tree.specs.NameWalk.{references}
+use Rattle.sp_tree.specs.NamedTree.{kind_number, variables_named, formals_named, answer_named, enumerated}
+use Rattle.sp_tree.specs.NamedTree.{constants_named, parts_named, part_named}
 use Rattle.sp_tree.specs.PlainSyntax.{Part, Const, Kind, Var, Proc, Parts, NoPart, Declare}
 use Rattle.sp_facts.proofs.Numbering.{declared_counts, answer_adds, parts_move, part_moves}
 use Rattle.sp_tree.specs.NamedTree.{program_named}
@@ -44,23 +52,38 @@ use Rattle.sp_tree.specs.PlainSyntax as syntax
 use Rattle.sp_tree.specs.NamedTree.{kind_named}
 use Rattle.sp_tree.specs.declared.named.NamedConstant.{NamedConstant}
 use Rattle.sp_tree.specs.declared.named.NamedConstant.TheVariants as constant
-use Rattle.sp_facts.specs.Given.{IsBehind, IsBoundBehind, AreBoundsBehind, AreValuesBehind, AreBehind, AreEnumerated, IsGiven}
+use Rattle.sp_facts.specs.Given.{IsBehind, IsBoundBehind, AreBoundsBehind, AreValuesBehind, AreBehind, AreEnumerated}
+use Rattle.sp_facts.specs.Given.{IsGiven}
 use Rattle.sp_tree.specs.declared.checked.KindOf.{KindOf}
 use Rattle.sp_types.specs.Tables.{env_of, numbers_of}
 use Rattle.sp_facts.specs.Earlier.{HaveTypes, AreEarlier}
 use Rattle.sp_facts.proofs.Variables.{each_join, names_each, indices_each}
-use Rattle.sp_facts.proofs.InScope.{AllBound, EachBound, UpTo, all_bound_more, answer_bound, block_bound, declared_bound, each_behind, each_bound_more, formals_bound, kind_behind, kind_bound, names_bound, used_kind, value_behind}
+use Rattle.sp_facts.proofs.InScope.{AllBound, EachBound, UpTo, all_bound_more, answer_bound, block_bound}
+use Rattle.sp_facts.proofs.InScope.{declared_bound, each_behind, each_bound_more, formals_bound, kind_behind}
+use Rattle.sp_facts.proofs.InScope.{kind_bound, names_bound, used_kind, value_behind}
 
 -- ---- lists of declarations
 
-behind_join : (k : ℕ) (xs ys : List NamedConstant) → AreValuesBehind k xs → AreValuesBehind (k + length xs) ys → AreValuesBehind k (xs ++ ys)
+behind_join : (k : ℕ) (xs ys : List NamedConstant) → AreValuesBehind k xs → AreValuesBehind (k + length xs) ys
+    → AreValuesBehind k (xs ++ ys)
 behind_join k [] ys x y = subst (λ z. AreValuesBehind z ys) (let z : k + 0 ≡ k = omega arith in z) y
-behind_join k (constant.Value c ∷ xs) ys x y = (x.0, behind_join (suc k) xs ys x.1 (subst (λ z. AreValuesBehind z ys) (let z : k + suc (length xs) ≡ suc k + length xs = omega arith in z) y))
-behind_join k (constant.Enumerated j i ∷ xs) ys x y = behind_join (suc k) xs ys x (subst (λ z. AreValuesBehind z ys) (let z : k + suc (length xs) ≡ suc k + length xs = omega arith in z) y)
+behind_join k (constant.Value c ∷ xs) ys x y = (
+  x.0,
+  behind_join (suc k) xs ys x.1 (subst (λ z. AreValuesBehind z ys)
+      (let z : k + suc (length xs) ≡ suc k + length xs = omega arith in z) y),
+)
+behind_join k (constant.Enumerated j i ∷ xs) ys x y =
+    behind_join (suc k) xs ys x (subst (λ z. AreValuesBehind z ys)
+    (let z : k + suc (length xs) ≡ suc k + length xs = omega arith in z) y)
 
-earlier_join : (k : ℕ) (xs ys : List NamedKind) → AreEarlier k xs → AreEarlier (k + length xs) ys → AreEarlier k (xs ++ ys)
+earlier_join : (k : ℕ) (xs ys : List NamedKind) → AreEarlier k xs → AreEarlier (k + length xs) ys
+    → AreEarlier k (xs ++ ys)
 earlier_join k [] ys x y = subst (λ z. AreEarlier z ys) (let z : k + 0 ≡ k = omega arith in z) y
-earlier_join k (b ∷ xs) ys x y = (x.0, earlier_join (suc k) xs ys x.1 (subst (λ z. AreEarlier z ys) (let z : k + suc (length xs) ≡ suc k + length xs = omega arith in z) y))
+earlier_join k (b ∷ xs) ys x y = (
+  x.0,
+  earlier_join (suc k) xs ys x.1
+      (subst (λ z. AreEarlier z ys) (let z : k + suc (length xs) ≡ suc k + length xs = omega arith in z) y),
+)
 
 enumerated_behind : (k j i : ℕ) (xs : List Name) → AreValuesBehind k (enumerated j i xs)
 enumerated_behind k j i [] = tt
@@ -92,7 +115,8 @@ bounds_more k j (d ∷ ks) l h = (one d.form h.0, bounds_more k j ks l h.1)
     one (form.Fields fs) h = tt
     one (form.Channel cs) h = tt
 
-bounds_join : (k : ℕ) (xs ys : List NamedKind) → AreBoundsBehind k xs → AreBoundsBehind k ys → AreBoundsBehind k (xs ++ ys)
+bounds_join : (k : ℕ) (xs ys : List NamedKind) → AreBoundsBehind k xs → AreBoundsBehind k ys
+    → AreBoundsBehind k (xs ++ ys)
 bounds_join k [] ys x y = y
 bounds_join k (d ∷ xs) ys x y = (x.0, bounds_join k xs ys x.1 y)
 
@@ -110,14 +134,18 @@ indices_typed : (k : ℕ) → 1 ≤ k → (block : ℕ) (s : Statement) → Have
 indices_typed k some block s = indices_each (λ (u : checked.Variable). suc u.kind ≤ k) block (λ x. some) s
 
 module _ (c : Counts) (env : Env) (out : EachBound c env.around) (here : AllBound c env.local.here) (b : ℕ) where
-  formals_typed : (fs : List SynFormal) → w.heading_sites [] together all_at env fs ≡ [] → HaveTypes (next_kind c) (formals_named env b fs)
+  formals_typed : (fs : List SynFormal) → w.heading_sites [] together all_at env fs ≡ []
+      → HaveTypes (next_kind c) (formals_named env b fs)
   formals_typed [] calm = tt
   formals_typed (f ∷ fs) calm =
       let two = calm_parts (all_at env (Uses f.kind AsKind)) (w.heading_sites [] together all_at env fs) calm in
       let k = kind_number (find env f.kind.text) in
-      typed_join (next_kind c) (variables_named b (role_of f.by_reference) k f.names) (formals_named env b fs) (names_typed (next_kind c) b k (role_of f.by_reference) f.names (used_kind c env out here f.kind two.0)) (formals_typed fs two.1)
+      typed_join (next_kind c) (variables_named b (role_of f.by_reference) k f.names) (formals_named env b fs)
+      (names_typed (next_kind c) b k (role_of f.by_reference) f.names (used_kind c env out here f.kind two.0))
+      (formals_typed fs two.1)
 
-  answer_typed : (x : Name) (answer : Option Name) → w.answer_sites [] together all_at env answer ≡ [] → HaveTypes (next_kind c) (answer_named env b x answer)
+  answer_typed : (x : Name) (answer : Option Name) → w.answer_sites [] together all_at env answer ≡ []
+      → HaveTypes (next_kind c) (answer_named env b x answer)
   answer_typed x None calm = tt
   answer_typed x (Some t) calm = (used_kind c env out here t calm, tt)
 
@@ -132,12 +160,16 @@ record Behind (from : Counts) (l : Local) (p : n.Program) : Type 0 where
   variables : HaveTypes (next_kind l.counts) p.variables
 
 mutual
-  parts_declare : (around : List names.Scope) (l : Local) (ps : Parts) → EachBound l.counts around → AllBound l.counts l.here → w.parts_sites [] together all_at around l ps ≡ [] → Behind l.counts (parts_local l ps) (parts_named around l ps)
-  parts_declare around l NoPart out here calm = record { scope = here; values = tt; bounds = tt; types = tt; variables = tt }
+  parts_declare : (around : List names.Scope) (l : Local) (ps : Parts) → EachBound l.counts around
+      → AllBound l.counts l.here → w.parts_sites [] together all_at around l ps ≡ []
+      → Behind l.counts (parts_local l ps) (parts_named around l ps)
+  parts_declare around l NoPart out here calm =
+      record { scope = here; values = tt; bounds = tt; types = tt; variables = tt }
   parts_declare around l (Declare q rest) out here calm =
       let next = part_local l q in
       let last = parts_local next rest in
-      let two = calm_parts (w.part_sites [] together all_at around l q) (w.parts_sites [] together all_at around next rest) calm in
+      let two = calm_parts (w.part_sites [] together all_at around l q)
+      (w.parts_sites [] together all_at around next rest) calm in
       let a = part_named around l q in
       let b = parts_named around next rest in
       let m1 = part_moves around l q two.0 in
@@ -147,24 +179,35 @@ mutual
       let c2 = m2.0 in
       let k2 = m2.1 in
       let r = part_declares around l q out here two.0 in
-      let t = parts_declare around next rest (each_bound_more l.counts next.counts around (omega (arith, c1), omega (arith, k1)) out) r.scope two.1 in
+      let t = parts_declare around next rest
+      (each_bound_more l.counts next.counts around (omega (arith, c1), omega (arith, k1)) out) r.scope two.1 in
       record {
         scope = t.scope;
-        values = behind_join (next_constant l.counts) a.constants b.constants r.values (subst (λ z. AreValuesBehind z b.constants) c1 t.values);
-        bounds = bounds_join (next_constant last.counts) a.kinds b.kinds (bounds_more (next_constant next.counts) (next_constant last.counts) a.kinds (omega (arith, c2)) r.bounds) t.bounds;
-        types = earlier_join (next_kind l.counts) a.kinds b.kinds r.types (subst (λ z. AreEarlier z b.kinds) k1 t.types);
-        variables = typed_join (next_kind last.counts) a.variables b.variables (typed_more (next_kind next.counts) (next_kind last.counts) a.variables (omega (arith, k2)) r.variables) t.variables;
+        values = behind_join (next_constant l.counts) a.constants b.constants r.values
+            (subst (λ z. AreValuesBehind z b.constants) c1 t.values);
+        bounds = bounds_join (next_constant last.counts) a.kinds b.kinds
+            (bounds_more (next_constant next.counts) (next_constant last.counts) a.kinds (omega (arith, c2)) r.bounds)
+            t.bounds;
+        types = earlier_join (next_kind l.counts) a.kinds b.kinds r.types
+            (subst (λ z. AreEarlier z b.kinds) k1 t.types);
+        variables = typed_join (next_kind last.counts) a.variables b.variables
+            (typed_more (next_kind next.counts) (next_kind last.counts) a.variables (omega (arith, k2)) r.variables)
+            t.variables;
       }
 
-  part_declares : (around : List names.Scope) (l : Local) (q : Part) → EachBound l.counts around → AllBound l.counts l.here → w.part_sites [] together all_at around l q ≡ [] → Behind l.counts (part_local l q) (part_named around l q)
+  part_declares : (around : List names.Scope) (l : Local) (q : Part) → EachBound l.counts around
+      → AllBound l.counts l.here → w.part_sites [] together all_at around l q ≡ []
+      → Behind l.counts (part_local l q) (part_named around l q)
   part_declares around l (Const x c) out here calm =
       let next = (part_local l (Const x c)).counts in
       let moved = part_moves around l (Const x c) calm in
       let c1 = moved.0 in
       let k1 = moved.1 in
-      let two = calm_parts (all_at (inside around l) (Declares x sort.Constant)) (w.value_sites [] together all_at (inside around l) c.value) calm in
+      let two = calm_parts (all_at (inside around l) (Declares x sort.Constant))
+      (w.value_sites [] together all_at (inside around l) c.value) calm in
       record {
-        scope = declared_bound next l x.text sort.Constant (meaning.Constant (next_constant l.counts)) (all_bound_more l.counts next l.here (omega (arith, c1), omega (arith, k1)) here) (omega (arith, c1));
+        scope = declared_bound next l x.text sort.Constant (meaning.Constant (next_constant l.counts))
+            (all_bound_more l.counts next l.here (omega (arith, c1), omega (arith, k1)) here) (omega (arith, c1));
         values = (value_behind l.counts (inside around l) out here c.value two.1, tt);
         bounds = tt;
         types = tt;
@@ -176,15 +219,23 @@ mutual
       let moved = part_moves around l (Kind x d) calm in
       let c1 = moved.0 in
       let k1 = moved.1 in
-      let one = calm_parts (all_at (inside around l) (Declares x sort.Kind)) (together (w.kind_sites [] together all_at (inside around l) x d) (w.kind_constants_sites [] together all_at around (type_local l x) d)) calm in
-      let two = calm_parts (w.kind_sites [] together all_at (inside around l) x d) (w.kind_constants_sites [] together all_at around (type_local l x) d) one.1 in
-      let te : next_constant (type_local l x).counts ≡ next_constant l.counts = ap next_constant (declared_counts l x.text sort.Kind y (room_at (inside around l) x sort.Kind one.0)) in
-      let few : next_constant (type_local l x).counts + length (constants_named (next_kind l.counts) d) ≤ next_constant next = omega (arith, c1, te) in
+      let one = calm_parts (all_at (inside around l) (Declares x sort.Kind))
+      (together (w.kind_sites [] together all_at (inside around l) x d)
+      (w.kind_constants_sites [] together all_at around (type_local l x) d)) calm in
+      let two = calm_parts (w.kind_sites [] together all_at (inside around l) x d)
+      (w.kind_constants_sites [] together all_at around (type_local l x) d) one.1 in
+      let te : next_constant (type_local l x).counts ≡ next_constant l.counts =
+      ap next_constant (declared_counts l x.text sort.Kind y (room_at (inside around l) x sort.Kind one.0)) in
+      let few : next_constant (type_local l x).counts + length (constants_named (next_kind l.counts) d)
+      ≤ next_constant next = omega (arith, c1, te) in
       let of_kind = kind_behind l.counts (inside around l) out here x d two.0 in
       record {
-        scope = kind_bound around next (type_local l x) d two.1 (next_kind l.counts) few (declared_bound next l x.text sort.Kind y (all_bound_more l.counts next l.here (omega (arith, c1), omega (arith, k1)) here) (omega (arith, k1)));
+        scope = kind_bound around next (type_local l x) d two.1 (next_kind l.counts) few
+            (declared_bound next l x.text sort.Kind y
+            (all_bound_more l.counts next l.here (omega (arith, c1), omega (arith, k1)) here) (omega (arith, k1)));
         values = constants_behind (next_constant l.counts) (next_kind l.counts) d;
-        bounds = bounds_more (next_constant l.counts) (next_constant next) (record { at = x.at; form = kind_named (inside around l) d } ∷ []) (omega (arith, c1)) (of_kind.1, tt);
+        bounds = bounds_more (next_constant l.counts) (next_constant next)
+            (record { at = x.at; form = kind_named (inside around l) d } ∷ []) (omega (arith, c1)) (of_kind.1, tt);
         types = (of_kind.0, tt);
         variables = tt;
       }
@@ -193,14 +244,17 @@ mutual
       let moved = part_moves around l (Var xs t) calm in
       let c1 = moved.0 in
       let k1 = moved.1 in
-      let two = calm_parts (all_at (inside around l) (Uses t AsKind)) (w.names_sites [] together all_at around role.Local l xs) calm in
+      let two = calm_parts (all_at (inside around l) (Uses t AsKind))
+      (w.names_sites [] together all_at around role.Local l xs) calm in
       let u = used_kind l.counts (inside around l) out here t two.0 in
       record {
-        scope = names_bound next role.Local l xs (all_bound_more l.counts next l.here (omega (arith, c1), omega (arith, k1)) here);
+        scope = names_bound next role.Local l xs
+            (all_bound_more l.counts next l.here (omega (arith, c1), omega (arith, k1)) here);
         values = tt;
         bounds = tt;
         types = tt;
-        variables = names_typed (next_kind next) l.block (kind_number (find (inside around l) t.text)) role.Local xs (omega (arith, k1, u));
+        variables = names_typed (next_kind next) l.block (kind_number (find (inside around l) t.text)) role.Local xs
+            (omega (arith, k1, u));
       }
   part_declares around l (Proc x fs answer parts body) out here calm =
       let next = (part_local l (Proc x fs answer parts body)).counts in
@@ -230,11 +284,20 @@ mutual
       let kinds_at : next_kind head.counts ≡ next_kind l.counts = omega (arith, t1, f1, a1) in
       let same : UpTo l.counts head.counts = (omega (arith, constants_at), omega (arith, kinds_at)) in
       let up : UpTo l.counts next = (omega (arith, c1), omega (arith, k1)) in
-      let titled = λ (z : Counts) (le : UpTo l.counts z). declared_bound z l x.text sort.Block (block_meaning l fs answer) (all_bound_more l.counts z l.here le here) (block_bound z l fs answer) in
-      let inner = parts_declare in_ head parts (each_behind head.counts around title.here (each_bound_more l.counts head.counts around same out) (titled head.counts same)) (answer_bound head.counts formals answer (formals_bound head.counts (opened f 0 title) fs tt)) pieces.2 in
-      let one = calm_parts (w.title_sites [] together all_at env x fs answer) (together (w.formals_sites [] together all_at in_ (opened f 0 title) fs) (together (w.parts_sites [] together all_at in_ head parts) (w.statement_sites [] together all_at in_ (parts_local head parts) body))) calm in
-      let two = calm_parts (all_at env (Declares x sort.Block)) (together (w.heading_sites [] together all_at env fs) (w.answer_sites [] together all_at env answer)) one.0 in
-      let three = calm_parts (w.heading_sites [] together all_at env fs) (w.answer_sites [] together all_at env answer) two.1 in
+      let titled = λ (z : Counts) (le : UpTo l.counts z). declared_bound z l x.text sort.Block
+      (block_meaning l fs answer) (all_bound_more l.counts z l.here le here) (block_bound z l fs answer) in
+      let inner = parts_declare in_ head parts
+      (each_behind head.counts around title.here (each_bound_more l.counts head.counts around same out)
+      (titled head.counts same)) (answer_bound head.counts formals answer
+      (formals_bound head.counts (opened f 0 title) fs tt)) pieces.2 in
+      let one = calm_parts (w.title_sites [] together all_at env x fs answer)
+      (together (w.formals_sites [] together all_at in_ (opened f 0 title) fs)
+      (together (w.parts_sites [] together all_at in_ head parts)
+      (w.statement_sites [] together all_at in_ (parts_local head parts) body))) calm in
+      let two = calm_parts (all_at env (Declares x sort.Block))
+      (together (w.heading_sites [] together all_at env fs) (w.answer_sites [] together all_at env answer)) one.0 in
+      let three = calm_parts (w.heading_sites [] together all_at env fs) (w.answer_sites [] together all_at env answer)
+      two.1 in
       let k = next_kind next in
       let last = (parts_local head parts).counts in
       let av = formals_named env f fs in
@@ -244,16 +307,21 @@ mutual
       record {
         scope = titled next up;
         values = subst (λ z. AreValuesBehind z (parts_named in_ head parts).constants) constants_at inner.values;
-        bounds = bounds_more (next_constant last) (next_constant next) (parts_named in_ head parts).kinds (omega (arith, p0)) inner.bounds;
+        bounds = bounds_more (next_constant last) (next_constant next) (parts_named in_ head parts).kinds
+            (omega (arith, p0)) inner.bounds;
         types = subst (λ z. AreEarlier z (parts_named in_ head parts).kinds) kinds_at inner.types;
-        variables = typed_join k av (bv ++ (iv ++ dv)) (typed_more (next_kind l.counts) k av up.1 (formals_typed l.counts env out here f fs three.0))
-            (typed_join k bv (iv ++ dv) (typed_more (next_kind l.counts) k bv up.1 (answer_typed l.counts env out here f x answer three.1))
-            (typed_join k iv dv (typed_more (next_kind last) k iv (omega (arith, p1)) inner.variables) (indices_typed k (omega arith) head.block body)));
+        variables = typed_join k av (bv ++ (iv ++ dv))
+            (typed_more (next_kind l.counts) k av up.1 (formals_typed l.counts env out here f fs three.0))
+            (typed_join k bv (iv ++ dv) (typed_more (next_kind l.counts) k bv up.1
+            (answer_typed l.counts env out here f x answer three.1))
+            (typed_join k iv dv (typed_more (next_kind last) k iv (omega (arith, p1)) inner.variables)
+            (indices_typed k (omega arith) head.block body)));
       }
 
 -- ---- the program
 
-both_behind : (kinds2 : List KindOf) (ns : List ℕ) (j : ℕ) (cs : List NamedConstant) → AreValuesBehind j cs → AreEnumerated kinds2 ns cs → AreBehind kinds2 ns j cs
+both_behind : (kinds2 : List KindOf) (ns : List ℕ) (j : ℕ) (cs : List NamedConstant) → AreValuesBehind j cs
+    → AreEnumerated kinds2 ns cs → AreBehind kinds2 ns j cs
 both_behind kinds2 ns j [] v e = tt
 both_behind kinds2 ns j (constant.Value c ∷ cs) v e = (v.0, both_behind kinds2 ns (suc j) cs v.1 e)
 both_behind kinds2 ns j (constant.Enumerated k i ∷ cs) v e = (e.0, both_behind kinds2 ns (suc j) cs v e.1)
@@ -272,10 +340,44 @@ module _ (s : syntax.Program) (calm : names_broken s ≡ []) where
   calm_block =
       let parts = w.parts_sites [] together all_at (standard ∷ []) empty s.block.parts in
       let body = w.statement_sites [] together all_at (standard ∷ []) (parts_local empty s.block.parts) s.block.body in
-      (calm_parts parts body (calm_parts (w.files_sites [] together all_at [] s.heading) (together parts body) calm).1).0
+      (calm_parts parts body (calm_parts (w.files_sites [] together all_at [] s.heading) (together parts body)
+      calm).1).0
 
   standard_bound : AllBound empty.counts standard
-  standard_bound = (omega arith, (omega arith, (omega arith, (omega arith, (omega arith, (omega arith, (tt, (tt, (tt, (tt, (tt, (tt, (tt, (tt, (tt, (tt, (tt, (tt, (tt, (tt, (tt, (tt, tt))))))))))))))))))))))
+  standard_bound = (
+    omega arith,
+    (
+      omega arith,
+      (
+        omega arith,
+        (
+          omega arith,
+          (
+            omega arith,
+            (
+              omega arith,
+              (
+                tt,
+                (
+                  tt,
+                  (
+                    tt,
+                    (
+                      tt,
+                      (
+                        tt,
+                        (tt, (tt, (tt, (tt, (tt, (tt, (tt, (tt, (tt, (tt, (tt, tt))))))))))),
+                      ),
+                    ),
+                  ),
+                ),
+              ),
+            ),
+          ),
+        ),
+      ),
+    ),
+  )
 
   declares : Behind empty.counts (parts_local empty s.block.parts) inner_
   declares = parts_declare (standard ∷ []) empty s.block.parts (standard_bound, tt) tt calm_block
@@ -285,16 +387,34 @@ module _ (s : syntax.Program) (calm : names_broken s ≡ []) where
   program_earlier = (tt, (tt, (tt, declares.types)))
 
   -- constants are named behind their declarations
-  pub program_behind : IsGiven n_ → AreBehind (env_of n_).kinds (numbers_of n_) 0 n_.constants × AreBoundsBehind (length n_.constants) n_.kinds
+  pub program_behind : IsGiven n_ → AreBehind (env_of n_).kinds (numbers_of n_) 0 n_.constants
+      × AreBoundsBehind (length n_.constants) n_.kinds
   program_behind given_ =
       let e = (parts_move (standard ∷ []) empty s.block.parts calm_block).0 in (
         both_behind (env_of n_).kinds (numbers_of n_) 0 n_.constants (tt, declares.values) given_,
-        (tt, (tt, (tt, bounds_more (next_constant last_) (length n_.constants) inner_.kinds (omega (arith, e)) declares.bounds))),
+        (
+          tt,
+          (
+            tt,
+            (
+              tt,
+              bounds_more (next_constant last_) (length n_.constants) inner_.kinds (omega (arith, e))
+                  declares.bounds,
+            ),
+          ),
+        ),
       )
 
   -- variables are of declared types
   pub program_typed : HaveTypes (length n_.kinds) n_.variables
   program_typed =
       let e = (parts_move (standard ∷ []) empty s.block.parts calm_block).1 in
-      let k = length n_.kinds in
-      (omega arith, (omega arith, typed_join k inner_.variables (indices 0 s.block.body) (typed_more (next_kind last_) k inner_.variables (omega (arith, e)) declares.variables) (indices_typed k (omega arith) 0 s.block.body)))
+      let k = length n_.kinds in (
+        omega arith,
+        (
+          omega arith,
+          typed_join k inner_.variables (indices 0 s.block.body)
+              (typed_more (next_kind last_) k inner_.variables (omega (arith, e)) declares.variables)
+              (indices_typed k (omega arith) 0 s.block.body),
+        ),
+      )

@@ -1,5 +1,6 @@
 -- The constants of an enumeration are of an ordinal type.
-use Rattle.std.proofs.Common.{◌≡◌, refl, ap, sym, ◌∙◌, subst, ℕ, zero, suc, ◌+◌, List, [], ◌∷◌, ◌++◌, Option, Some, true, length, slice_get, arith}
+use Rattle.std.proofs.Common.{◌≡◌, refl, ap, sym, ◌∙◌, subst, ℕ, zero, suc, ◌+◌, List, [], ◌∷◌, ◌++◌, Option, Some}
+use Rattle.std.proofs.Common.{true, length, slice_get, arith}
 use Rattle.sp_base.specs.declared.place.Place.{Place}
 use Rattle.sp_tree.specs.declared.syntax.Name.{Name}
 use Rattle.sp_tree.specs.NameFirst.{together, all_at}
@@ -7,16 +8,23 @@ use Rattle.sp_tree.specs.Scopes as names
 use Rattle.sp_tree.specs.Scopes.{Env, look, find, find_in, or_else}
 use Rattle.sp_tree.specs.NameWalk as w
 use Rattle.sp_tree.specs.NameWalk.{role_of}
-use Rattle.sp_tree.specs.PlainSyntax.{Expression, At, ExpressionForm, Number, Quoted, Read, Apply, Unary, Binary, Variable, Entire, Selector, Index, Field, Selectors, Whole, Select, Argument, Pass, Width, NoWidth, Within, Arguments, NoArgument, AndArgument}
+use Rattle.sp_tree.specs.PlainSyntax.{Expression, At, ExpressionForm, Number, Quoted, Read, Apply, Unary, Binary}
+use Rattle.sp_tree.specs.PlainSyntax.{Variable, Entire, Selector, Index, Field, Selectors, Whole, Select, Argument}
+use Rattle.sp_tree.specs.PlainSyntax.{Pass, Width, NoWidth, Within, Arguments, NoArgument, AndArgument}
 use Rattle.sp_facts.proofs.Calm.{calm_parts}
 use Rattle.std.proofs.lemmas.List.{length-append}
 use Rattle.std.proofs.lemmas.Option.{same_Some}
 use Rattle.sp_tree.specs.Scopes.{Local, inside, opened, declared, most, variable, next_variable}
-use Rattle.sp_tree.specs.NameWalk.{statement_local, statements_local, other_local, arms_local, arm_local, branches_local, form_local, indexed, deeper}
-use Rattle.sp_tree.specs.PlainSyntax.{Statement, Does, Form, Empty, Assign, Call, Sequence, If, While, Repeat, Case, For, Parallel, Forall, Assume, Other, NoElse, Else, Statements, NoStatement, AndThen, Arm, On, Arms, NoArm, Or, Branches, NoBranch, Beside}
+use Rattle.sp_tree.specs.NameWalk.{statement_local, statements_local, other_local, arms_local, arm_local}
+use Rattle.sp_tree.specs.NameWalk.{branches_local, form_local, indexed, deeper}
+use Rattle.sp_tree.specs.PlainSyntax.{Statement, Does, Form, Empty, Assign, Call, Sequence, If, While, Repeat, Case}
+use Rattle.sp_tree.specs.PlainSyntax.{For, Parallel, Forall, Assume, Other, NoElse, Else, Statements, NoStatement}
+use Rattle.sp_tree.specs.PlainSyntax.{AndThen, Arm, On, Arms, NoArm, Or, Branches, NoBranch, Beside}
 use Rattle.sp_tree.specs.declared.syntax.SynKind.TheVariants as kinds
 use Rattle.sp_tree.specs.Scopes.{put, closed, next_constant, next_kind, next_block}
-use Rattle.sp_tree.specs.NameWalk.{names_local, formals_local, title_local, answer_local, heading_local, constants_local, kind_local, type_local, parts_local, part_local, block_meaning, references}
+use Rattle.sp_tree.specs.NameWalk.{names_local, formals_local, title_local, answer_local, heading_local}
+use Rattle.sp_tree.specs.NameWalk.{constants_local, kind_local, type_local, parts_local, part_local, block_meaning}
+use Rattle.sp_tree.specs.NameWalk.{references}
 use Rattle.sp_tree.specs.NamedTree.{enumerated, parts_named, part_named}
 use Rattle.sp_tree.specs.PlainSyntax.{Part, Const, Kind, Var, Proc, Parts, NoPart, Declare}
 use Rattle.sp_facts.proofs.Numbering.{answer_adds, part_moves}
@@ -33,7 +41,8 @@ use Rattle.sp_tree.specs.declared.named.NamedKindForm.{NamedKindForm}
 use Rattle.sp_tree.specs.declared.named.NamedKindForm.TheVariants as form
 use Rattle.sp_tree.specs.Cells.{first_or}
 use Rattle.sp_types.specs.declared.tables.Ordinal.{Ordinal}
-use Rattle.sp_types.specs.Tables.{number_by, next_by, numbers_from, type_number, kinds_by, kinds_from, numbers_of, constants_of, env_of}
+use Rattle.sp_types.specs.Tables.{number_by, next_by, numbers_from, type_number, kinds_by, kinds_from, numbers_of}
+use Rattle.sp_types.specs.Tables.{constants_of, env_of}
 use Rattle.sp_types.specs.TypeRules.{is_ordinal}
 use Rattle.sp_facts.specs.Given.{AreEnumerated, IsGiven}
 use Rattle.sp_facts.proofs.TypesFormed.{keeps}
@@ -57,19 +66,31 @@ get_last (y ∷ xs) x = get_last xs x
 abbrev OrdinalAt : List ℕ → List KindOf → ℕ → ℕ → Type 0
 OrdinalAt full ts next at = (t : ℕ) × (slice_get full at ≡ Some (next + t)) × (is_ordinal (slice_get ts t) ≡ true)
 
-ordinal_at : (ns : List ℕ) (consts : List (Option Ordinal)) (known : List ℕ) (next : ℕ) (ks : List NamedKind) (j : ℕ) (d : NamedKind) → slice_get ks j ≡ Some d → IsOrdinalForm d.form → OrdinalAt (numbers_from known next ks) (kinds_from ns consts ks) next (length known + j)
+ordinal_at : (ns : List ℕ) (consts : List (Option Ordinal)) (known : List ℕ) (next : ℕ) (ks : List NamedKind) (j : ℕ)
+    (d : NamedKind) → slice_get ks j ≡ Some d → IsOrdinalForm d.form
+    → OrdinalAt (numbers_from known next ks) (kinds_from ns consts ks) next (length known + j)
 ordinal_at ns consts known next [] j d e o = absurd (cc e)
-ordinal_at ns consts known next (k ∷ ks) zero d e o = go k.form (subst (λ (z : NamedKind). IsOrdinalForm z.form) (sym (same_Some k d e)) o) (λ y h. keeps (known ++ y ∷ []) h ks (length known) y (get_last known y))
+ordinal_at ns consts known next (k ∷ ks) zero d e o =
+    go k.form (subst (λ (z : NamedKind). IsOrdinalForm z.form) (sym (same_Some k d e)) o)
+    (λ y h. keeps (known ++ y ∷ []) h ks (length known) y (get_last known y))
   where
-    at_end : (z : ℕ) → (full : List ℕ) → slice_get full (length known) ≡ Some next → slice_get full (length known + 0) ≡ Some (next + 0)
-    at_end z full h = let a : length known + 0 ≡ length known = omega arith in let b : next ≡ next + 0 = omega arith in ap (slice_get full) a ∙ h ∙ ap Some b
+    at_end : (z : ℕ) → (full : List ℕ) → slice_get full (length known) ≡ Some next
+        → slice_get full (length known + 0) ≡ Some (next + 0)
+    at_end z full h = let a : length known + 0 ≡ length known = omega arith in let b : next ≡ next + 0 = omega arith in
+        ap (slice_get full) a ∙ h ∙ ap Some b
 
-    go : (f : NamedKindForm) → IsOrdinalForm f → ((y h : ℕ) → slice_get (numbers_from (known ++ y ∷ []) h ks) (length known) ≡ Some y)
-        → OrdinalAt (numbers_from (known ++ number_by known next f ∷ []) (next_by next f) ks) (kinds_by ns consts f ++ kinds_from ns consts ks) next (length known + 0)
+    go : (f : NamedKindForm) → IsOrdinalForm f
+        → ((y h : ℕ) → slice_get (numbers_from (known ++ y ∷ []) h ks) (length known) ≡ Some y)
+        → OrdinalAt (numbers_from (known ++ number_by known next f ∷ []) (next_by next f) ks)
+        (kinds_by ns consts f ++ kinds_from ns consts ks) next (length known + 0)
     go form.Integer o h = (0, at_end 0 (numbers_from (known ++ next ∷ []) (next + 1) ks) (h next (next + 1)), refl)
     go form.Boolean o h = (0, at_end 0 (numbers_from (known ++ next ∷ []) (next + 1) ks) (h next (next + 1)), refl)
     go form.Char o h = (0, at_end 0 (numbers_from (known ++ next ∷ []) (next + 1) ks) (h next (next + 1)), refl)
-    go (form.Enumeration m) o h = (0, at_end 0 (numbers_from (known ++ next ∷ []) (next + 1) ks) (h next (next + 1)), refl)
+    go (form.Enumeration m) o h = (
+      0,
+      at_end 0 (numbers_from (known ++ next ∷ []) (next + 1) ks) (h next (next + 1)),
+      refl,
+    )
     go (form.Alias j) o h = absurd o
     go (form.Array a b e) o h = absurd o
     go (form.Fields fs) o h = absurd o
@@ -78,13 +99,18 @@ ordinal_at ns consts known next (k ∷ ks) (suc j) d e o =
     let y = number_by known next k.form in
     let l = length-append known (y ∷ []) in
     let z : length (known ++ y ∷ []) + j ≡ length known + suc j = omega (arith, l) in
-    go k.form (subst (λ at. OrdinalAt (numbers_from (known ++ y ∷ []) (next_by next k.form) ks) (kinds_from ns consts ks) (next_by next k.form) at) z (ordinal_at ns consts (known ++ y ∷ []) (next_by next k.form) ks j d e o))
+    go k.form (subst (λ at. OrdinalAt (numbers_from (known ++ y ∷ []) (next_by next k.form) ks)
+    (kinds_from ns consts ks) (next_by next k.form) at) z
+    (ordinal_at ns consts (known ++ y ∷ []) (next_by next k.form) ks j d e o))
   where
-    up : (full : List ℕ) (t : ℕ) → slice_get full (length known + suc j) ≡ Some ((next + 1) + t) → slice_get full (length known + suc j) ≡ Some (next + suc t)
+    up : (full : List ℕ) (t : ℕ) → slice_get full (length known + suc j) ≡ Some ((next + 1) + t)
+        → slice_get full (length known + suc j) ≡ Some (next + suc t)
     up full t h = h ∙ ap Some (let z : (next + 1) + t ≡ next + suc t = omega arith in z)
 
-    go : (f : NamedKindForm) → OrdinalAt (numbers_from (known ++ number_by known next f ∷ []) (next_by next f) ks) (kinds_from ns consts ks) (next_by next f) (length known + suc j)
-        → OrdinalAt (numbers_from (known ++ number_by known next f ∷ []) (next_by next f) ks) (kinds_by ns consts f ++ kinds_from ns consts ks) next (length known + suc j)
+    go : (f : NamedKindForm) → OrdinalAt (numbers_from (known ++ number_by known next f ∷ []) (next_by next f) ks)
+        (kinds_from ns consts ks) (next_by next f) (length known + suc j)
+        → OrdinalAt (numbers_from (known ++ number_by known next f ∷ []) (next_by next f) ks)
+        (kinds_by ns consts f ++ kinds_from ns consts ks) next (length known + suc j)
     go form.Integer (t, h, r) = (suc t, up (numbers_from (known ++ next ∷ []) (next + 1) ks) t h, r)
     go form.Boolean (t, h, r) = (suc t, up (numbers_from (known ++ next ∷ []) (next + 1) ks) t h, r)
     go form.Char (t, h, r) = (suc t, up (numbers_from (known ++ next ∷ []) (next + 1) ks) t h, r)
@@ -101,39 +127,56 @@ module _ (all : List NamedKind) where
   HoldsKinds j [] = Unit {0}
   HoldsKinds j (d ∷ ds) = (slice_get all j ≡ Some d) × HoldsKinds (suc j) ds
 
-  kinds_parts : (j : ℕ) (xs ys : List NamedKind) → HoldsKinds j (xs ++ ys) → HoldsKinds j xs × HoldsKinds (j + length xs) ys
+  kinds_parts : (j : ℕ) (xs ys : List NamedKind) → HoldsKinds j (xs ++ ys) → HoldsKinds j xs
+      × HoldsKinds (j + length xs) ys
   kinds_parts j [] ys h = (tt, subst (λ z. HoldsKinds z ys) (let z : j ≡ j + 0 = omega arith in z) h)
-  kinds_parts j (d ∷ xs) ys h = let r = kinds_parts (suc j) xs ys h.1 in ((h.0, r.0), subst (λ z. HoldsKinds z ys) (let z : suc j + length xs ≡ j + suc (length xs) = omega arith in z) r.1)
+  kinds_parts j (d ∷ xs) ys h = let r = kinds_parts (suc j) xs ys h.1 in (
+    (h.0, r.0),
+    subst (λ z. HoldsKinds z ys) (let z : suc j + length xs ≡ j + suc (length xs) = omega arith in z)
+        r.1,
+  )
 
   abbrev AreEnums : List NamedConstant → Type 0
   AreEnums [] = Unit {0}
   AreEnums (constant.Value c ∷ cs) = AreEnums cs
-  AreEnums (constant.Enumerated k i ∷ cs) = ((d : NamedKind) × (slice_get all k ≡ Some d) × IsOrdinalForm d.form) × AreEnums cs
+  AreEnums (constant.Enumerated k i ∷ cs) = ((d : NamedKind) × (slice_get all k ≡ Some d) × IsOrdinalForm d.form)
+      × AreEnums cs
 
   enums_join : (xs ys : List NamedConstant) → AreEnums xs → AreEnums ys → AreEnums (xs ++ ys)
   enums_join [] ys x y = y
   enums_join (constant.Value c ∷ xs) ys x y = enums_join xs ys x y
   enums_join (constant.Enumerated k i ∷ xs) ys x y = (x.0, enums_join xs ys x.1 y)
 
-  enumerated_at : (k i m : ℕ) (at : Place) (xs : List Name) → slice_get all k ≡ Some (record { at = at; form = form.Enumeration m }) → AreEnums (enumerated k i xs)
+  enumerated_at : (k i m : ℕ) (at : Place) (xs : List Name)
+      → slice_get all k ≡ Some (record { at = at; form = form.Enumeration m }) → AreEnums (enumerated k i xs)
   enumerated_at k i m at [] e = tt
-  enumerated_at k i m at (x ∷ xs) e = ((record { at = at; form = form.Enumeration m }, e, tt), enumerated_at k (suc i) m at xs e)
+  enumerated_at k i m at (x ∷ xs) e = (
+    (record { at = at; form = form.Enumeration m }, e, tt),
+    enumerated_at k (suc i) m at xs e,
+  )
 
   mutual
-    parts_enums : (around : List names.Scope) (l : Local) (ps : Parts) → w.parts_sites [] together all_at around l ps ≡ [] → HoldsKinds (next_kind l.counts) (parts_named around l ps).kinds → AreEnums (parts_named around l ps).constants
+    parts_enums : (around : List names.Scope) (l : Local) (ps : Parts)
+        → w.parts_sites [] together all_at around l ps ≡ []
+        → HoldsKinds (next_kind l.counts) (parts_named around l ps).kinds → AreEnums (parts_named around l ps).constants
     parts_enums around l NoPart calm h = tt
     parts_enums around l (Declare q rest) calm h =
         let next = part_local l q in
-        let two = calm_parts (w.part_sites [] together all_at around l q) (w.parts_sites [] together all_at around next rest) calm in
+        let two = calm_parts (w.part_sites [] together all_at around l q)
+        (w.parts_sites [] together all_at around next rest) calm in
         let a = part_named around l q in
         let b = parts_named around next rest in
         let hs = kinds_parts (next_kind l.counts) a.kinds b.kinds h in
-        enums_join a.constants b.constants (part_enums around l q two.0 hs.0) (parts_enums around next rest two.1 (subst (λ z. HoldsKinds z b.kinds) (sym (part_moves around l q two.0).1) hs.1))
+        enums_join a.constants b.constants (part_enums around l q two.0 hs.0)
+        (parts_enums around next rest two.1
+        (subst (λ z. HoldsKinds z b.kinds) (sym (part_moves around l q two.0).1) hs.1))
 
-    part_enums : (around : List names.Scope) (l : Local) (q : Part) → w.part_sites [] together all_at around l q ≡ [] → HoldsKinds (next_kind l.counts) (part_named around l q).kinds → AreEnums (part_named around l q).constants
+    part_enums : (around : List names.Scope) (l : Local) (q : Part) → w.part_sites [] together all_at around l q ≡ []
+        → HoldsKinds (next_kind l.counts) (part_named around l q).kinds → AreEnums (part_named around l q).constants
     part_enums around l (Const x c) calm h = tt
     part_enums around l (Kind x (kinds.Alias t)) calm h = tt
-    part_enums around l (Kind x (kinds.Enumeration xs)) calm h = enumerated_at (next_kind l.counts) 0 (length xs) x.at xs h.0
+    part_enums around l (Kind x (kinds.Enumeration xs)) calm h =
+        enumerated_at (next_kind l.counts) 0 (length xs) x.at xs h.0
     part_enums around l (Kind x (kinds.Array lo hi t)) calm h = tt
     part_enums around l (Kind x (kinds.Record gs)) calm h = tt
     part_enums around l (Kind x (kinds.Channel ts)) calm h = tt
@@ -148,31 +191,50 @@ module _ (all : List NamedKind) where
         let f1 = (formals_move around l x fs answer parts body calm).1 in
         let a1 = (answer_adds formals (inside around l) f x answer).1 in
         let at_head : next_kind l.counts ≡ next_kind head.counts = omega (arith, t1, f1, a1) in
-        parts_enums in_ head parts (calm_pieces around l x fs answer parts body calm).2 (subst (λ z. HoldsKinds z (parts_named in_ head parts).kinds) at_head h)
+        parts_enums in_ head parts (calm_pieces around l x fs answer parts body calm).2
+        (subst (λ z. HoldsKinds z (parts_named in_ head parts).kinds) at_head h)
 
-holds_from : (all : List NamedKind) (j : ℕ) (ks : List NamedKind) → ((i : ℕ) → slice_get all (j + i) ≡ slice_get ks i) → HoldsKinds all j ks
+holds_from : (all : List NamedKind) (j : ℕ) (ks : List NamedKind) → ((i : ℕ) → slice_get all (j + i) ≡ slice_get ks i)
+    → HoldsKinds all j ks
 holds_from all j [] h = tt
-holds_from all j (d ∷ ds) h = (subst (λ z. slice_get all z ≡ Some d) (let z : j + 0 ≡ j = omega arith in z) (h 0), holds_from all (suc j) ds (λ i. subst (λ z. slice_get all z ≡ slice_get ds i) (let z : j + suc i ≡ suc j + i = omega arith in z) (h (suc i))))
+holds_from all j (d ∷ ds) h = (
+  subst (λ z. slice_get all z ≡ Some d) (let z : j + 0 ≡ j = omega arith in z) (h 0),
+  holds_from all (suc j) ds (λ i. subst (λ z. slice_get all z ≡ slice_get ds i)
+      (let z : j + suc i ≡ suc j + i = omega arith in z) (h (suc i))),
+)
 
 pub program_given : (s : syntax.Program) → names_broken s ≡ [] → IsGiven (program_named s)
 program_given s calm =
     let n_ = program_named s in
     let h = holds_from n_.kinds 0 n_.kinds (λ i. ap (slice_get n_.kinds) (let z : 0 + i ≡ i = omega arith in z)) in
-    go n_.constants ((std_bool, refl, tt), ((std_bool, refl, tt), parts_enums n_.kinds (standard ∷ []) empty s.block.parts two.0 h.1.1.1))
+    go n_.constants (
+      (std_bool, refl, tt),
+      (
+        (std_bool, refl, tt),
+        parts_enums n_.kinds (standard ∷ []) empty s.block.parts two.0 h.1.1.1,
+      ),
+    )
   where
-    two : (w.parts_sites [] together all_at (standard ∷ []) empty s.block.parts ≡ []) × (w.statement_sites [] together all_at (standard ∷ []) (parts_local empty s.block.parts) s.block.body ≡ [])
-    two = calm_parts (w.parts_sites [] together all_at (standard ∷ []) empty s.block.parts) (w.statement_sites [] together all_at (standard ∷ []) (parts_local empty s.block.parts) s.block.body)
-        (calm_parts (w.files_sites [] together all_at [] s.heading) (together (w.parts_sites [] together all_at (standard ∷ []) empty s.block.parts) (w.statement_sites [] together all_at (standard ∷ []) (parts_local empty s.block.parts) s.block.body)) calm).1
+    two : (w.parts_sites [] together all_at (standard ∷ []) empty s.block.parts ≡ [])
+        × (w.statement_sites [] together all_at (standard ∷ []) (parts_local empty s.block.parts) s.block.body ≡ [])
+    two = calm_parts (w.parts_sites [] together all_at (standard ∷ []) empty s.block.parts)
+        (w.statement_sites [] together all_at (standard ∷ []) (parts_local empty s.block.parts) s.block.body)
+        (calm_parts (w.files_sites [] together all_at [] s.heading)
+        (together (w.parts_sites [] together all_at (standard ∷ []) empty s.block.parts)
+        (w.statement_sites [] together all_at (standard ∷ []) (parts_local empty s.block.parts) s.block.body))
+        calm).1
 
     std_bool : NamedKind
     std_bool = record { at = s.name.at; form = form.Boolean }
 
-    go : (cs : List NamedConstant) → AreEnums (program_named s).kinds cs → AreEnumerated (env_of (program_named s)).kinds (numbers_of (program_named s)) cs
+    go : (cs : List NamedConstant) → AreEnums (program_named s).kinds cs
+        → AreEnumerated (env_of (program_named s)).kinds (numbers_of (program_named s)) cs
     go [] h = tt
     go (constant.Value c ∷ cs) h = go cs h
     go (constant.Enumerated k i ∷ cs) h =
         let n_ = program_named s in
         let r = ordinal_at (numbers_of n_) (constants_of n_) [] 0 n_.kinds k h.0.0 h.0.1 h.0.2 in
         let at : 0 + k ≡ k = omega arith in
-        let num : type_number (numbers_of n_) k ≡ r.0 = ap (first_or 0) (ap (slice_get (numbers_of n_)) (sym at) ∙ r.1) ∙ (let z : 0 + r.0 ≡ r.0 = omega arith in z) in
+        let num : type_number (numbers_of n_) k ≡ r.0 = ap (first_or 0) (ap (slice_get (numbers_of n_)) (sym at) ∙ r.1)
+        ∙ (let z : 0 + r.0 ≡ r.0 = omega arith in z) in
         (subst (λ z. is_ordinal (slice_get (env_of n_).kinds z) ≡ true) (sym num) r.2, go cs h.1)

@@ -1,5 +1,6 @@
 -- The blocks of a tree that breaks no rule are fine.
-use Rattle.std.proofs.Common.{◌≡◌, refl, sym, subst, ℕ, zero, suc, ◌+◌, List, [], ◌∷◌, Option, Some, None, Bool, true, false, length, slice_get, arith}
+use Rattle.std.proofs.Common.{◌≡◌, refl, sym, subst, ℕ, zero, suc, ◌+◌, List, [], ◌∷◌, Option, Some, None, Bool, true}
+use Rattle.std.proofs.Common.{false, length, slice_get, arith}
 use Rattle.std.specs.Prelude.{map}
 use Rattle.std.proofs.lemmas.Option.{same_Some}
 use Rattle.sp_tree.specs.declared.checked.Variable as checked
@@ -36,7 +37,8 @@ use Rattle.sp_facts.proofs.Program.{named, tree, scoped}
 no_index : (p : plain.Program) (k : ℕ) (o : Option ℕ) (x up : ℕ) → level (is_index x) (scopes_by p k o) ≡ Some up → ⊥
 no_index p zero o x up e = cc e
 no_index p (suc k) None x up e = cc e
-no_index p (suc k) (Some b) x up e = go (level (is_index x) (scopes_by p k (parent_of (slice_get p.blocks b)))) e (λ u h. no_index p k (parent_of (slice_get p.blocks b)) x u h)
+no_index p (suc k) (Some b) x up e = go (level (is_index x) (scopes_by p k (parent_of (slice_get p.blocks b)))) e
+    (λ u h. no_index p k (parent_of (slice_get p.blocks b)) x u h)
   where
     go : (l : Option ℕ) → one_more l ≡ Some up → ((u : ℕ) → l ≡ Some u → ⊥) → ⊥
     go None e next = cc e
@@ -52,51 +54,101 @@ no_forall p f = go (length p.blocks)
 module _ (p : plain.Program) (m : ℕ) (moves shares : Stmt → List ℕ) (hush : ℕ → Type 0) where
   ready_at : (f : ℕ) (env : Env) (k : ℕ) → Knows p m env → Ready p m (started env k) (scopes_of p f)
   ready_at f env k h = (
-    record { kinds = h.kinds; integer = h.integer; boolean = h.boolean; char = h.char; given = h.given; variables = h.variables; room = h.room; roles = h.roles; blocks = h.blocks; formals = h.formals; answers = h.answers; elements = h.elements; fields = h.fields },
+    record {
+      kinds = h.kinds;
+      integer = h.integer;
+      boolean = h.boolean;
+      char = h.char;
+      given = h.given;
+      variables = h.variables;
+      room = h.room;
+      roles = h.roles;
+      blocks = h.blocks;
+      formals = h.formals;
+      answers = h.answers;
+      elements = h.elements;
+      fields = h.fields;
+    },
     λ x up v e at. absurd (no_index p (length p.blocks) (Some f) x up e),
   )
 
   -- all blocks from a number on; calm_use: what the rules of interference give where no function is being called
-  pub blocks_fine : (numbers cells : List ℕ) (variables : List checked.Variable) (k : ℕ) (env : Env) (starts : List ℕ) (bs : List n.Block) → Knows p m env → AreScoped p m k bs → w.blocks_sites [] together listed numbers cells variables k env starts bs ≡ [] → AreBlocksTyped p env starts bs
-      → ((i : ℕ) (c : plain.Block) → slice_get (map bare_block (checked_blocks env starts bs)) i ≡ Some c → Quiet p m moves shares hush true (scopes_of p (k + i)) (In_stmt c.body))
-      → (free : Bool) (i : ℕ) (c : plain.Block) → slice_get (map bare_block (checked_blocks env starts bs)) i ≡ Some c → Quiet p m moves shares hush free (scopes_of p (k + i)) (In_stmt c.body) → Done p m moves shares hush free (scopes_of p (k + i)) c.body
+  pub blocks_fine : (numbers cells : List ℕ) (variables : List checked.Variable) (k : ℕ) (env : Env) (starts : List ℕ)
+      (bs : List n.Block) → Knows p m env → AreScoped p m k bs
+      → w.blocks_sites [] together listed numbers cells variables k env starts bs ≡ [] → AreBlocksTyped p env starts bs
+      → ((i : ℕ) (c : plain.Block) → slice_get (map bare_block (checked_blocks env starts bs)) i ≡ Some c
+      → Quiet p m moves shares hush true (scopes_of p (k + i)) (In_stmt c.body))
+      → (free : Bool) (i : ℕ) (c : plain.Block) → slice_get (map bare_block (checked_blocks env starts bs)) i ≡ Some c
+      → Quiet p m moves shares hush free (scopes_of p (k + i)) (In_stmt c.body)
+      → Done p m moves shares hush free (scopes_of p (k + i)) c.body
   blocks_fine numbers cells variables k env starts [] knows here calm typed calm_use free i c e quiet = absurd (cc e)
   blocks_fine numbers cells variables k env [] (b ∷ bs) knows here calm typed calm_use free i c e quiet = absurd (cc e)
-  blocks_fine numbers cells variables k env (z ∷ starts) (b ∷ bs) knows (in_b, in_bs) calm (typed_b, typed_bs) calm_use free i c e quiet =
-      by i e quiet (λ j e2 q2. blocks_fine numbers cells variables (suc k) next starts bs grown.0 in_bs (subst (λ y. w.blocks_sites [] together listed numbers cells variables y next starts bs ≡ []) (let y : k + 1 ≡ suc k = omega arith in y) two.1) typed_bs
-      (λ j d e3. subst (λ y. Quiet p m moves shares hush true (scopes_of p y) (In_stmt d.body)) (let y : k + suc j ≡ suc k + j = omega arith in y) (calm_use (suc j) d e3)) free j c e2 q2)
+  blocks_fine numbers cells variables k env (z ∷ starts) (b ∷ bs) knows (in_b, in_bs) calm (typed_b, typed_bs) calm_use
+      free i c e quiet =
+      by i e quiet (λ j e2 q2. blocks_fine numbers cells variables (suc k) next starts bs grown.0 in_bs
+      (subst (λ y. w.blocks_sites [] together listed numbers cells variables y next starts bs ≡ [])
+      (let y : k + 1 ≡ suc k = omega arith in y) two.1) typed_bs
+      (λ j d e3. subst (λ y. Quiet p m moves shares hush true (scopes_of p y) (In_stmt d.body))
+      (let y : k + suc j ≡ suc k + j = omega arith in y) (calm_use (suc j) d e3)) free j c e2 q2)
     where
       next : Env
       next = statement_after (started env z) b.body
 
-      two : (w.block_sites [] together listed numbers cells variables k (started env z) b ≡ []) × (w.blocks_sites [] together listed numbers cells variables (k + 1) (statement_after (started env z) b.body) starts bs ≡ [])
-      two = calm_parts (w.block_sites [] together listed numbers cells variables k (started env z) b) (w.blocks_sites [] together listed numbers cells variables (k + 1) (statement_after (started env z) b.body) starts bs) calm
+      two : (w.block_sites [] together listed numbers cells variables k (started env z) b ≡ [])
+          × (w.blocks_sites [] together listed numbers cells variables (k + 1) (statement_after (started env z) b.body)
+          starts bs ≡ [])
+      two = calm_parts (w.block_sites [] together listed numbers cells variables k (started env z) b)
+          (w.blocks_sites [] together listed numbers cells variables (k + 1) (statement_after (started env z) b.body)
+          starts bs) calm
 
       body_calm : w.statement_sites [] together listed (started env z) b.body ≡ []
-      body_calm = (calm_parts (w.answer_sites [] together listed (started env z) b.answer) (w.statement_sites [] together listed (started env z) b.body)
-          (calm_parts (listed (frame_rule b.at (frame_cells numbers cells k variables))) (together (w.answer_sites [] together listed (started env z) b.answer) (w.statement_sites [] together listed (started env z) b.body)) two.0).1).1
+      body_calm = (calm_parts (w.answer_sites [] together listed (started env z) b.answer)
+          (w.statement_sites [] together listed (started env z) b.body)
+          (calm_parts (listed (frame_rule b.at (frame_cells numbers cells k variables)))
+          (together (w.answer_sites [] together listed (started env z) b.answer)
+          (w.statement_sites [] together listed (started env z) b.body)) two.0).1).1
 
       grown : Grown p m (started env z) (statement_after (started env z) b.body)
-      grown = (statement_fine p m moves shares hush (performs p m moves shares hush) true (started env z) (scopes_of p k) b.body (ready_at k env z knows) body_calm in_b typed_b
-          (subst (λ y. Quiet p m moves shares hush true (scopes_of p y) (In_stmt (bare_statement (checked_statement (started env z) b.body)))) (let y : k + 0 ≡ k = omega arith in y) (calm_use 0 (bare_block (checked_block (started env z) b)) refl))).0
+      grown = (statement_fine p m moves shares hush (performs p m moves shares hush) true (started env z)
+          (scopes_of p k) b.body (ready_at k env z knows) body_calm in_b typed_b
+          (subst (λ y. Quiet p m moves shares hush true (scopes_of p y)
+          (In_stmt (bare_statement (checked_statement (started env z) b.body))))
+          (let y : k + 0 ≡ k = omega arith in y)
+          (calm_use 0 (bare_block (checked_block (started env z) b)) refl))).0
 
-      first : (d : plain.Block) → bare_block (checked_block (started env z) b) ≡ d → Quiet p m moves shares hush free (scopes_of p k) (In_stmt d.body) → Done p m moves shares hush free (scopes_of p k) d.body
-      first d e q = subst (λ (y : plain.Block). Quiet p m moves shares hush free (scopes_of p k) (In_stmt y.body) → Done p m moves shares hush free (scopes_of p k) y.body) e
-          (λ q. (statement_fine p m moves shares hush (performs p m moves shares hush) free (started env z) (scopes_of p k) b.body (ready_at k env z knows) body_calm in_b typed_b q).1) q
+      first : (d : plain.Block) → bare_block (checked_block (started env z) b) ≡ d
+          → Quiet p m moves shares hush free (scopes_of p k) (In_stmt d.body)
+          → Done p m moves shares hush free (scopes_of p k) d.body
+      first d e q = subst (λ (y : plain.Block). Quiet p m moves shares hush free (scopes_of p k) (In_stmt y.body)
+          → Done p m moves shares hush free (scopes_of p k) y.body) e
+          (λ q. (statement_fine p m moves shares hush (performs p m moves shares hush) free (started env z)
+          (scopes_of p k) b.body (ready_at k env z knows) body_calm in_b typed_b q).1) q
 
-      by : (i : ℕ) → slice_get (map bare_block (checked_blocks env (z ∷ starts) (b ∷ bs))) i ≡ Some c → Quiet p m moves shares hush free (scopes_of p (k + i)) (In_stmt c.body)
-          → ((j : ℕ) → slice_get (map bare_block (checked_blocks (statement_after (started env z) b.body) starts bs)) j ≡ Some c → Quiet p m moves shares hush free (scopes_of p (suc k + j)) (In_stmt c.body) → Done p m moves shares hush free (scopes_of p (suc k + j)) c.body)
+      by : (i : ℕ) → slice_get (map bare_block (checked_blocks env (z ∷ starts) (b ∷ bs))) i ≡ Some c
+          → Quiet p m moves shares hush free (scopes_of p (k + i)) (In_stmt c.body)
+          → ((j : ℕ) → slice_get (map bare_block (checked_blocks (statement_after (started env z) b.body) starts bs)) j
+          ≡ Some c → Quiet p m moves shares hush free (scopes_of p (suc k + j)) (In_stmt c.body)
+          → Done p m moves shares hush free (scopes_of p (suc k + j)) c.body)
           → Done p m moves shares hush free (scopes_of p (k + i)) c.body
-      by zero e q later = subst (λ y. Done p m moves shares hush free (scopes_of p y) c.body) (let y : k ≡ k + 0 = omega arith in y)
-          (first c (same_Some (bare_block (checked_block (started env z) b)) c e) (subst (λ y. Quiet p m moves shares hush free (scopes_of p y) (In_stmt c.body)) (let y : k + 0 ≡ k = omega arith in y) q))
-      by (suc i) e q later = subst (λ y. Done p m moves shares hush free (scopes_of p y) c.body) (let y : suc k + i ≡ k + suc i = omega arith in y)
-          (later i e (subst (λ y. Quiet p m moves shares hush free (scopes_of p y) (In_stmt c.body)) (let y : k + suc i ≡ suc k + i = omega arith in y) q))
+      by zero e q later = subst (λ y. Done p m moves shares hush free (scopes_of p y) c.body)
+          (let y : k ≡ k + 0 = omega arith in y)
+          (first c (same_Some (bare_block (checked_block (started env z) b)) c e)
+          (subst (λ y. Quiet p m moves shares hush free (scopes_of p y) (In_stmt c.body))
+          (let y : k + 0 ≡ k = omega arith in y) q))
+      by (suc i) e q later = subst (λ y. Done p m moves shares hush free (scopes_of p y) c.body)
+          (let y : suc k + i ≡ k + suc i = omega arith in y)
+          (later i e (subst (λ y. Quiet p m moves shares hush free (scopes_of p y) (In_stmt c.body))
+          (let y : k + suc i ≡ suc k + i = omega arith in y) q))
 
 -- ---- the program
 
-module _ (s : syntax.Program) (calm : names_broken s ≡ []) (no_types : types_broken (named s calm) ≡ []) (free_of : IsFreeOfInterference (tree s calm))
-    (functions : (f x : ℕ) (b : plain.Block) → slice_get (tree s calm).blocks f ≡ Some b → b.answer ≡ Some x → IsQuiet (tree s calm) f)
-    (knows : Knows (tree s calm) (length (named s calm).constants) (env_of (named s calm))) (typed : AreBlocksTyped (tree s calm) (env_of (named s calm)) (starts_of (named s calm).blocks) (named s calm).blocks) (moves shares : Stmt → List ℕ) where
+module _ (s : syntax.Program) (calm : names_broken s ≡ []) (no_types : types_broken (named s calm) ≡ [])
+    (free_of : IsFreeOfInterference (tree s calm))
+    (functions : (f x : ℕ) (b : plain.Block) → slice_get (tree s calm).blocks f ≡ Some b → b.answer ≡ Some x
+    → IsQuiet (tree s calm) f)
+    (knows : Knows (tree s calm) (length (named s calm).constants) (env_of (named s calm)))
+    (typed : AreBlocksTyped (tree s calm) (env_of (named s calm)) (starts_of (named s calm).blocks)
+    (named s calm).blocks) (moves shares : Stmt → List ℕ) where
   abbrev p_ : plain.Program
   p_ = tree s calm
 
@@ -106,34 +158,50 @@ module _ (s : syntax.Program) (calm : names_broken s ≡ []) (no_types : types_b
   abbrev m_ : ℕ
   m_ = length n_.constants
 
-  blocks_calm : w.blocks_sites [] together listed (numbers_of n_) (sizes (env_of n_).kinds) n_.variables 0 (env_of n_) (starts_of n_.blocks) n_.blocks ≡ []
+  blocks_calm : w.blocks_sites [] together listed (numbers_of n_) (sizes (env_of n_).kinds) n_.variables 0 (env_of n_)
+      (starts_of n_.blocks) n_.blocks ≡ []
   blocks_calm =
-      let rest = w.blocks_sites [] together listed (numbers_of n_) (sizes (env_of n_).kinds) n_.variables 0 (env_of n_) (starts_of n_.blocks) n_.blocks in
+      let rest = w.blocks_sites [] together listed (numbers_of n_) (sizes (env_of n_).kinds) n_.variables 0 (env_of n_)
+      (starts_of n_.blocks) n_.blocks in
       let cells = w.cells_sites [] together listed (places_of n_.kinds) (sizes (env_of n_).kinds) in
       let kinds = w.kinds_sites [] together listed (constants_of n_) n_.kinds in
-      (calm_parts cells rest (calm_parts kinds (together cells rest) (calm_parts (w.constants_sites [] together listed (constants_of n_) n_.constants) (together kinds (together cells rest)) no_types).1).1).1
+      (calm_parts cells rest (calm_parts kinds (together cells rest)
+      (calm_parts (w.constants_sites [] together listed (constants_of n_) n_.constants)
+      (together kinds (together cells rest)) no_types).1).1).1
 
   -- what may stand in a block, by the rules of interference
-  quiet_in : (free : Bool) (f : ℕ) (c : plain.Block) → slice_get p_.blocks f ≡ Some c → Hushed (IsQuiet p_) free f → Quiet p_ m_ moves shares (IsQuiet p_) free (scopes_of p_ f) (In_stmt c.body)
-  quiet_in free f c at hushed = (by free hushed, (λ i x h. no_forall p_ f i), λ x t h y k. (free_of.blocks f c at (ForallOf x t) h).1 y ([], k))
+  quiet_in : (free : Bool) (f : ℕ) (c : plain.Block) → slice_get p_.blocks f ≡ Some c → Hushed (IsQuiet p_) free f
+      → Quiet p_ m_ moves shares (IsQuiet p_) free (scopes_of p_ f) (In_stmt c.body)
+  quiet_in free f c at hushed = (
+    by free hushed,
+    (λ i x h. no_forall p_ f i),
+    λ x t h y k. (free_of.blocks f c at (ForallOf x t) h).1 y ([], k),
+  )
     where
-      by : (b : Bool) → Hushed (IsQuiet p_) b f → b ≡ false → (In_stmt c.body Stop → ⊥) × ((g : ℕ) (args : Actuals) → In_stmt c.body (CallOf g args) → IsQuiet p_ g)
+      by : (b : Bool) → Hushed (IsQuiet p_) b f → b ≡ false → (In_stmt c.body Stop → ⊥)
+          × ((g : ℕ) (args : Actuals) → In_stmt c.body (CallOf g args) → IsQuiet p_ g)
       by true h e = absurd (cc e)
       by false h e = ((λ i. h (c, at, [], i)), λ g args i (k, kat, bs, r). h (c, at, g ∷ bs, (args, i, k, kat, tt, r)))
 
-  pub block_fine : (f q : ℕ) (c : plain.Block) → slice_get p_.blocks f ≡ Some c → IsFine p_ moves shares (IsQuiet p_) f q c
+  pub block_fine : (f q : ℕ) (c : plain.Block) → slice_get p_.blocks f ≡ Some c
+      → IsFine p_ moves shares (IsQuiet p_) f q c
   block_fine f q c at = record {
     body = λ free h. stands free h;
     end = tt;
     hushed = λ x ans. functions f x c at ans;
-    answer = λ x ans. (let r = knows.answers f c x at ans in (r.0, r.1, r.2, r.3, ordinal_sort (slice_get p_.kinds r.0.kind) r.4));
+    answer = λ x ans. (let r = knows.answers f c x at ans in
+        (r.0, r.1, r.2, r.3, ordinal_sort (slice_get p_.kinds r.0.kind) r.4));
   }
     where
       z : 0 + f ≡ f
       z = omega arith
 
-      stands : (free : Bool) → Hushed (IsQuiet p_) free f → StandsAt p_ moves shares AnyInstr AnyTable AnyText (IsQuiet p_) free (scopes_of p_ f) q c.body
+      stands : (free : Bool) → Hushed (IsQuiet p_) free f
+          → StandsAt p_ moves shares AnyInstr AnyTable AnyText (IsQuiet p_) free (scopes_of p_ f) q c.body
       stands free h = subst (λ y. Done p_ m_ moves shares (IsQuiet p_) free (scopes_of p_ y) c.body) z
-          (blocks_fine p_ m_ moves shares (IsQuiet p_) (numbers_of n_) (sizes (env_of n_).kinds) n_.variables 0 (env_of n_) (starts_of n_.blocks) n_.blocks knows (scoped s calm) blocks_calm typed
-          (λ i d e. subst (λ y. Quiet p_ m_ moves shares (IsQuiet p_) true (scopes_of p_ y) (In_stmt d.body)) (let y : i ≡ 0 + i = omega arith in y) (quiet_in true i d e tt))
-          free f c at (subst (λ y. Quiet p_ m_ moves shares (IsQuiet p_) free (scopes_of p_ y) (In_stmt c.body)) (sym z) (quiet_in free f c at h))) q
+          (blocks_fine p_ m_ moves shares (IsQuiet p_) (numbers_of n_) (sizes (env_of n_).kinds) n_.variables 0
+          (env_of n_) (starts_of n_.blocks) n_.blocks knows (scoped s calm) blocks_calm typed
+          (λ i d e. subst (λ y. Quiet p_ m_ moves shares (IsQuiet p_) true (scopes_of p_ y) (In_stmt d.body))
+          (let y : i ≡ 0 + i = omega arith in y) (quiet_in true i d e tt))
+          free f c at (subst (λ y. Quiet p_ m_ moves shares (IsQuiet p_) free (scopes_of p_ y) (In_stmt c.body)) (sym z)
+          (quiet_in free f c at h))) q

@@ -1,5 +1,6 @@
 -- What a program declares is of blocks that there are; the input and the output are the only consoles.
-use Rattle.std.proofs.Common.{◌≡◌, ap, sym, ◌∙◌, subst, ℕ, zero, suc, ◌+◌, ◌≤◌, List, [], ◌∷◌, ◌++◌, Option, Some, None, Bool, true, false, length, slice_get, arith}
+use Rattle.std.proofs.Common.{◌≡◌, ap, sym, ◌∙◌, subst, ℕ, zero, suc, ◌+◌, ◌≤◌, List, [], ◌∷◌, ◌++◌, Option, Some, None}
+use Rattle.std.proofs.Common.{Bool, true, false, length, slice_get, arith}
 use Rattle.std.specs.Prelude.{◌<◌}
 use Rattle.std.proofs.lemmas.List.{length-append}
 use Rattle.std.proofs.lemmas.Option.{same_Some}
@@ -16,7 +17,10 @@ use Rattle.sp_tree.specs.NamedTree.{kind_number, formals_named, answer_named, pa
 use Rattle.sp_tree.specs.PlainNamed as n
 use Rattle.sp_tree.specs.Plain as plain
 use Rattle.sp_tree.specs.PlainSyntax as syntax
-use Rattle.sp_tree.specs.PlainSyntax.{Statement, Does, Form, Empty, Assign, Call, Sequence, If, While, Repeat, For, Case, Parallel, Forall, Assume, Other, NoElse, Else, Statements, NoStatement, AndThen, On, Arms, NoArm, Or, Branches, NoBranch, Beside, Part, Const, Kind, Var, Proc, Parts, NoPart, Declare}
+use Rattle.sp_tree.specs.PlainSyntax.{Statement, Does, Form, Empty, Assign, Call, Sequence, If, While, Repeat, For}
+use Rattle.sp_tree.specs.PlainSyntax.{Case, Parallel, Forall, Assume, Other, NoElse, Else, Statements, NoStatement}
+use Rattle.sp_tree.specs.PlainSyntax.{AndThen, On, Arms, NoArm, Or, Branches, NoBranch, Beside, Part, Const, Kind, Var}
+use Rattle.sp_tree.specs.PlainSyntax.{Proc, Parts, NoPart, Declare}
 use Rattle.sp_types.specs.Tables.{env_of}
 use Rattle.sp_types.specs.TypeWalk.{starts_of, blocks_after}
 use Rattle.sp_facts.specs.Homed.{NoConsole, AreHomed}
@@ -31,9 +35,11 @@ use Rattle.sp_facts.proofs.Program.{named, tree, held_blocks}
 homed_join : (b : ℕ) (us vs : List checked.Variable) → AreHomed b us → AreHomed b vs → AreHomed b (us ++ vs)
 homed_join b us vs h k = each_join (λ (u : checked.Variable). (suc u.block ≤ b) × NoConsole u.role) us vs h k
 
-homed_at : (b : ℕ) (us : List checked.Variable) (x : ℕ) (u : checked.Variable) → AreHomed b us → slice_get us x ≡ Some u → (suc u.block ≤ b) × NoConsole u.role
+homed_at : (b : ℕ) (us : List checked.Variable) (x : ℕ) (u : checked.Variable) → AreHomed b us → slice_get us x ≡ Some u
+    → (suc u.block ≤ b) × NoConsole u.role
 homed_at b [] x u h e = absurd (cc e)
-homed_at b (w ∷ us) zero u h e = subst (λ (z : checked.Variable). (suc z.block ≤ b) × NoConsole z.role) (same_Some w u e) h.0
+homed_at b (w ∷ us) zero u h e = subst (λ (z : checked.Variable). (suc z.block ≤ b) × NoConsole z.role)
+    (same_Some w u e) h.0
 homed_at b (w ∷ us) (suc x) u h e = homed_at b us x u h.1 e
 
 -- so many blocks there are
@@ -41,37 +47,47 @@ module _ (b : ℕ) where
   abbrev IsHomed : checked.Variable → Type 0
   IsHomed u = (suc u.block ≤ b) × NoConsole u.role
 
-  formals_homed : (env : Env) (block : ℕ) (fs : List SynFormal) → suc block ≤ b → AreHomed b (formals_named env block fs)
+  formals_homed : (env : Env) (block : ℕ) (fs : List SynFormal) → suc block ≤ b
+      → AreHomed b (formals_named env block fs)
   formals_homed env block fs l = formals_each IsHomed block env fs (λ x k r. (l, no_console r))
     where
       no_console : (r : Bool) → NoConsole (role_of r)
       no_console true = tt
       no_console false = tt
 
-  answer_homed : (env : Env) (block : ℕ) (x : Name) (answer : Option Name) → suc block ≤ b → AreHomed b (answer_named env block x answer)
+  answer_homed : (env : Env) (block : ℕ) (x : Name) (answer : Option Name) → suc block ≤ b
+      → AreHomed b (answer_named env block x answer)
   answer_homed env block x answer l = answer_each IsHomed block env x answer (λ k. (l, tt))
 
   indices_homed : (block : ℕ) → suc block ≤ b → (s : Statement) → AreHomed b (indices block s)
   indices_homed block l s = indices_each IsHomed block (λ x. (l, tt)) s
 
   mutual
-    parts_homed : (around : List names.Scope) (l : Local) (ps : Parts) → w.parts_sites [] together all_at around l ps ≡ [] → suc l.block ≤ b → next_block l.counts + length (parts_named around l ps).blocks ≤ b → AreHomed b (parts_named around l ps).variables
+    parts_homed : (around : List names.Scope) (l : Local) (ps : Parts)
+        → w.parts_sites [] together all_at around l ps ≡ [] → suc l.block ≤ b
+        → next_block l.counts + length (parts_named around l ps).blocks ≤ b
+        → AreHomed b (parts_named around l ps).variables
     parts_homed around l NoPart calm low room = tt
     parts_homed around l (Declare q rest) calm low room =
         let next = part_local l q in
-        let two = calm_parts (w.part_sites [] together all_at around l q) (w.parts_sites [] together all_at around next rest) calm in
+        let two = calm_parts (w.part_sites [] together all_at around l q)
+        (w.parts_sites [] together all_at around next rest) calm in
         let one = part_named around l q in
         let others = parts_named around next rest in
         let moved = (part_moves around l q two.0).3 in
         let space : next_block l.counts + length (one.blocks ++ others.blocks) ≤ b = room in
         let sum = length-append one.blocks others.blocks in
         homed_join b one.variables others.variables (part_homed around l q two.0 low (omega (arith, space, sum)))
-        (parts_homed around next rest two.1 (subst (λ z. suc z ≤ b) (sym (part_block l q)) low) (omega (arith, space, sum, moved)))
+        (parts_homed around next rest two.1 (subst (λ z. suc z ≤ b) (sym (part_block l q)) low)
+        (omega (arith, space, sum, moved)))
 
-    part_homed : (around : List names.Scope) (l : Local) (q : Part) → w.part_sites [] together all_at around l q ≡ [] → suc l.block ≤ b → next_block l.counts + length (part_named around l q).blocks ≤ b → AreHomed b (part_named around l q).variables
+    part_homed : (around : List names.Scope) (l : Local) (q : Part) → w.part_sites [] together all_at around l q ≡ []
+        → suc l.block ≤ b → next_block l.counts + length (part_named around l q).blocks ≤ b
+        → AreHomed b (part_named around l q).variables
     part_homed around l (Const x c) calm low room = tt
     part_homed around l (Kind x k) calm low room = tt
-    part_homed around l (Var xs t) calm low room = names_each IsHomed l.block role.Local (kind_number (find (inside around l) t.text)) xs (λ x. (low, tt))
+    part_homed around l (Var xs t) calm low room =
+        names_each IsHomed l.block role.Local (kind_number (find (inside around l) t.text)) xs (λ x. (low, tt))
     part_homed around l (Proc x fs answer parts body) calm low room =
         let f = next_block l.counts in
         let env = inside around l in
@@ -83,9 +99,12 @@ module _ (b : ℕ) where
         let number = head_number around l x fs answer parts body calm in
         let space : f + suc (length inner.blocks) ≤ b = room in
         let own : suc f ≤ b = omega (arith, space) in
-        homed_join b (formals_named env f fs) (answer_named env f x answer ++ (inner.variables ++ indices head.block body)) (formals_homed env f fs own)
-        (homed_join b (answer_named env f x answer) (inner.variables ++ indices head.block body) (answer_homed env f x answer own)
-        (homed_join b inner.variables (indices head.block body) (parts_homed in_ head parts pieces.2 (subst (λ z. suc z ≤ b) (sym number) own) (omega (arith, space, up)))
+        homed_join b (formals_named env f fs)
+        (answer_named env f x answer ++ (inner.variables ++ indices head.block body)) (formals_homed env f fs own)
+        (homed_join b (answer_named env f x answer) (inner.variables ++ indices head.block body)
+        (answer_homed env f x answer own)
+        (homed_join b inner.variables (indices head.block body)
+        (parts_homed in_ head parts pieces.2 (subst (λ z. suc z ≤ b) (sym number) own) (omega (arith, space, up)))
         (indices_homed head.block (subst (λ z. suc z ≤ b) (sym number) own) body)))
 
 module _ (s : syntax.Program) (calm : names_broken s ≡ []) where
@@ -100,39 +119,73 @@ module _ (s : syntax.Program) (calm : names_broken s ≡ []) where
       let std = standard ∷ [] in
       let parts = w.parts_sites [] together all_at std empty s.block.parts in
       let body = w.statement_sites [] together all_at std (parts_local empty s.block.parts) body_ in
-      let two = calm_parts parts body (calm_parts (w.files_sites [] together all_at [] s.heading) (together parts body) calm).1 in
-      homed_join (suc (length inner_.blocks)) inner_.variables (indices 0 body_) (parts_homed (suc (length inner_.blocks)) std empty s.block.parts two.0 (omega arith) (omega arith)) (indices_homed (suc (length inner_.blocks)) 0 (omega arith) body_)
+      let two = calm_parts parts body (calm_parts (w.files_sites [] together all_at [] s.heading) (together parts body)
+      calm).1 in
+      homed_join (suc (length inner_.blocks)) inner_.variables (indices 0 body_)
+      (parts_homed (suc (length inner_.blocks)) std empty s.block.parts two.0 (omega arith) (omega arith))
+      (indices_homed (suc (length inner_.blocks)) 0 (omega arith) body_)
 
   -- a variable of the tree with numbers for names
-  role_home : (x : ℕ) (u : checked.Variable) → slice_get (named s calm).variables x ≡ Some u → (suc u.block ≤ suc (length inner_.blocks)) × (u.role ≡ role.Console → (u.block ≡ 0) × (suc x ≤ 2))
-  role_home zero u e = (subst (λ (z : checked.Variable). suc z.block ≤ suc (length inner_.blocks)) (same_Some _ _ e) (omega arith), λ c. (ap (λ (z : checked.Variable). z.block) (sym (same_Some _ _ e)), omega arith))
-  role_home (suc zero) u e = (subst (λ (z : checked.Variable). suc z.block ≤ suc (length inner_.blocks)) (same_Some _ _ e) (omega arith), λ c. (ap (λ (z : checked.Variable). z.block) (sym (same_Some _ _ e)), omega arith))
-  role_home (suc (suc x)) u e = let h = homed_at (suc (length inner_.blocks)) (inner_.variables ++ indices 0 body_) x u rest_homed e in (h.0, λ c. absurd (subst NoConsole c h.1))
+  role_home : (x : ℕ) (u : checked.Variable) → slice_get (named s calm).variables x ≡ Some u
+      → (suc u.block ≤ suc (length inner_.blocks)) × (u.role ≡ role.Console → (u.block ≡ 0) × (suc x ≤ 2))
+  role_home zero u e = (
+    subst (λ (z : checked.Variable). suc z.block ≤ suc (length inner_.blocks)) (same_Some _ _ e)
+        (omega arith),
+    λ c. (ap (λ (z : checked.Variable). z.block) (sym (same_Some _ _ e)), omega arith),
+  )
+  role_home (suc zero) u e = (
+    subst (λ (z : checked.Variable). suc z.block ≤ suc (length inner_.blocks))
+        (same_Some _ _ e) (omega arith),
+    λ c. (
+      ap (λ (z : checked.Variable). z.block) (sym (same_Some _ _ e)),
+      omega arith,
+    ),
+  )
+  role_home (suc (suc x)) u e = let h = homed_at (suc (length inner_.blocks)) (inner_.variables ++ indices 0 body_) x u
+      rest_homed e in (h.0, λ c. absurd (subst NoConsole c h.1))
 
-  block_there : (k : ℕ) (bs : List n.Block) (j : ℕ) → HoldsBlocks (tree s calm) (length (named s calm).constants) k bs → suc j ≤ length bs → (b : plain.Block) × (slice_get (tree s calm).blocks (k + j) ≡ Some b)
+  block_there : (k : ℕ) (bs : List n.Block) (j : ℕ) → HoldsBlocks (tree s calm) (length (named s calm).constants) k bs
+      → suc j ≤ length bs → (b : plain.Block) × (slice_get (tree s calm).blocks (k + j) ≡ Some b)
   block_there k [] j h l = absurd (omega (arith, l))
-  block_there k (b ∷ bs) zero h l = (h.0.0, subst (λ z. slice_get (tree s calm).blocks z ≡ Some h.0.0) (let z : k ≡ k + 0 = omega arith in z) h.0.1)
-  block_there k (b ∷ bs) (suc j) h l = let r = block_there (suc k) bs j h.1 (omega (arith, l)) in (r.0, subst (λ z. slice_get (tree s calm).blocks z ≡ Some r.0) (let z : suc k + j ≡ k + suc j = omega arith in z) r.1)
+  block_there k (b ∷ bs) zero h l = (
+    h.0.0,
+    subst (λ z. slice_get (tree s calm).blocks z ≡ Some h.0.0)
+        (let z : k ≡ k + 0 = omega arith in z) h.0.1,
+  )
+  block_there k (b ∷ bs) (suc j) h l = let r = block_there (suc k) bs j h.1 (omega (arith, l)) in (
+    r.0,
+    subst (λ z. slice_get (tree s calm).blocks z ≡ Some r.0) (let z : suc k + j ≡ k + suc j = omega arith in z)
+        r.1,
+  )
 
   abbrev last : List (Option ℕ)
   last = (blocks_after (env_of (named s calm)) (starts_of (named s calm).blocks) (named s calm).blocks).variables
 
-  pub homes : (x : ℕ) (v : plain.Variable) → slice_get (tree s calm).variables x ≡ Some v → (b : plain.Block) × (slice_get (tree s calm).blocks v.block ≡ Some b)
+  pub homes : (x : ℕ) (v : plain.Variable) → slice_get (tree s calm).variables x ≡ Some v → (b : plain.Block)
+      × (slice_get (tree s calm).blocks v.block ≡ Some b)
   homes x v at =
       let u = variable_from last (named s calm).variables x v at in
       let h = (role_home x u.0 u.1).0 in
-      let b = block_there 0 (named s calm).blocks u.0.block (held_blocks s calm) h in
-      (b.0, subst (λ z. slice_get (tree s calm).blocks z ≡ Some b.0) (let z : 0 + u.0.block ≡ u.0.block = omega arith in z ∙ sym u.3) b.1)
+      let b = block_there 0 (named s calm).blocks u.0.block (held_blocks s calm) h in (
+        b.0,
+        subst (λ z. slice_get (tree s calm).blocks z ≡ Some b.0)
+            (let z : 0 + u.0.block ≡ u.0.block = omega arith in z ∙ sym u.3) b.1,
+      )
 
-  pub consoles : (x : ℕ) (v : plain.Variable) → slice_get (tree s calm).variables x ≡ Some v → v.role ≡ role.Console → (v.block ≡ 0) × (x < 2)
+  pub consoles : (x : ℕ) (v : plain.Variable) → slice_get (tree s calm).variables x ≡ Some v → v.role ≡ role.Console
+      → (v.block ≡ 0) × (x < 2)
   consoles x v at e =
       let u = variable_from last (named s calm).variables x v at in
       let h = (role_home x u.0 u.1).1 (sym u.2 ∙ e) in
       (u.3 ∙ h.0, h.1)
 
   -- the program's block stands in none, and has no parameters and no result
-  pub program_block : (b : plain.Block) → slice_get (tree s calm).blocks 0 ≡ Some b → (b.parent ≡ None) × (b.formals ≡ []) × (b.answer ≡ None)
+  pub program_block : (b : plain.Block) → slice_get (tree s calm).blocks 0 ≡ Some b → (b.parent ≡ None)
+      × (b.formals ≡ []) × (b.answer ≡ None)
   program_block b at =
       let c = (held_blocks s calm).0 in
-      let e = same_Some c.0 b (sym c.1 ∙ at) in
-      (ap (λ (z : plain.Block). z.parent) (sym e) ∙ c.2, ap (λ (z : plain.Block). z.formals) (sym e) ∙ c.3, ap (λ (z : plain.Block). z.answer) (sym e) ∙ c.4)
+      let e = same_Some c.0 b (sym c.1 ∙ at) in (
+        ap (λ (z : plain.Block). z.parent) (sym e) ∙ c.2,
+        ap (λ (z : plain.Block). z.formals) (sym e) ∙ c.3,
+        ap (λ (z : plain.Block). z.answer) (sym e) ∙ c.4,
+      )

@@ -40,7 +40,8 @@ module _ (p : Program) (m : ℕ) where
     arms_have sc n.NoArm i = tt
     arms_have sc (n.Or (n.On cs a) rest) i = (statement_has sc a i.0, arms_have sc rest i.1)
 
-    branches_have : (sc : List Scope) (bs : n.Branches) → InBranches p m sc bs → HaveBranches (IsIndexOf p) AnyBranches bs
+    branches_have : (sc : List Scope) (bs : n.Branches) → InBranches p m sc bs
+        → HaveBranches (IsIndexOf p) AnyBranches bs
     branches_have sc n.NoBranch i = tt
     branches_have sc (n.Beside ss rest) i = (all_have sc ss i.0, branches_have sc rest i.1)
 

@@ -1,5 +1,6 @@
 -- The index of a forall has in the tree the type of its first limit: no other statement gives it one.
-use Rattle.std.proofs.Common.{◌≡◌, ◌⊎◌, inl, inr, refl, ap, sym, ◌∙◌, subst, ℕ, suc, ◌<◌, ◌≤◌, List, [], ◌∷◌, Option, Some, Bool, true, false, length, slice_get, slice_set, arith}
+use Rattle.std.proofs.Common.{◌≡◌, ◌⊎◌, inl, inr, refl, ap, sym, ◌∙◌, subst, ℕ, suc, ◌<◌, ◌≤◌, List, [], ◌∷◌, Option}
+use Rattle.std.proofs.Common.{Some, Bool, true, false, length, slice_get, slice_set, arith}
 use Rattle.std.specs.Prelude.{nat_le}
 use Rattle.std.proofs.lemmas.Bool.{leb-false, leb-true}
 use Rattle.std.proofs.lemmas.List.{length-set}
@@ -7,15 +8,19 @@ use Rattle.std.proofs.lemmas.Option.{same_Some}
 use Rattle.sp_tree.specs.declared.checked.Role.TheVariants as role
 use Rattle.sp_tree.specs.Plain.{Program, Variable}
 use Rattle.sp_tree.specs.PlainNamed as n
-use Rattle.sp_tree.specs.PlainNamed.{Statement, Does, Form, Empty, Assign, Call, Perform, Sequence, If, While, Repeat, Case, For, Parallel, Forall, Assume, Other, NoElse, Else, Statements, NoStatement, AndThen, On, Arms, NoArm, Or, Branches, NoBranch, Beside}
+use Rattle.sp_tree.specs.PlainNamed.{Statement, Does, Form, Empty, Assign, Call, Perform, Sequence, If, While, Repeat}
+use Rattle.sp_tree.specs.PlainNamed.{Case, For, Parallel, Forall, Assume, Other, NoElse, Else, Statements, NoStatement}
+use Rattle.sp_tree.specs.PlainNamed.{AndThen, On, Arms, NoArm, Or, Branches, NoBranch, Beside}
 use Rattle.sp_types.specs.Tables.{Env, counted, indexed}
 use Rattle.sp_types.specs.Kinds.{expression_kind}
-use Rattle.sp_types.specs.TypeWalk.{started, blocks_after, statement_after, statements_after, arms_after, branches_after, form_after}
+use Rattle.sp_types.specs.TypeWalk.{started, blocks_after, statement_after, statements_after, arms_after}
+use Rattle.sp_types.specs.TypeWalk.{branches_after, form_after}
 use Rattle.sp_types.specs.CheckedTree.{or_zero}
 use Rattle.sp_facts.specs.Knows.{IsTyped, IsTypedForm, AreTyped, AreTypedArms, AreTypedBranches}
 use Rattle.sp_code.specs.Stands.{NoIndex}
 use Rattle.sp_facts.specs.TypedBlocks.{AreBlocksTyped}
-use Rattle.sp_facts.specs.Numbered.{ends, ends_form, ends_all, ends_arms, ends_branches, IsNumbered, IsNumberedForm, AreNumbered, AreNumberedArms, AreNumberedBranches}
+use Rattle.sp_facts.specs.Numbered.{ends, ends_form, ends_all, ends_arms, ends_branches, IsNumbered, IsNumberedForm}
+use Rattle.sp_facts.specs.Numbered.{AreNumbered, AreNumberedArms, AreNumberedBranches}
 use Rattle.sp_facts.proofs.Statements.{get_set, get_other}
 use Rattle.sp_facts.proofs.Tree.{statement_length, statements_length}
 
@@ -51,7 +56,8 @@ mutual
 
   branches_ends : (k : ℕ) (bs : Branches) → k ≤ ends_branches k bs
   branches_ends k NoBranch = omega arith
-  branches_ends k (Beside ss rest) = let x = all_ends k ss in let y = branches_ends (ends_all k ss) rest in omega (arith, x, y)
+  branches_ends k (Beside ss rest) = let x = all_ends k ss in let y = branches_ends (ends_all k ss) rest in
+      omega (arith, x, y)
 
 -- ---- the types of other variables stay
 
@@ -71,24 +77,29 @@ abbrev pub Same : ℕ → Env → Env → Type 0
 Same y a b = slice_get b.variables y ≡ slice_get a.variables y
 
 mutual
-  pub stays : (k : ℕ) (env : Env) (s : Statement) (y : ℕ) → IsNumbered k s → Outside k (ends k s) y → Same y env (statement_after env s)
+  pub stays : (k : ℕ) (env : Env) (s : Statement) (y : ℕ) → IsNumbered k s → Outside k (ends k s) y
+      → Same y env (statement_after env s)
   stays k env (Does at form) y h o = form_stays k (counted env) form y h o
 
-  form_stays : (k : ℕ) (env : Env) (form : Form) (y : ℕ) → IsNumberedForm k form → Outside k (ends_form k form) y → Same y env (form_after env form)
+  form_stays : (k : ℕ) (env : Env) (form : Form) (y : ℕ) → IsNumberedForm k form → Outside k (ends_form k form) y
+      → Same y env (form_after env form)
   form_stays k env Empty y h o = refl
   form_stays k env (Assign v e) y h o = refl
   form_stays k env (Call f args) y h o = refl
   form_stays k env (Perform f args) y h o = refl
   form_stays k env (Sequence ss) y h o = all_stay k env ss y h o
   form_stays k env (If e a NoElse) y h o = stays k env a y h.0 o
-  form_stays k env (If e a (Else b)) y h o = stays (ends k a) (statement_after env a) b y h.1 (right k (ends k a) (ends (ends k a) b) y (ends_after k a) o) ∙ stays k env a y h.0 (left k (ends k a) (ends (ends k a) b) y (ends_after (ends k a) b) o)
+  form_stays k env (If e a (Else b)) y h o =
+      stays (ends k a) (statement_after env a) b y h.1 (right k (ends k a) (ends (ends k a) b) y (ends_after k a) o)
+      ∙ stays k env a y h.0 (left k (ends k a) (ends (ends k a) b) y (ends_after (ends k a) b) o)
   form_stays k env (While e a) y h o = stays k env a y h o
   form_stays k env (Repeat ss e) y h o = all_stay k (counted env) ss y h o
   form_stays k env (Case e arms) y h o = arms_stay k env arms y h o
   form_stays k env (For x at from down to a) y h o = stays k env a y h o
   form_stays k env (Parallel bs) y h o = branches_stay k env bs y h o
   form_stays k env (Forall x from to a) y h o =
-      stays (suc k) (indexed env x (expression_kind env from)) a y h.1 (right k (suc k) (ends (suc k) a) y (omega arith) o)
+      stays (suc k) (indexed env x (expression_kind env from)) a y h.1
+      (right k (suc k) (ends (suc k) a) y (omega arith) o)
       ∙ get_other env.variables x y (expression_kind env from) (λ e. inside o (ends_after (suc k) a) (e ∙ h.0))
     where
       inside : Outside k (ends (suc k) a) y → suc k ≤ ends (suc k) a → y ≡ k → ⊥
@@ -96,33 +107,47 @@ mutual
       inside (inr h) l e = omega (arith, h, l, e)
   form_stays k env (Assume e) y h o = refl
 
-  all_stay : (k : ℕ) (env : Env) (ss : Statements) (y : ℕ) → AreNumbered k ss → Outside k (ends_all k ss) y → Same y env (statements_after env ss)
+  all_stay : (k : ℕ) (env : Env) (ss : Statements) (y : ℕ) → AreNumbered k ss → Outside k (ends_all k ss) y
+      → Same y env (statements_after env ss)
   all_stay k env NoStatement y h o = refl
-  all_stay k env (AndThen a rest) y h o = all_stay (ends k a) (statement_after env a) rest y h.1 (right k (ends k a) (ends_all (ends k a) rest) y (ends_after k a) o) ∙ stays k env a y h.0 (left k (ends k a) (ends_all (ends k a) rest) y (all_ends (ends k a) rest) o)
+  all_stay k env (AndThen a rest) y h o = all_stay (ends k a) (statement_after env a) rest y h.1
+      (right k (ends k a) (ends_all (ends k a) rest) y (ends_after k a) o)
+      ∙ stays k env a y h.0 (left k (ends k a) (ends_all (ends k a) rest) y (all_ends (ends k a) rest) o)
 
-  arms_stay : (k : ℕ) (env : Env) (arms : Arms) (y : ℕ) → AreNumberedArms k arms → Outside k (ends_arms k arms) y → Same y env (arms_after env arms)
+  arms_stay : (k : ℕ) (env : Env) (arms : Arms) (y : ℕ) → AreNumberedArms k arms → Outside k (ends_arms k arms) y
+      → Same y env (arms_after env arms)
   arms_stay k env NoArm y h o = refl
-  arms_stay k env (Or (On cs a) rest) y h o = arms_stay (ends k a) (statement_after env a) rest y h.1 (right k (ends k a) (ends_arms (ends k a) rest) y (ends_after k a) o) ∙ stays k env a y h.0 (left k (ends k a) (ends_arms (ends k a) rest) y (arms_ends (ends k a) rest) o)
+  arms_stay k env (Or (On cs a) rest) y h o =
+      arms_stay (ends k a) (statement_after env a) rest y h.1
+      (right k (ends k a) (ends_arms (ends k a) rest) y (ends_after k a) o)
+      ∙ stays k env a y h.0 (left k (ends k a) (ends_arms (ends k a) rest) y (arms_ends (ends k a) rest) o)
 
-  branches_stay : (k : ℕ) (env : Env) (bs : Branches) (y : ℕ) → AreNumberedBranches k bs → Outside k (ends_branches k bs) y → Same y env (branches_after env bs)
+  branches_stay : (k : ℕ) (env : Env) (bs : Branches) (y : ℕ) → AreNumberedBranches k bs
+      → Outside k (ends_branches k bs) y → Same y env (branches_after env bs)
   branches_stay k env NoBranch y h o = refl
   branches_stay k env (Beside ss rest) y h o =
-      branches_stay (ends_all k ss) (statements_after (counted env) ss) rest y h.1 (right k (ends_all k ss) (ends_branches (ends_all k ss) rest) y (all_ends k ss) o)
-      ∙ all_stay k (counted env) ss y h.0 (left k (ends_all k ss) (ends_branches (ends_all k ss) rest) y (branches_ends (ends_all k ss) rest) o)
+      branches_stay (ends_all k ss) (statements_after (counted env) ss) rest y h.1
+      (right k (ends_all k ss) (ends_branches (ends_all k ss) rest) y (all_ends k ss) o)
+      ∙ all_stay k (counted env) ss y h.0 (left k (ends_all k ss) (ends_branches (ends_all k ss) rest) y
+      (branches_ends (ends_all k ss) rest) o)
 
 -- ---- the types at the end are those of the statement
 
 -- last: the types at the end; the tree has these
-module _ (p : Program) (last : List (Option ℕ)) (has : (x : ℕ) (v : Variable) (o : Option ℕ) → slice_get p.variables x ≡ Some v → slice_get last x ≡ Some o → v.kind ≡ or_zero o) (n : ℕ) (room : (x : ℕ) (v : Variable) → slice_get p.variables x ≡ Some v → suc x ≤ n) where
+module _ (p : Program) (last : List (Option ℕ))
+    (has : (x : ℕ) (v : Variable) (o : Option ℕ) → slice_get p.variables x ≡ Some v → slice_get last x ≡ Some o
+    → v.kind ≡ or_zero o) (n : ℕ) (room : (x : ℕ) (v : Variable) → slice_get p.variables x ≡ Some v → suc x ≤ n) where
   -- those of these numbers are known here
   abbrev pub Agrees : ℕ → ℕ → Env → Type 0
   Agrees k e later = (y : ℕ) → k ≤ y → suc y ≤ e → slice_get last y ≡ slice_get later.variables y
 
   mutual
-    pub typed : (k : ℕ) (env : Env) (s : Statement) → length env.variables ≡ n → IsNumbered k s → Agrees k (ends k s) (statement_after env s) → IsTyped p env s
+    pub typed : (k : ℕ) (env : Env) (s : Statement) → length env.variables ≡ n → IsNumbered k s
+        → Agrees k (ends k s) (statement_after env s) → IsTyped p env s
     typed k env (Does at form) l h a = form_typed k (counted env) form l h a
 
-    form_typed : (k : ℕ) (env : Env) (form : Form) → length env.variables ≡ n → IsNumberedForm k form → Agrees k (ends_form k form) (form_after env form) → IsTypedForm p env form
+    form_typed : (k : ℕ) (env : Env) (form : Form) → length env.variables ≡ n → IsNumberedForm k form
+        → Agrees k (ends_form k form) (form_after env form) → IsTypedForm p env form
     form_typed k env Empty l h a = tt
     form_typed k env (Assign v e) l h a = tt
     form_typed k env (Call f args) l h a = tt
@@ -132,8 +157,10 @@ module _ (p : Program) (last : List (Option ℕ)) (has : (x : ℕ) (v : Variable
     form_typed k env (If e s (Else b)) l h a =
         let x = ends_after k s in
         let y = ends_after (ends k s) b in (
-          typed k env s l h.0 (λ z m r. a z m (omega (arith, r, y)) ∙ stays (ends k s) (statement_after env s) b z h.1 (inl (omega (arith, r)))),
-          typed (ends k s) (statement_after env s) b (statement_length env s ∙ l) h.1 (λ z m r. a z (omega (arith, m, x)) r),
+          typed k env s l h.0 (λ z m r. a z m (omega (arith, r, y))
+              ∙ stays (ends k s) (statement_after env s) b z h.1 (inl (omega (arith, r)))),
+          typed (ends k s) (statement_after env s) b (statement_length env s ∙ l) h.1
+              (λ z m r. a z (omega (arith, m, x)) r),
         )
     form_typed k env (While e s) l h a = typed k env s l h a
     form_typed k env (Repeat ss e) l h a = all_typed k (counted env) ss l h a
@@ -144,38 +171,52 @@ module _ (p : Program) (last : List (Option ℕ)) (has : (x : ℕ) (v : Variable
         let inner = indexed env x (expression_kind env from) in
         let y = ends_after (suc k) s in (
           (λ v at kk ke. (let r = room x v at in let r2 : suc x ≤ length env.variables = omega (arith, r, l) in
-              has x v (expression_kind env from) at (subst (λ z. slice_get last z ≡ Some (expression_kind env from)) (sym h.0)
-              (a k (omega arith) (omega (arith, y)) ∙ stays (suc k) inner s k h.1 (inl (omega arith)) ∙ subst (λ z. slice_get (slice_set env.variables x (expression_kind env from)) z ≡ Some (expression_kind env from)) h.0 (get_set env.variables x (expression_kind env from) r2)))
+              has x v (expression_kind env from) at
+              (subst (λ z. slice_get last z ≡ Some (expression_kind env from)) (sym h.0)
+              (a k (omega arith) (omega (arith, y)) ∙ stays (suc k) inner s k h.1 (inl (omega arith))
+              ∙ subst (λ z. slice_get (slice_set env.variables x (expression_kind env from)) z
+              ≡ Some (expression_kind env from)) h.0 (get_set env.variables x (expression_kind env from) r2)))
               ∙ ap or_zero ke)),
-          typed (suc k) inner s (length-set env.variables x (expression_kind env from) ∙ l) h.1 (λ z m r. a z (omega (arith, m)) r),
+          typed (suc k) inner s (length-set env.variables x (expression_kind env from) ∙ l) h.1
+              (λ z m r. a z (omega (arith, m)) r),
         )
     form_typed k env (Assume e) l h a = tt
 
-    all_typed : (k : ℕ) (env : Env) (ss : Statements) → length env.variables ≡ n → AreNumbered k ss → Agrees k (ends_all k ss) (statements_after env ss) → AreTyped p env ss
+    all_typed : (k : ℕ) (env : Env) (ss : Statements) → length env.variables ≡ n → AreNumbered k ss
+        → Agrees k (ends_all k ss) (statements_after env ss) → AreTyped p env ss
     all_typed k env NoStatement l h a = tt
     all_typed k env (AndThen s rest) l h a =
         let x = ends_after k s in
         let y = all_ends (ends k s) rest in (
-          typed k env s l h.0 (λ z m r. a z m (omega (arith, r, y)) ∙ all_stay (ends k s) (statement_after env s) rest z h.1 (inl (omega (arith, r)))),
-          all_typed (ends k s) (statement_after env s) rest (statement_length env s ∙ l) h.1 (λ z m r. a z (omega (arith, m, x)) r),
+          typed k env s l h.0 (λ z m r. a z m (omega (arith, r, y))
+              ∙ all_stay (ends k s) (statement_after env s) rest z h.1 (inl (omega (arith, r)))),
+          all_typed (ends k s) (statement_after env s) rest (statement_length env s ∙ l) h.1
+              (λ z m r. a z (omega (arith, m, x)) r),
         )
 
-    arms_typed : (k : ℕ) (env : Env) (arms : Arms) → length env.variables ≡ n → AreNumberedArms k arms → Agrees k (ends_arms k arms) (arms_after env arms) → AreTypedArms p env arms
+    arms_typed : (k : ℕ) (env : Env) (arms : Arms) → length env.variables ≡ n → AreNumberedArms k arms
+        → Agrees k (ends_arms k arms) (arms_after env arms) → AreTypedArms p env arms
     arms_typed k env NoArm l h a = tt
     arms_typed k env (Or (On cs s) rest) l h a =
         let x = ends_after k s in
         let y = arms_ends (ends k s) rest in (
-          typed k env s l h.0 (λ z m r. a z m (omega (arith, r, y)) ∙ arms_stay (ends k s) (statement_after env s) rest z h.1 (inl (omega (arith, r)))),
-          arms_typed (ends k s) (statement_after env s) rest (statement_length env s ∙ l) h.1 (λ z m r. a z (omega (arith, m, x)) r),
+          typed k env s l h.0 (λ z m r. a z m (omega (arith, r, y))
+              ∙ arms_stay (ends k s) (statement_after env s) rest z h.1 (inl (omega (arith, r)))),
+          arms_typed (ends k s) (statement_after env s) rest (statement_length env s ∙ l) h.1
+              (λ z m r. a z (omega (arith, m, x)) r),
         )
 
-    branches_typed : (k : ℕ) (env : Env) (bs : Branches) → length env.variables ≡ n → AreNumberedBranches k bs → Agrees k (ends_branches k bs) (branches_after env bs) → AreTypedBranches p env bs
+    branches_typed : (k : ℕ) (env : Env) (bs : Branches) → length env.variables ≡ n → AreNumberedBranches k bs
+        → Agrees k (ends_branches k bs) (branches_after env bs) → AreTypedBranches p env bs
     branches_typed k env NoBranch l h a = tt
     branches_typed k env (Beside ss rest) l h a =
         let x = all_ends k ss in
         let y = branches_ends (ends_all k ss) rest in (
-          all_typed k (counted env) ss l h.0 (λ z m r. a z m (omega (arith, r, y)) ∙ branches_stay (ends_all k ss) (statements_after (counted env) ss) rest z h.1 (inl (omega (arith, r)))),
-          branches_typed (ends_all k ss) (statements_after (counted env) ss) rest (statements_length (counted env) ss ∙ l) h.1 (λ z m r. a z (omega (arith, m, x)) r),
+          all_typed k (counted env) ss l h.0
+              (λ z m r. a z m (omega (arith, r, y))
+              ∙ branches_stay (ends_all k ss) (statements_after (counted env) ss) rest z h.1 (inl (omega (arith, r)))),
+          branches_typed (ends_all k ss) (statements_after (counted env) ss) rest
+              (statements_length (counted env) ss ∙ l) h.1 (λ z m r. a z (omega (arith, m, x)) r),
         )
 
 -- ---- over the blocks
@@ -183,10 +224,13 @@ module _ (p : Program) (last : List (Option ℕ)) (has : (x : ℕ) (v : Variable
 -- the foralls of each block have one number after the other, and these are of indices of the block
 abbrev pub AreSpans : Program → ℕ → List n.Block → Type 0
 AreSpans p k [] = Unit {0}
-AreSpans p k (b ∷ bs) = ((lo : ℕ) × IsNumbered lo b.body × ((y : ℕ) → lo ≤ y → suc y ≤ ends lo b.body → (v : Variable) × (slice_get p.variables y ≡ Some v) × (v.block ≡ k) × (v.role ≡ role.Index))) × AreSpans p (suc k) bs
+AreSpans p k (b ∷ bs) = ((lo : ℕ) × IsNumbered lo b.body
+    × ((y : ℕ) → lo ≤ y → suc y ≤ ends lo b.body → (v : Variable) × (slice_get p.variables y ≡ Some v) × (v.block ≡ k)
+    × (v.role ≡ role.Index))) × AreSpans p (suc k) bs
 
 -- a variable of an earlier block keeps its type
-later_stays : (p : Program) (k : ℕ) (env : Env) (starts : List ℕ) (bs : List n.Block) (y : ℕ) (v : Variable) → slice_get p.variables y ≡ Some v → suc v.block ≤ k → AreSpans p k bs → Same y env (blocks_after env starts bs)
+later_stays : (p : Program) (k : ℕ) (env : Env) (starts : List ℕ) (bs : List n.Block) (y : ℕ) (v : Variable)
+    → slice_get p.variables y ≡ Some v → suc v.block ≤ k → AreSpans p k bs → Same y env (blocks_after env starts bs)
 later_stays p k env starts [] y v at l h = refl
 later_stays p k env [] (b ∷ bs) y v at l h = refl
 later_stays p k env (z ∷ starts) (b ∷ bs) y v at l ((lo, num, own), h) =
@@ -203,10 +247,12 @@ later_stays p k env (z ∷ starts) (b ∷ bs) y v at l ((lo, num, own), h) =
 
     where_is : (lo ≤ y) × (suc y ≤ ends lo b.body) ⊎ Outside lo (ends lo b.body) y → Outside lo (ends lo b.body) y
     where_is (inr o) = o
-    where_is (inl i) = let u = own y i.0 i.1 in let s = ap (λ (w : Variable). w.block) (same_Some v u.0 (sym at ∙ u.1)) ∙ u.2 in absurd (omega (arith, l, s))
+    where_is (inl i) = let u = own y i.0 i.1 in
+        let s = ap (λ (w : Variable). w.block) (same_Some v u.0 (sym at ∙ u.1)) ∙ u.2 in absurd (omega (arith, l, s))
 
 -- a variable that is no index keeps its type
-pub others_stay : (p : Program) (k : ℕ) (env : Env) (starts : List ℕ) (bs : List n.Block) (y : ℕ) (v : Variable) → slice_get p.variables y ≡ Some v → NoIndex v.role → AreSpans p k bs → Same y env (blocks_after env starts bs)
+pub others_stay : (p : Program) (k : ℕ) (env : Env) (starts : List ℕ) (bs : List n.Block) (y : ℕ) (v : Variable)
+    → slice_get p.variables y ≡ Some v → NoIndex v.role → AreSpans p k bs → Same y env (blocks_after env starts bs)
 others_stay p k env starts [] y v at l h = refl
 others_stay p k env [] (b ∷ bs) y v at l h = refl
 others_stay p k env (z ∷ starts) (b ∷ bs) y v at l ((lo, num, own), h) =
@@ -223,14 +269,20 @@ others_stay p k env (z ∷ starts) (b ∷ bs) y v at l ((lo, num, own), h) =
 
     where_is : (lo ≤ y) × (suc y ≤ ends lo b.body) ⊎ Outside lo (ends lo b.body) y → Outside lo (ends lo b.body) y
     where_is (inr o) = o
-    where_is (inl i) = let u = own y i.0 i.1 in absurd (subst NoIndex (ap (λ (w : Variable). w.role) (same_Some v u.0 (sym at ∙ u.1)) ∙ u.3) l)
+    where_is (inl i) = let u = own y i.0 i.1 in
+        absurd (subst NoIndex (ap (λ (w : Variable). w.role) (same_Some v u.0 (sym at ∙ u.1)) ∙ u.3) l)
 
-module _ (p : Program) (last : List (Option ℕ)) (has : (x : ℕ) (v : Variable) (o : Option ℕ) → slice_get p.variables x ≡ Some v → slice_get last x ≡ Some o → v.kind ≡ or_zero o) (n_ : ℕ) (room : (x : ℕ) (v : Variable) → slice_get p.variables x ≡ Some v → suc x ≤ n_) where
-  pub blocks_typed : (k : ℕ) (env : Env) (starts : List ℕ) (bs : List n.Block) → length env.variables ≡ n_ → AreSpans p k bs → last ≡ (blocks_after env starts bs).variables → AreBlocksTyped p env starts bs
+module _ (p : Program) (last : List (Option ℕ))
+    (has : (x : ℕ) (v : Variable) (o : Option ℕ) → slice_get p.variables x ≡ Some v → slice_get last x ≡ Some o
+    → v.kind ≡ or_zero o) (n_ : ℕ) (room : (x : ℕ) (v : Variable) → slice_get p.variables x ≡ Some v → suc x ≤ n_) where
+  pub blocks_typed : (k : ℕ) (env : Env) (starts : List ℕ) (bs : List n.Block) → length env.variables ≡ n_
+      → AreSpans p k bs → last ≡ (blocks_after env starts bs).variables → AreBlocksTyped p env starts bs
   blocks_typed k env starts [] l h e = tt
   blocks_typed k env [] (b ∷ bs) l h e = tt
   blocks_typed k env (z ∷ starts) (b ∷ bs) l ((lo, num, own), h) e =
       let next = statement_after (started env z) b.body in (
-        typed p last has n_ room lo (started env z) b.body l num (λ y x r. (let u = own y x r in let s = u.2 in ap (λ zs. slice_get zs y) e ∙ later_stays p (suc k) next starts bs y u.0 u.1 (omega (arith, s)) h)),
+        typed p last has n_ room lo (started env z) b.body l num
+            (λ y x r. (let u = own y x r in let s = u.2 in
+            ap (λ zs. slice_get zs y) e ∙ later_stays p (suc k) next starts bs y u.0 u.1 (omega (arith, s)) h)),
         blocks_typed (suc k) next starts bs (statement_length (started env z) b.body ∙ l) h e,
       )

@@ -30,31 +30,44 @@ use Rattle.sp_facts.proofs.TreeFormed.{program_formed}
 
 -- what is said of the checked tree of a tree that breaks no rule of names and none of types holds of an accepted one
 accepted_by : (P : c.Program → Type 0) (text : List ℕ) (g : c.Program) → IsAccepted text g
-    → ((s : syntax.Program) → IsTree text s → names_broken s ≡ [] → types_broken (program_named s) ≡ [] → KeepsInterference (program_checked (program_named s)) → P (program_checked (program_named s))) → P g
+    → ((s : syntax.Program) → IsTree text s → names_broken s ≡ [] → types_broken (program_named s) ≡ []
+    → KeepsInterference (program_checked (program_named s)) → P (program_checked (program_named s))) → P g
 accepted_by P text g ((m, (s, is, resolves), types), kept) h =
     let names = names_kept s m resolves in
     let at = types_kept m g types in
     let same : program_checked (program_named s) ≡ g = ap program_checked names.1 ∙ at.1 in
     subst P same (h s is names.0 (ap types_broken names.1 ∙ at.0) (subst KeepsInterference (sym same) kept))
 
-module _ (s : syntax.Program) (calm : names_broken s ≡ []) (no_types : types_broken (program_named s) ≡ []) (kept : KeepsInterference (program_checked (program_named s))) where
+module _ (s : syntax.Program) (calm : names_broken s ≡ []) (no_types : types_broken (program_named s) ≡ [])
+    (kept : KeepsInterference (program_checked (program_named s))) where
   abbrev p_ : plain.Program
   p_ = bare (program_checked (program_named s))
 
-  fine : (moves shares : Stmt → List ℕ) (f q : ℕ) (b : plain.Block) → slice_get p_.blocks f ≡ Some b → IsFine p_ moves shares (IsQuiet p_) f q b
-  fine moves shares f q b at = block_fine s calm no_types (program_free s calm kept) (λ f x b at ans. function_quiet (program_checked (program_named s)) kept f x b at ans)
-      (knows s calm no_types (program_given s calm) (program_answers s calm no_types)) (indices_typed s calm) moves shares f q b at
+  fine : (moves shares : Stmt → List ℕ) (f q : ℕ) (b : plain.Block) → slice_get p_.blocks f ≡ Some b
+      → IsFine p_ moves shares (IsQuiet p_) f q b
+  fine moves shares f q b at = block_fine s calm no_types (program_free s calm kept)
+      (λ f x b at ans. function_quiet (program_checked (program_named s)) kept f x b at ans)
+      (knows s calm no_types (program_given s calm) (program_answers s calm no_types)) (indices_typed s calm) moves
+      shares f q b at
 
-pub accepted_fine : (text : List ℕ) (g : c.Program) → IsAccepted text g → (moves shares : Stmt → List ℕ) (f q : ℕ) (b : plain.Block) → slice_get (bare g).blocks f ≡ Some b → IsFine (bare g) moves shares (IsQuiet (bare g)) f q b
+pub accepted_fine : (text : List ℕ) (g : c.Program) → IsAccepted text g
+    → (moves shares : Stmt → List ℕ) (f q : ℕ) (b : plain.Block) → slice_get (bare g).blocks f ≡ Some b
+    → IsFine (bare g) moves shares (IsQuiet (bare g)) f q b
 accepted_fine text g accepted moves shares f q b at =
-    accepted_by (λ (z : c.Program). slice_get (bare z).blocks f ≡ Some b → IsFine (bare z) moves shares (IsQuiet (bare z)) f q b) text g accepted (λ s is calm no_types kept at. fine s calm no_types kept moves shares f q b at) at
+    accepted_by (λ (z : c.Program). slice_get (bare z).blocks f ≡ Some b
+    → IsFine (bare z) moves shares (IsQuiet (bare z)) f q b) text g accepted
+    (λ s is calm no_types kept at. fine s calm no_types kept moves shares f q b at) at
 
 pub accepted_free : (text : List ℕ) (g : c.Program) → IsAccepted text g → IsFreeOfInterference (bare g)
-accepted_free text g accepted = accepted_by (λ (z : c.Program). IsFreeOfInterference (bare z)) text g accepted (λ s is calm no_types kept. program_free s calm kept)
+accepted_free text g accepted = accepted_by (λ (z : c.Program). IsFreeOfInterference (bare z)) text g accepted
+    (λ s is calm no_types kept. program_free s calm kept)
 
 pub accepted_small : (text : List ℕ) (g : c.Program) → IsAccepted text g → HasSmallTypes (bare g)
-accepted_small text g accepted = accepted_by (λ (z : c.Program). HasSmallTypes (bare z)) text g accepted (λ s is calm no_types kept. types_small s no_types)
+accepted_small text g accepted = accepted_by (λ (z : c.Program). HasSmallTypes (bare z)) text g accepted
+    (λ s is calm no_types kept. types_small s no_types)
 
 pub accepted_formed : (text : List ℕ) (g : c.Program) → IsAccepted text g → IsFormed (bare g)
 accepted_formed text g accepted = accepted_by (λ (z : c.Program). IsFormed (bare z)) text g accepted
-    (λ s is calm no_types kept. (let full = program_full text Any is.spells in program_formed s calm no_types full.0 full.1 (λ f b at. fine s calm no_types kept (λ z. []) (λ z. []) f 0 b at)))
+    (λ s is calm no_types kept. (let full = program_full text Any is.spells in
+    program_formed s calm no_types full.0 full.1
+    (λ f b at. fine s calm no_types kept (λ z. []) (λ z. []) f 0 b at)))

@@ -18,8 +18,11 @@ none_found : {A : Type 0} (f : Found) (x y : A) → outcome f x ≡ Ok y → (f 
 none_found None x y e = (refl, cc e)
 none_found (Some r) x y e = absurd (cc e)
 
-pub names_kept : (s : syntax.Program) (p : n.Program) → resolved s ≡ Ok p → (names_broken s ≡ []) × (program_named s ≡ p)
-names_kept s p e = let h = none_found (names_first s) (program_named s) p e in (calm_all (names_broken s) (sym (names.first_of_all s) ∙ h.0), h.1)
+pub names_kept : (s : syntax.Program) (p : n.Program) → resolved s ≡ Ok p → (names_broken s ≡ [])
+    × (program_named s ≡ p)
+names_kept s p e = let h = none_found (names_first s) (program_named s) p e in
+    (calm_all (names_broken s) (sym (names.first_of_all s) ∙ h.0), h.1)
 
 pub types_kept : (m : n.Program) (p : c.Program) → typed m ≡ Ok p → (types_broken m ≡ []) × (program_checked m ≡ p)
-types_kept m p e = let h = none_found (types_first m) (program_checked m) p e in (calm_all (types_broken m) (sym (types.first_of_all m) ∙ h.0), h.1)
+types_kept m p e = let h = none_found (types_first m) (program_checked m) p e in
+    (calm_all (types_broken m) (sym (types.first_of_all m) ∙ h.0), h.1)

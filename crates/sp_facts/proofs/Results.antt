@@ -1,5 +1,6 @@
 -- The result of a function is of an ordinal type.
-use Rattle.std.proofs.Common.{◌≡◌, refl, ap, sym, ◌∙◌, subst, ℕ, zero, suc, ◌+◌, List, [], ◌∷◌, Option, Some, None, true, length, slice_get, arith}
+use Rattle.std.proofs.Common.{◌≡◌, refl, ap, sym, ◌∙◌, subst, ℕ, zero, suc, ◌+◌, List, [], ◌∷◌, Option, Some, None}
+use Rattle.std.proofs.Common.{true, length, slice_get, arith}
 use Rattle.std.proofs.lemmas.Option.{same_Some}
 use Rattle.sp_base.specs.declared.rule.Rule.TheVariants as rule
 use Rattle.sp_tree.specs.declared.checked.Variable as checked
@@ -10,13 +11,17 @@ use Rattle.sp_tree.specs.Cells.{sizes}
 use Rattle.sp_tree.specs.Plain as plain
 use Rattle.sp_tree.specs.PlainSyntax as syntax
 use Rattle.sp_tree.specs.PlainNamed as n
-use Rattle.sp_tree.specs.PlainNamed.{Statement, Does, Form, Empty, Assign, Call, Perform, Sequence, If, While, Repeat, Case, For, Parallel, Forall, Assume, NoElse, Else, Statements, NoStatement, AndThen, On, Arms, NoArm, Or, Branches, NoBranch, Beside}
-use Rattle.sp_types.specs.Tables.{Env, entry, variable_kind, counted, indexed, env_of, numbers_of, constants_of, answer_variable}
+use Rattle.sp_tree.specs.PlainNamed.{Statement, Does, Form, Empty, Assign, Call, Perform, Sequence, If, While, Repeat}
+use Rattle.sp_tree.specs.PlainNamed.{Case, For, Parallel, Forall, Assume, NoElse, Else, Statements, NoStatement}
+use Rattle.sp_tree.specs.PlainNamed.{AndThen, On, Arms, NoArm, Or, Branches, NoBranch, Beside}
+use Rattle.sp_types.specs.Tables.{Env, entry, variable_kind, counted, indexed, env_of, numbers_of, constants_of}
+use Rattle.sp_types.specs.Tables.{answer_variable}
 use Rattle.sp_types.specs.TypeRules.{is_ordinal, ordinal, answer_rule, frame_rule, frame_cells}
 use Rattle.sp_types.specs.TypeFirst.{types_broken}
 use Rattle.sp_types.specs.Kinds.{expression_kind}
 use Rattle.sp_types.specs.TypeWalk as w
-use Rattle.sp_types.specs.TypeWalk.{statement_after, statements_after, arms_after, branches_after, form_after, other_after, started, starts_of, blocks_after}
+use Rattle.sp_types.specs.TypeWalk.{statement_after, statements_after, arms_after, branches_after, form_after}
+use Rattle.sp_types.specs.TypeWalk.{other_after, started, starts_of, blocks_after}
 use Rattle.sp_code.specs.Stands.{NoIndex}
 use Rattle.sp_facts.proofs.Calm.{calm_parts, calm_site, calm_unless}
 use Rattle.sp_facts.proofs.IndexTypes.{AreSpans, others_stay}
@@ -60,31 +65,52 @@ mutual
 
   branches_kinds : (env : Env) (bs : Branches) → Same env (branches_after env bs)
   branches_kinds env NoBranch = refl
-  branches_kinds env (Beside ss rest) = branches_kinds (statements_after (counted env) ss) rest ∙ statements_kinds (counted env) ss
+  branches_kinds env (Beside ss rest) = branches_kinds (statements_after (counted env) ss) rest
+      ∙ statements_kinds (counted env) ss
 
 -- ---- over the blocks
 
-answers_ordinal : (p : plain.Program) (numbers cells : List ℕ) (variables : List checked.Variable) (k : ℕ) (env : Env) (starts : List ℕ) (bs : List n.Block) → env.kinds ≡ p.kinds → length starts ≡ length bs → AreSpans p k bs → w.blocks_sites [] together listed numbers cells variables k env starts bs ≡ []
-    → (i : ℕ) (b : n.Block) (a : NamedAnswer) (v : plain.Variable) → slice_get bs i ≡ Some b → b.answer ≡ Some a → slice_get p.variables a.variable ≡ Some v → NoIndex v.role → variable_kind env a.variable ≡ Some v.kind → is_ordinal (slice_get p.kinds v.kind) ≡ true
+answers_ordinal : (p : plain.Program) (numbers cells : List ℕ) (variables : List checked.Variable) (k : ℕ) (env : Env)
+    (starts : List ℕ) (bs : List n.Block) → env.kinds ≡ p.kinds → length starts ≡ length bs → AreSpans p k bs
+    → w.blocks_sites [] together listed numbers cells variables k env starts bs ≡ []
+    → (i : ℕ) (b : n.Block) (a : NamedAnswer) (v : plain.Variable) → slice_get bs i ≡ Some b → b.answer ≡ Some a
+    → slice_get p.variables a.variable ≡ Some v → NoIndex v.role → variable_kind env a.variable ≡ Some v.kind
+    → is_ordinal (slice_get p.kinds v.kind) ≡ true
 answers_ordinal p numbers cells variables k env starts [] same len spans calm i b a v e ans at d known = absurd (cc e)
-answers_ordinal p numbers cells variables k env [] (c ∷ bs) same len spans calm i b a v e ans at d known = absurd (omega (arith, len))
+answers_ordinal p numbers cells variables k env [] (c ∷ bs) same len spans calm i b a v e ans at d known =
+    absurd (omega (arith, len))
 answers_ordinal p numbers cells variables k env (z ∷ starts) (c ∷ bs) same len spans calm zero b a v e ans at d known =
-    let two = calm_parts (w.block_sites [] together listed numbers cells variables k (started env z) c) (w.blocks_sites [] together listed numbers cells variables (k + 1) (statement_after (started env z) c.body) starts bs) calm in
-    let one = calm_parts (listed (frame_rule c.at (frame_cells numbers cells k variables))) (together (w.answer_sites [] together listed (started env z) c.answer) (w.statement_sites [] together listed (started env z) c.body)) two.0 in
-    let mine = (calm_parts (w.answer_sites [] together listed (started env z) c.answer) (w.statement_sites [] together listed (started env z) c.body) one.1).0 in
+    let two = calm_parts (w.block_sites [] together listed numbers cells variables k (started env z) c)
+    (w.blocks_sites [] together listed numbers cells variables (k + 1) (statement_after (started env z) c.body)
+    starts bs) calm in
+    let one = calm_parts (listed (frame_rule c.at (frame_cells numbers cells k variables)))
+    (together (w.answer_sites [] together listed (started env z) c.answer)
+    (w.statement_sites [] together listed (started env z) c.body)) two.0 in
+    let mine = (calm_parts (w.answer_sites [] together listed (started env z) c.answer)
+    (w.statement_sites [] together listed (started env z) c.body) one.1).0 in
     let is : c.answer ≡ Some a = ap (λ (y : n.Block). y.answer) (same_Some c b e) ∙ ans in
-    let rule_ = calm_site (answer_rule (started env z) a.at (variable_kind (started env z) a.variable)) (subst (λ y. w.answer_sites [] together listed (started env z) y ≡ []) is mine) in
-    subst (λ ks. is_ordinal (slice_get ks v.kind) ≡ true) same (calm_unless rule.Y14 a.at (ordinal (started env z)) (variable_kind (started env z) a.variable) v.kind known rule_)
-answers_ordinal p numbers cells variables k env (z ∷ starts) (c ∷ bs) same len (span, spans) calm (suc i) b a v e ans at d known =
+    let rule_ = calm_site (answer_rule (started env z) a.at (variable_kind (started env z) a.variable))
+    (subst (λ y. w.answer_sites [] together listed (started env z) y ≡ []) is mine) in
+    subst (λ ks. is_ordinal (slice_get ks v.kind) ≡ true) same
+    (calm_unless rule.Y14 a.at (ordinal (started env z)) (variable_kind (started env z) a.variable) v.kind known
+    rule_)
+answers_ordinal p numbers cells variables k env (z ∷ starts) (c ∷ bs) same len (span, spans) calm (suc i) b a v e ans at
+    d known =
     let next = statement_after (started env z) c.body in
-    let two = calm_parts (w.block_sites [] together listed numbers cells variables k (started env z) c) (w.blocks_sites [] together listed numbers cells variables (k + 1) next starts bs) calm in
+    let two = calm_parts (w.block_sites [] together listed numbers cells variables k (started env z) c)
+    (w.blocks_sites [] together listed numbers cells variables (k + 1) next starts bs) calm in
     let stays = others_stay p k env (z ∷ []) (c ∷ []) a.variable v at d (span, tt) in
-    answers_ordinal p numbers cells variables (suc k) next starts bs (statement_kinds (started env z) c.body ∙ same) (omega (arith, len)) spans
-    (subst (λ y. w.blocks_sites [] together listed numbers cells variables y next starts bs ≡ []) (let y : k + 1 ≡ suc k = omega arith in y) two.1) i b a v e ans at d (ap entry stays ∙ known)
+    answers_ordinal p numbers cells variables (suc k) next starts bs (statement_kinds (started env z) c.body ∙ same)
+    (omega (arith, len)) spans
+    (subst (λ y. w.blocks_sites [] together listed numbers cells variables y next starts bs ≡ [])
+    (let y : k + 1 ≡ suc k = omega arith in y) two.1) i b a v e ans at d (ap entry stays ∙ known)
 
 -- ---- the program
 
-pub program_answers : (s : syntax.Program) (calm : names_broken s ≡ []) → types_broken (named s calm) ≡ [] → (f : ℕ) (b : plain.Block) (x : ℕ) (v : plain.Variable) → slice_get (tree s calm).blocks f ≡ Some b → b.answer ≡ Some x → slice_get (tree s calm).variables x ≡ Some v → is_ordinal (slice_get (tree s calm).kinds v.kind) ≡ true
+pub program_answers : (s : syntax.Program) (calm : names_broken s ≡ []) → types_broken (named s calm) ≡ []
+    → (f : ℕ) (b : plain.Block) (x : ℕ) (v : plain.Variable) → slice_get (tree s calm).blocks f ≡ Some b
+    → b.answer ≡ Some x → slice_get (tree s calm).variables x ≡ Some v
+    → is_ordinal (slice_get (tree s calm).kinds v.kind) ≡ true
 program_answers s calm no_types f b x v at ans vat =
     let n_ = named s calm in
     let p_ = tree s calm in
@@ -93,13 +119,20 @@ program_answers s calm no_types f b x v at ans vat =
     let w_ = results s calm f b x at ans in
     let d = subst NoIndex (sym (ap (λ (z : plain.Variable). z.role) (same_Some v w_.0 (sym vat ∙ w_.1)) ∙ w_.2)) tt in
     let known = variable_is_of s calm x v vat d in
-    let rest = w.blocks_sites [] together listed (numbers_of n_) (sizes (env_of n_).kinds) n_.variables 0 (env_of n_) (starts_of n_.blocks) n_.blocks in
+    let rest = w.blocks_sites [] together listed (numbers_of n_) (sizes (env_of n_).kinds) n_.variables 0 (env_of n_)
+    (starts_of n_.blocks) n_.blocks in
     let cells = w.cells_sites [] together listed (w.places_of n_.kinds) (sizes (env_of n_).kinds) in
     let kinds = w.kinds_sites [] together listed (constants_of n_) n_.kinds in
-    let blocks_calm = (calm_parts cells rest (calm_parts kinds (together cells rest) (calm_parts (w.constants_sites [] together listed (constants_of n_) n_.constants) (together kinds (together cells rest)) no_types).1).1).1 in
-    answers_ordinal p_ (numbers_of n_) (sizes (env_of n_).kinds) n_.variables 0 (env_of n_) (starts_of n_.blocks) n_.blocks refl (starts_length n_.blocks) (spans s calm) blocks_calm f r.0 a.0 v r.1 a.1
-    (subst (λ z. slice_get p_.variables z ≡ Some v) (sym a.2) vat) d (subst (λ z. variable_kind (env_of n_) z ≡ Some v.kind) (sym a.2) known)
+    let blocks_calm = (calm_parts cells rest
+    (calm_parts kinds (together cells rest)
+    (calm_parts (w.constants_sites [] together listed (constants_of n_) n_.constants)
+    (together kinds (together cells rest)) no_types).1).1).1 in
+    answers_ordinal p_ (numbers_of n_) (sizes (env_of n_).kinds) n_.variables 0 (env_of n_) (starts_of n_.blocks)
+    n_.blocks refl (starts_length n_.blocks) (spans s calm) blocks_calm f r.0 a.0 v r.1 a.1
+    (subst (λ z. slice_get p_.variables z ≡ Some v) (sym a.2) vat) d
+    (subst (λ z. variable_kind (env_of n_) z ≡ Some v.kind) (sym a.2) known)
   where
-    answer_from : (o : Option NamedAnswer) (x : ℕ) → answer_variable o ≡ Some x → (a : NamedAnswer) × (o ≡ Some a) × (a.variable ≡ x)
+    answer_from : (o : Option NamedAnswer) (x : ℕ) → answer_variable o ≡ Some x → (a : NamedAnswer) × (o ≡ Some a)
+        × (a.variable ≡ x)
     answer_from None x e = absurd (cc e)
     answer_from (Some a) x e = (a, refl, (let y : a.variable ≡ x = cc e in y))

@@ -1,6 +1,7 @@
 -- The calls of standard procedures are fine, where no rule of types is broken and each name is of a visible
 -- declaration.
-use Rattle.std.proofs.Common.{◌≡◌, inl, inr, refl, ap, sym, ◌∙◌, ℕ, ◌+◌, List, [], ◌∷◌, ◌++◌, Option, Some, None, Bool, true, false, slice_get}
+use Rattle.std.proofs.Common.{◌≡◌, inl, inr, refl, ap, sym, ◌∙◌, ℕ, ◌+◌, List, [], ◌∷◌, ◌++◌, Option, Some, None, Bool}
+use Rattle.std.proofs.Common.{true, false, slice_get}
 use Rattle.std.specs.Prelude.{nat_eq, ◌||◌}
 use Rattle.sp_base.specs.declared.place.Place.{Place}
 use Rattle.sp_base.specs.declared.rule.Rule.TheVariants as rule
@@ -16,7 +17,9 @@ use Rattle.sp_code.specs.Places.{after_value, after_var}
 use Rattle.sp_types.specs.Tables.{Env, char_of}
 use Rattle.sp_types.specs.TypeRules.{channel}
 use Rattle.sp_types.specs.Kinds.{expression_kind, selected}
-use Rattle.sp_types.specs.TypeWalk.{expression_sites, form_sites, variable_sites, selectors_sites, selector_sites, actuals_sites, actual_sites, standard_sites, place, is_variable, count, formal, others, formal_role, formal_kind}
+use Rattle.sp_types.specs.TypeWalk.{expression_sites, form_sites, variable_sites, selectors_sites, selector_sites}
+use Rattle.sp_types.specs.TypeWalk.{actuals_sites, actual_sites, standard_sites, place, is_variable, count, formal}
+use Rattle.sp_types.specs.TypeWalk.{others, formal_role, formal_kind}
 use Rattle.sp_types.specs.CheckedTree.{checked_expression, checked_variable}
 use Rattle.sp_tree.specs.PlainChecked as c
 use Rattle.sp_tree.specs.CheckedOf as of_
@@ -29,13 +32,15 @@ use Rattle.sp_tree.specs.declared.meaning.StandardProcedure.{StandardProcedure}
 use Rattle.sp_tree.specs.Uses.{In_stmt, In_stmts}
 use Rattle.sp_code.specs.Places.{after}
 use Rattle.sp_types.specs.TypeWalk as w
-use Rattle.sp_types.specs.TypeWalk.{statement_after, statements_after, arm_after, other_after, branches_after, arms_after, form_after, counted_by, parts_count, single_count}
+use Rattle.sp_types.specs.TypeWalk.{statement_after, statements_after, arm_after, other_after, branches_after}
+use Rattle.sp_types.specs.TypeWalk.{arms_after, form_after, counted_by, parts_count, single_count}
 use Rattle.sp_tree.specs.Bare.{bare_statement_form, bare_statements}
 use Rattle.sp_code.specs.Stands.{AllAt}
 use Rattle.sp_facts.proofs.Expressions.{expression_fine, variable_fine, ValueIs}
 use Rattle.sp_tree.specs.declared.meaning.StandardProcedure.TheVariants as procedure
 use Rattle.sp_types.specs.TypeRules.{read_rule, readable, write_rule, writable, width_rule, channel_rule, message_rule}
-use Rattle.sp_types.specs.CheckedTree.{written_text, checked_width, written_form, reads, writes, opens, sends, receives, singles, numbered, expanded}
+use Rattle.sp_types.specs.CheckedTree.{written_text, checked_width, written_form, reads, writes, opens, sends, receives}
+use Rattle.sp_types.specs.CheckedTree.{singles, numbered, expanded}
 use Rattle.sp_tree.specs.Bare.{bare_width}
 use Rattle.sp_code.specs.Stands.{ReadsAt, WidthAt, IsWritten}
 use Rattle.sp_facts.specs.Scoped.{AreAimed, AimsOf}
@@ -44,7 +49,8 @@ use Rattle.sp_facts.proofs.Statements.{Ready, Done, Quiet, within, free_is, Perf
 
 module _ (p : Program) (m : ℕ) (moves shares : Stmt → List ℕ) (hush : ℕ → Type 0) (free : Bool) where
   abbrev pub Fine : List Scope → c.Form → Type 0
-  Fine sc f = Quiet p m moves shares hush free sc (In_stmt (bare_statement_form f)) → Done p m moves shares hush free sc (bare_statement_form f)
+  Fine sc f = Quiet p m moves shares hush free sc (In_stmt (bare_statement_form f))
+      → Done p m moves shares hush free sc (bare_statement_form f)
 
   abbrev pub AllFine : List Scope → List c.Form → Type 0
   AllFine sc [] = Unit {0}
@@ -54,88 +60,152 @@ module _ (p : Program) (m : ℕ) (moves shares : Stmt → List ℕ) (hush : ℕ 
   all_join sc [] gs x y = y
   all_join sc (f ∷ fs) gs x y = (x.0, all_join sc fs gs x.1 y)
 
-  numbered_fine : (sc : List Scope) (k : ℕ) (at : Place) (fs : List c.Form) → AllFine sc fs → Quiet p m moves shares hush free sc (In_stmts (bare_statements (of_.statements (numbered k at fs)))) → (q : ℕ) → AllAt p moves shares AnyInstr AnyTable AnyText hush free sc q (bare_statements (of_.statements (numbered k at fs)))
+  numbered_fine : (sc : List Scope) (k : ℕ) (at : Place) (fs : List c.Form) → AllFine sc fs
+      → Quiet p m moves shares hush free sc (In_stmts (bare_statements (of_.statements (numbered k at fs)))) → (q : ℕ)
+      → AllAt p moves shares AnyInstr AnyTable AnyText hush free sc q
+      (bare_statements (of_.statements (numbered k at fs)))
   numbered_fine sc k at [] h quiet q = tt
   numbered_fine sc k at (f ∷ fs) h quiet q =
       let s_ = bare_statement_form f in
       let r_ = bare_statements (of_.statements (numbered (k + 1) at fs)) in (
         h.0 (within p m moves shares hush free sc (In_stmts (plain.And s_ r_)) (In_stmt s_) (λ u i. inl i) quiet) q,
-        numbered_fine sc (k + 1) at fs h.1 (within p m moves shares hush free sc (In_stmts (plain.And s_ r_)) (In_stmts r_) (λ u i. inr i) quiet) (after p q s_),
+        numbered_fine sc (k + 1) at fs h.1 (within p m moves shares hush free sc (In_stmts (plain.And s_ r_))
+            (In_stmts r_) (λ u i. inr i) quiet) (after p q s_),
       )
 
-  expanded_fine : (sc : List Scope) (k : ℕ) (at : Place) (fs : List c.Form) → AllFine sc fs → Quiet p m moves shares hush free sc (In_stmt (bare_statement_form (expanded k at fs))) → Done p m moves shares hush free sc (bare_statement_form (expanded k at fs))
+  expanded_fine : (sc : List Scope) (k : ℕ) (at : Place) (fs : List c.Form) → AllFine sc fs
+      → Quiet p m moves shares hush free sc (In_stmt (bare_statement_form (expanded k at fs)))
+      → Done p m moves shares hush free sc (bare_statement_form (expanded k at fs))
   expanded_fine sc k at [] h quiet q = tt
   expanded_fine sc k at (f ∷ []) h quiet q = h.0 quiet q
   expanded_fine sc k at (f ∷ g ∷ fs) h quiet q = numbered_fine sc k at (f ∷ g ∷ fs) h quiet q
 
   module _ (env : Env) (sc : List Scope) (ready : Ready p m env sc) where
-    value : (e : n.Expression) (f : Found) → together (expression_sites [] together listed env e) (listed f) ≡ [] → InExpression p m sc e → ValueIs p m moves shares hush env ready.0 sc ready.1 (expression_kind env e) (bare_expression (checked_expression env e)) × (f ≡ None)
-    value e f calm here = let two = calm_at (expression_sites [] together listed env e) f calm in (expression_fine p m moves shares hush env ready.0 sc ready.1 e two.0 here, two.1)
+    value : (e : n.Expression) (f : Found) → together (expression_sites [] together listed env e) (listed f) ≡ []
+        → InExpression p m sc e → ValueIs p m moves shares hush env ready.0 sc ready.1 (expression_kind env e)
+        (bare_expression (checked_expression env e)) × (f ≡ None)
+    value e f calm here = let two = calm_at (expression_sites [] together listed env e) f calm in
+        (expression_fine p m moves shares hush env ready.0 sc ready.1 e two.0 here, two.1)
 
-    width_fine : (at : Place) (wd : n.Width) → w.width_sites [] together listed env at wd ≡ [] → InWidth p m sc wd → (q : ℕ) → WidthAt p moves shares AnyInstr AnyTable AnyText hush sc q (bare_width (checked_width env wd))
+    width_fine : (at : Place) (wd : n.Width) → w.width_sites [] together listed env at wd ≡ [] → InWidth p m sc wd
+        → (q : ℕ) → WidthAt p moves shares AnyInstr AnyTable AnyText hush sc q (bare_width (checked_width env wd))
     width_fine at n.NoWidth calm here q = tt
     width_fine at (n.Within e) calm here q =
         let r = value e (width_rule at (expression_kind env e)) calm here in
-        let is = nat_eq_is 0 r.0.0 (calm_unless rule.Y8 at (nat_eq 0) (expression_kind env e) r.0.0 r.0.1 r.1) in
-        (r.0.4 q, integer_is p m moves shares hush env ready.0 sc ready.1 (kind_of (bare_expression (checked_expression env e))) (r.0.3 ∙ sym is))
+        let is = nat_eq_is 0 r.0.0 (calm_unless rule.Y8 at (nat_eq 0) (expression_kind env e) r.0.0 r.0.1 r.1) in (
+          r.0.4 q,
+          integer_is p m moves shares hush env ready.0 sc ready.1
+              (kind_of (bare_expression (checked_expression env e))) (r.0.3 ∙ sym is),
+        )
 
     -- what is written: an integer, a char or a boolean
-    writes_kind : (k : ℕ) → writable k ≡ true → (t : KindOf) × (slice_get p.kinds k ≡ Some t) × IsWritten t × (sort p k ≡ Ordinals)
+    writes_kind : (k : ℕ) → writable k ≡ true → (t : KindOf) × (slice_get p.kinds k ≡ Some t) × IsWritten t
+        × (sort p k ≡ Ordinals)
     writes_kind k e = go (nat_eq k 0) (nat_eq k 2) refl refl e
       where
-        go : (a b : Bool) → nat_eq k 0 ≡ a → nat_eq k 2 ≡ b → (a || (b || nat_eq k 1)) ≡ true → (t : KindOf) × (slice_get p.kinds k ≡ Some t) × IsWritten t × (sort p k ≡ Ordinals)
-        go true b ae be e = let x = ap (slice_get p.kinds) (nat_eq_is k 0 ae) ∙ ready.0.integer in (kind.Integer, x, tt, ap sort_by x)
-        go false true ae be e = let x = ap (slice_get p.kinds) (nat_eq_is k 2 be) ∙ ready.0.char in (kind.Char, x, tt, ap sort_by x)
-        go false false ae be e = let x = ap (slice_get p.kinds) (nat_eq_is k 1 e) ∙ ready.0.boolean in (kind.Boolean, x, tt, ap sort_by x)
+        go : (a b : Bool) → nat_eq k 0 ≡ a → nat_eq k 2 ≡ b → (a || (b || nat_eq k 1)) ≡ true → (t : KindOf)
+            × (slice_get p.kinds k ≡ Some t) × IsWritten t × (sort p k ≡ Ordinals)
+        go true b ae be e = let x = ap (slice_get p.kinds) (nat_eq_is k 0 ae) ∙ ready.0.integer in
+            (kind.Integer, x, tt, ap sort_by x)
+        go false true ae be e = let x = ap (slice_get p.kinds) (nat_eq_is k 2 be) ∙ ready.0.char in
+            (kind.Char, x, tt, ap sort_by x)
+        go false false ae be e = let x = ap (slice_get p.kinds) (nat_eq_is k 1 e) ∙ ready.0.boolean in
+            (kind.Boolean, x, tt, ap sort_by x)
 
-    write_one : (e : n.Expression) (wd : n.Width) → w.width_sites [] together listed env (place e) wd ≡ [] → together (expression_sites [] together listed env e) (listed (write_rule (place e) (expression_kind env e))) ≡ [] → InExpression p m sc e → InWidth p m sc wd → Fine sc (c.WriteValue (checked_expression env e) (checked_width env wd))
+    write_one : (e : n.Expression) (wd : n.Width) → w.width_sites [] together listed env (place e) wd ≡ []
+        → together (expression_sites [] together listed env e) (listed (write_rule (place e) (expression_kind env e)))
+        ≡ [] → InExpression p m sc e → InWidth p m sc wd
+        → Fine sc (c.WriteValue (checked_expression env e) (checked_width env wd))
     write_one e wd cw ce here in_w quiet q =
         let r = value e (write_rule (place e) (expression_kind env e)) ce here in
         let e_ = bare_expression (checked_expression env e) in
-        let x = writes_kind r.0.0 (calm_unless rule.Y8 (place e) writable (expression_kind env e) r.0.0 r.0.1 r.1) in
-        (x.0, (r.0.4 q, ap (sort p) r.0.3 ∙ x.3), ap (slice_get p.kinds) r.0.3 ∙ x.1, width_fine (place e) wd cw in_w (after_value q e_), tt, x.2)
+        let x = writes_kind r.0.0 (calm_unless rule.Y8 (place e) writable (expression_kind env e) r.0.0 r.0.1 r.1) in (
+          x.0,
+          (r.0.4 q, ap (sort p) r.0.3 ∙ x.3),
+          ap (slice_get p.kinds) r.0.3 ∙ x.1,
+          width_fine (place e) wd cw in_w (after_value q e_),
+          tt,
+          x.2,
+        )
 
-    text_one : (at : Place) (t : List ℕ) (wd : n.Width) → w.width_sites [] together listed env at wd ≡ [] → InWidth p m sc wd → Fine sc (written_text at t (char_of t) (checked_width env wd))
+    text_one : (at : Place) (t : List ℕ) (wd : n.Width) → w.width_sites [] together listed env at wd ≡ []
+        → InWidth p m sc wd → Fine sc (written_text at t (char_of t) (checked_width env wd))
     text_one at [] wd cw in_w quiet q = (0, tt, width_fine at wd cw in_w q, tt)
-    text_one at (x ∷ []) wd cw in_w quiet q = (kind.Char, (((tt, ap sort_by ready.0.char)), ap sort_by ready.0.char), ready.0.char, width_fine at wd cw in_w (q + 1), tt, tt)
+    text_one at (x ∷ []) wd cw in_w quiet q = (
+      kind.Char,
+      (((tt, ap sort_by ready.0.char)), ap sort_by ready.0.char),
+      ready.0.char,
+      width_fine at wd cw in_w (q + 1),
+      tt,
+      tt,
+    )
     text_one at (x ∷ y ∷ t) wd cw in_w quiet q = (0, tt, width_fine at wd cw in_w q, tt)
 
-    written_one : (e : n.Expression) (wd : n.Width) → w.width_sites [] together listed env (place e) wd ≡ [] → w.written_sites [] together listed env e ≡ [] → InExpression p m sc e → InWidth p m sc wd → Fine sc (written_form env e (checked_width env wd))
+    written_one : (e : n.Expression) (wd : n.Width) → w.width_sites [] together listed env (place e) wd ≡ []
+        → w.written_sites [] together listed env e ≡ [] → InExpression p m sc e → InWidth p m sc wd
+        → Fine sc (written_form env e (checked_width env wd))
     written_one (n.At at (n.Quoted t)) wd cw ce here in_w = text_one at t wd cw in_w
     written_one (n.At at (n.Number k)) wd cw ce here in_w = write_one (n.At at (n.Number k)) wd cw ce here in_w
     written_one (n.At at (n.Constant k)) wd cw ce here in_w = write_one (n.At at (n.Constant k)) wd cw ce here in_w
     written_one (n.At at (n.Read v)) wd cw ce here in_w = write_one (n.At at (n.Read v)) wd cw ce here in_w
-    written_one (n.At at (n.Apply f name args)) wd cw ce here in_w = write_one (n.At at (n.Apply f name args)) wd cw ce here in_w
-    written_one (n.At at (n.Standard f args)) wd cw ce here in_w = write_one (n.At at (n.Standard f args)) wd cw ce here in_w
+    written_one (n.At at (n.Apply f name args)) wd cw ce here in_w =
+        write_one (n.At at (n.Apply f name args)) wd cw ce here in_w
+    written_one (n.At at (n.Standard f args)) wd cw ce here in_w =
+        write_one (n.At at (n.Standard f args)) wd cw ce here in_w
     written_one (n.At at (n.Unary op a)) wd cw ce here in_w = write_one (n.At at (n.Unary op a)) wd cw ce here in_w
-    written_one (n.At at (n.Binary op a b)) wd cw ce here in_w = write_one (n.At at (n.Binary op a b)) wd cw ce here in_w
+    written_one (n.At at (n.Binary op a b)) wd cw ce here in_w =
+        write_one (n.At at (n.Binary op a b)) wd cw ce here in_w
 
-    writes_fine : (args : n.Arguments) → w.each_sites [] together listed env (w.write_sites [] together listed env) args ≡ [] → InArguments p m sc args → AllFine sc (writes env args)
+    writes_fine : (args : n.Arguments) → w.each_sites [] together listed env (w.write_sites [] together listed env) args
+        ≡ [] → InArguments p m sc args → AllFine sc (writes env args)
     writes_fine n.NoArgument calm here = tt
     writes_fine (n.AndArgument (n.Pass e wd) rest) calm here =
-        let two = calm_parts (together (w.width_sites [] together listed env (place e) wd) (w.written_sites [] together listed env e)) (w.each_sites [] together listed env (w.write_sites [] together listed env) rest) calm in
-        let one = calm_parts (w.width_sites [] together listed env (place e) wd) (w.written_sites [] together listed env e) two.0 in
+        let two = calm_parts (together (w.width_sites [] together listed env (place e) wd)
+        (w.written_sites [] together listed env e))
+        (w.each_sites [] together listed env (w.write_sites [] together listed env) rest) calm in
+        let one = calm_parts (w.width_sites [] together listed env (place e) wd)
+        (w.written_sites [] together listed env e) two.0 in
         (written_one e wd one.0 one.1 here.0 here.1, writes_fine rest two.1 here.2)
 
     -- an argument that is a variable, with a rule of its type
-    aimed_one : (at : Place) (x : ℕ) (name : Place) (ss : n.Selectors) (f : Found) → together (variable_sites [] together listed env (n.Entire x name ss)) (listed f) ≡ [] → InVariable p m sc (n.Entire x name ss)
-        → ((k : ℕ) × (selected env (n.Entire x name ss) ≡ Some k) × IsKind p k × ((q : ℕ) → PlaceAt p moves shares AnyInstr AnyTable AnyText hush sc q (bare_variable (checked_variable env (n.Entire x name ss))) k)) × (f ≡ None)
-    aimed_one at x name ss f calm here = let two = calm_at (variable_sites [] together listed env (n.Entire x name ss)) f calm in (variable_fine p m moves shares hush env ready.0 sc ready.1 (n.Entire x name ss) two.0 here, two.1)
+    aimed_one : (at : Place) (x : ℕ) (name : Place) (ss : n.Selectors) (f : Found)
+        → together (variable_sites [] together listed env (n.Entire x name ss)) (listed f) ≡ []
+        → InVariable p m sc (n.Entire x name ss)
+        → ((k : ℕ) × (selected env (n.Entire x name ss) ≡ Some k) × IsKind p k
+        × ((q : ℕ) → PlaceAt p moves shares AnyInstr AnyTable AnyText hush sc q
+        (bare_variable (checked_variable env (n.Entire x name ss))) k)) × (f ≡ None)
+    aimed_one at x name ss f calm here = let two =
+        calm_at (variable_sites [] together listed env (n.Entire x name ss)) f calm in
+        (variable_fine p m moves shares hush env ready.0 sc ready.1 (n.Entire x name ss) two.0 here, two.1)
 
-    reads_kind : (k : ℕ) → readable k ≡ true → (t : KindOf) × (slice_get p.kinds k ≡ Some t) × ((q : ℕ) → ReadsAt p moves shares AnyInstr AnyTable AnyText hush q t)
+    reads_kind : (k : ℕ) → readable k ≡ true → (t : KindOf) × (slice_get p.kinds k ≡ Some t)
+        × ((q : ℕ) → ReadsAt p moves shares AnyInstr AnyTable AnyText hush q t)
     reads_kind k e = go (nat_eq k 0) refl e
       where
-        go : (a : Bool) → nat_eq k 0 ≡ a → (a || nat_eq k 2) ≡ true → (t : KindOf) × (slice_get p.kinds k ≡ Some t) × ((q : ℕ) → ReadsAt p moves shares AnyInstr AnyTable AnyText hush q t)
+        go : (a : Bool) → nat_eq k 0 ≡ a → (a || nat_eq k 2) ≡ true → (t : KindOf) × (slice_get p.kinds k ≡ Some t)
+            × ((q : ℕ) → ReadsAt p moves shares AnyInstr AnyTable AnyText hush q t)
         go true ae e = (kind.Integer, ap (slice_get p.kinds) (nat_eq_is k 0 ae) ∙ ready.0.integer, λ q. tt)
         go false ae e = (kind.Char, ap (slice_get p.kinds) (nat_eq_is k 2 e) ∙ ready.0.char, λ q. tt)
 
-    reads_fine : (args : n.Arguments) → w.each_sites [] together listed env (w.read_sites [] together listed env) args ≡ [] → AreAimed p m args → InArguments p m sc args → AllFine sc (reads env args)
+    reads_fine : (args : n.Arguments) → w.each_sites [] together listed env (w.read_sites [] together listed env) args
+        ≡ [] → AreAimed p m args → InArguments p m sc args → AllFine sc (reads env args)
     reads_fine n.NoArgument calm aims here = tt
     reads_fine (n.AndArgument (n.Pass (n.At at (n.Read (n.Entire x name ss))) wd) rest) calm aims here =
-        let two = calm_parts (w.read_sites [] together listed env (n.Pass (n.At at (n.Read (n.Entire x name ss))) wd)) (w.each_sites [] together listed env (w.read_sites [] together listed env) rest) calm in
+        let two = calm_parts (w.read_sites [] together listed env (n.Pass (n.At at (n.Read (n.Entire x name ss))) wd))
+        (w.each_sites [] together listed env (w.read_sites [] together listed env) rest) calm in
         let r = aimed_one at x name ss (read_rule at (selected env (n.Entire x name ss))) two.0 here.0 in
-        let t = reads_kind r.0.0 (calm_unless rule.Y8 at readable (selected env (n.Entire x name ss)) r.0.0 r.0.1 r.1) in
-        ((λ quiet q. (r.0.0, t.0, r.0.3 q, aims.0, t.1, t.2 (after_var q (bare_variable (checked_variable env (n.Entire x name ss)))))), reads_fine rest two.1 aims.1 here.2)
+        let t = reads_kind r.0.0 (calm_unless rule.Y8 at readable (selected env (n.Entire x name ss)) r.0.0 r.0.1
+        r.1) in (
+          (λ quiet q. (
+            r.0.0,
+            t.0,
+            r.0.3 q,
+            aims.0,
+            t.1,
+            t.2 (after_var q (bare_variable (checked_variable env (n.Entire x name ss)))),
+          )),
+          reads_fine rest two.1 aims.1 here.2,
+        )
     reads_fine (n.AndArgument (n.Pass (n.At at (n.Number k)) wd) rest) calm aims here = absurd aims
     reads_fine (n.AndArgument (n.Pass (n.At at (n.Quoted t)) wd) rest) calm aims here = absurd aims
     reads_fine (n.AndArgument (n.Pass (n.At at (n.Constant k)) wd) rest) calm aims here = absurd aims
@@ -144,14 +214,27 @@ module _ (p : Program) (m : ℕ) (moves shares : Stmt → List ℕ) (hush : ℕ 
     reads_fine (n.AndArgument (n.Pass (n.At at (n.Unary op a)) wd) rest) calm aims here = absurd aims
     reads_fine (n.AndArgument (n.Pass (n.At at (n.Binary op a b)) wd) rest) calm aims here = absurd aims
 
-    opens_fine : (args : n.Arguments) → w.each_sites [] together listed env (w.channel_sites [] together listed env) args ≡ [] → AreAimed p m args → InArguments p m sc args → AllFine sc (opens env args)
+    opens_fine : (args : n.Arguments) → w.each_sites [] together listed env (w.channel_sites [] together listed env)
+        args ≡ [] → AreAimed p m args → InArguments p m sc args → AllFine sc (opens env args)
     opens_fine n.NoArgument calm aims here = tt
     opens_fine (n.AndArgument (n.Pass (n.At at (n.Read (n.Entire x name ss))) wd) rest) calm aims here =
-        let two = calm_parts (w.channel_sites [] together listed env (n.Pass (n.At at (n.Read (n.Entire x name ss))) wd)) (w.each_sites [] together listed env (w.channel_sites [] together listed env) rest) calm in
+        let two = calm_parts (w.channel_sites [] together listed env
+        (n.Pass (n.At at (n.Read (n.Entire x name ss))) wd))
+        (w.each_sites [] together listed env (w.channel_sites [] together listed env) rest) calm in
         let r = aimed_one at x name ss (channel_rule env at (selected env (n.Entire x name ss))) two.0 here.0 in
-        let is = channel_is p m moves shares hush env ready.0 sc ready.1 r.0.0 (calm_unless rule.Y8 at (channel env) (selected env (n.Entire x name ss)) r.0.0 r.0.1 r.1) in
-        let v_ = bare_variable (checked_variable env (n.Entire x name ss)) in
-        ((λ quiet q. (r.0.0, r.0.3 q, aims.0, is, tt, free_is p m moves shares hush free sc (In_stmt (plain.Open v_)) quiet (inr refl))), opens_fine rest two.1 aims.1 here.2)
+        let is = channel_is p m moves shares hush env ready.0 sc ready.1 r.0.0
+        (calm_unless rule.Y8 at (channel env) (selected env (n.Entire x name ss)) r.0.0 r.0.1 r.1) in
+        let v_ = bare_variable (checked_variable env (n.Entire x name ss)) in (
+          (λ quiet q. (
+            r.0.0,
+            r.0.3 q,
+            aims.0,
+            is,
+            tt,
+            free_is p m moves shares hush free sc (In_stmt (plain.Open v_)) quiet (inr refl),
+          )),
+          opens_fine rest two.1 aims.1 here.2,
+        )
     opens_fine (n.AndArgument (n.Pass (n.At at (n.Number k)) wd) rest) calm aims here = absurd aims
     opens_fine (n.AndArgument (n.Pass (n.At at (n.Quoted t)) wd) rest) calm aims here = absurd aims
     opens_fine (n.AndArgument (n.Pass (n.At at (n.Constant k)) wd) rest) calm aims here = absurd aims
@@ -162,30 +245,61 @@ module _ (p : Program) (m : ℕ) (moves shares : Stmt → List ℕ) (hush : ℕ 
 
     -- a channel, and what is sent or received
     abbrev ChannelIs : n.Expression → Type 0
-    ChannelIs e = ((q : ℕ) → ValueAt p moves shares AnyInstr AnyTable AnyText hush sc q (bare_expression (checked_expression env e))) × (sort p (kind_of (bare_expression (checked_expression env e))) ≡ Channels)
+    ChannelIs e = ((q : ℕ) → ValueAt p moves shares AnyInstr AnyTable AnyText hush sc q
+        (bare_expression (checked_expression env e)))
+        × (sort p (kind_of (bare_expression (checked_expression env e))) ≡ Channels)
 
-    channel_one : (e : n.Expression) (wd : n.Width) → w.channel_sites [] together listed env (n.Pass e wd) ≡ [] → InExpression p m sc e → ChannelIs e
+    channel_one : (e : n.Expression) (wd : n.Width) → w.channel_sites [] together listed env (n.Pass e wd) ≡ []
+        → InExpression p m sc e → ChannelIs e
     channel_one e wd calm here =
-        let r = value e (channel_rule env (place e) (expression_kind env e)) calm here in
-        (r.0.4, ap (sort p) r.0.3 ∙ channel_is p m moves shares hush env ready.0 sc ready.1 r.0.0 (calm_unless rule.Y8 (place e) (channel env) (expression_kind env e) r.0.0 r.0.1 r.1))
+        let r = value e (channel_rule env (place e) (expression_kind env e)) calm here in (
+          r.0.4,
+          ap (sort p) r.0.3 ∙ channel_is p m moves shares hush env ready.0 sc ready.1 r.0.0
+              (calm_unless rule.Y8 (place e) (channel env) (expression_kind env e) r.0.0 r.0.1 r.1),
+        )
 
-    sends_fine : (ch : n.Expression) (o : Option ℕ) → ChannelIs ch → (args : n.Arguments) → w.each_sites [] together listed env (w.message_sites [] together listed env o) args ≡ [] → InArguments p m sc args → AllFine sc (sends env (checked_expression env ch) args)
+    sends_fine : (ch : n.Expression) (o : Option ℕ) → ChannelIs ch → (args : n.Arguments)
+        → w.each_sites [] together listed env (w.message_sites [] together listed env o) args ≡ []
+        → InArguments p m sc args → AllFine sc (sends env (checked_expression env ch) args)
     sends_fine ch o is n.NoArgument calm here = tt
     sends_fine ch o is (n.AndArgument (n.Pass e wd) rest) calm here =
-        let two = calm_parts (w.message_sites [] together listed env o (n.Pass e wd)) (w.each_sites [] together listed env (w.message_sites [] together listed env o) rest) calm in
+        let two = calm_parts (w.message_sites [] together listed env o (n.Pass e wd))
+        (w.each_sites [] together listed env (w.message_sites [] together listed env o) rest) calm in
         let r = value e (message_rule env (place e) o (expression_kind env e)) two.0 here.0 in
         let c_ = bare_expression (checked_expression env ch) in
-        let e_ = bare_expression (checked_expression env e) in
-        ((λ quiet q. (is.0 q, is.1, r.0.4 (after_value q c_), tt, free_is p m moves shares hush free sc (In_stmt (plain.Send c_ e_)) quiet (inr (inr refl)))), sends_fine ch o is rest two.1 here.2)
+        let e_ = bare_expression (checked_expression env e) in (
+          (λ quiet q. (
+            is.0 q,
+            is.1,
+            r.0.4 (after_value q c_),
+            tt,
+            free_is p m moves shares hush free sc (In_stmt (plain.Send c_ e_)) quiet (inr (inr refl)),
+          )),
+          sends_fine ch o is rest two.1 here.2,
+        )
 
-    receives_fine : (ch : n.Expression) (o : Option ℕ) → ChannelIs ch → (args : n.Arguments) → w.each_sites [] together listed env (w.message_sites [] together listed env o) args ≡ [] → AreAimed p m args → InArguments p m sc args → AllFine sc (receives env (checked_expression env ch) args)
+    receives_fine : (ch : n.Expression) (o : Option ℕ) → ChannelIs ch → (args : n.Arguments)
+        → w.each_sites [] together listed env (w.message_sites [] together listed env o) args ≡ [] → AreAimed p m args
+        → InArguments p m sc args → AllFine sc (receives env (checked_expression env ch) args)
     receives_fine ch o is n.NoArgument calm aims here = tt
     receives_fine ch o is (n.AndArgument (n.Pass (n.At at (n.Read (n.Entire x name ss))) wd) rest) calm aims here =
-        let two = calm_parts (w.message_sites [] together listed env o (n.Pass (n.At at (n.Read (n.Entire x name ss))) wd)) (w.each_sites [] together listed env (w.message_sites [] together listed env o) rest) calm in
+        let two = calm_parts (w.message_sites [] together listed env o
+        (n.Pass (n.At at (n.Read (n.Entire x name ss))) wd))
+        (w.each_sites [] together listed env (w.message_sites [] together listed env o) rest) calm in
         let r = aimed_one at x name ss (message_rule env at o (selected env (n.Entire x name ss))) two.0 here.0 in
         let c_ = bare_expression (checked_expression env ch) in
-        let v_ = bare_variable (checked_variable env (n.Entire x name ss)) in
-        ((λ quiet q. (r.0.0, is.0 q, is.1, r.0.3 (after_value q c_), aims.0, tt, free_is p m moves shares hush free sc (In_stmt (plain.Receive c_ v_)) quiet (inr (inr refl)))), receives_fine ch o is rest two.1 aims.1 here.2)
+        let v_ = bare_variable (checked_variable env (n.Entire x name ss)) in (
+          (λ quiet q. (
+            r.0.0,
+            is.0 q,
+            is.1,
+            r.0.3 (after_value q c_),
+            aims.0,
+            tt,
+            free_is p m moves shares hush free sc (In_stmt (plain.Receive c_ v_)) quiet (inr (inr refl)),
+          )),
+          receives_fine ch o is rest two.1 aims.1 here.2,
+        )
     receives_fine ch o is (n.AndArgument (n.Pass (n.At at (n.Number k)) wd) rest) calm aims here = absurd aims
     receives_fine ch o is (n.AndArgument (n.Pass (n.At at (n.Quoted t)) wd) rest) calm aims here = absurd aims
     receives_fine ch o is (n.AndArgument (n.Pass (n.At at (n.Constant k)) wd) rest) calm aims here = absurd aims
@@ -194,20 +308,29 @@ module _ (p : Program) (m : ℕ) (moves shares : Stmt → List ℕ) (hush : ℕ 
     receives_fine ch o is (n.AndArgument (n.Pass (n.At at (n.Unary op a)) wd) rest) calm aims here = absurd aims
     receives_fine ch o is (n.AndArgument (n.Pass (n.At at (n.Binary op a b)) wd) rest) calm aims here = absurd aims
 
-    singles_fine : (f : StandardProcedure) (args : n.Arguments) → w.perform_sites [] together listed env f args ≡ [] → AimsOf p m f args → InArguments p m sc args → AllFine sc (singles env f args)
+    singles_fine : (f : StandardProcedure) (args : n.Arguments) → w.perform_sites [] together listed env f args ≡ []
+        → AimsOf p m f args → InArguments p m sc args → AllFine sc (singles env f args)
     singles_fine procedure.Read args calm aims here = reads_fine args calm aims here
-    singles_fine procedure.Readln args calm aims here = all_join sc (reads env args) (c.ReadLine ∷ []) (reads_fine args calm aims here) ((λ quiet q. tt), tt)
+    singles_fine procedure.Readln args calm aims here =
+        all_join sc (reads env args) (c.ReadLine ∷ []) (reads_fine args calm aims here) ((λ quiet q. tt), tt)
     singles_fine procedure.Write args calm aims here = writes_fine args calm here
-    singles_fine procedure.Writeln args calm aims here = all_join sc (writes env args) (c.WriteLine ∷ []) (writes_fine args calm here) ((λ quiet q. tt), tt)
+    singles_fine procedure.Writeln args calm aims here =
+        all_join sc (writes env args) (c.WriteLine ∷ []) (writes_fine args calm here) ((λ quiet q. tt), tt)
     singles_fine procedure.Open args calm aims here = opens_fine args calm aims here
     singles_fine procedure.Send n.NoArgument calm aims here = tt
     singles_fine procedure.Send (n.AndArgument (n.Pass e wd) rest) calm aims here =
-        let two = calm_parts (w.channel_sites [] together listed env (n.Pass e wd)) (w.each_sites [] together listed env (w.message_sites [] together listed env (expression_kind env e)) rest) calm in
+        let two = calm_parts (w.channel_sites [] together listed env (n.Pass e wd))
+        (w.each_sites [] together listed env (w.message_sites [] together listed env (expression_kind env e)) rest)
+        calm in
         sends_fine e (expression_kind env e) (channel_one e wd two.0 here.0) rest two.1 here.2
     singles_fine procedure.Receive n.NoArgument calm aims here = tt
     singles_fine procedure.Receive (n.AndArgument (n.Pass e wd) rest) calm aims here =
-        let two = calm_parts (w.channel_sites [] together listed env (n.Pass e wd)) (w.each_sites [] together listed env (w.message_sites [] together listed env (expression_kind env e)) rest) calm in
+        let two = calm_parts (w.channel_sites [] together listed env (n.Pass e wd))
+        (w.each_sites [] together listed env (w.message_sites [] together listed env (expression_kind env e)) rest)
+        calm in
         receives_fine e (expression_kind env e) (channel_one e wd two.0 here.0) rest two.1 aims here.2
 
 pub performs : (p : Program) (m : ℕ) (moves shares : Stmt → List ℕ) (hush : ℕ → Type 0) → Performs p m moves shares hush
-performs p m moves shares hush free env sc at f args ready calm here quiet = expanded_fine p m moves shares hush free sc env.next at (singles env f args) (singles_fine p m moves shares hush free env sc ready f args calm here.1 here.2) quiet
+performs p m moves shares hush free env sc at f args ready calm here quiet =
+    expanded_fine p m moves shares hush free sc env.next at (singles env f args)
+    (singles_fine p m moves shares hush free env sc ready f args calm here.1 here.2) quiet

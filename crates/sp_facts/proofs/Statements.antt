@@ -1,5 +1,7 @@
 -- Where no rule of types is broken, and each name is of a visible declaration, a statement is fine.
-use Rattle.std.proofs.Common.{◌≡◌, ◌⊎◌, inl, inr, refl, ap, sym, ◌∙◌, subst, ℕ, zero, suc, ◌+◌, ◌≤◌, List, [], ◌∷◌, Option, Some, None, Bool, true, false, if◌then◌else◌, length, slice_get, slice_set, arith, eq-eqb, eqb-true, ◌==◌}
+use Rattle.std.proofs.Common.{◌≡◌, ◌⊎◌, inl, inr, refl, ap, sym, ◌∙◌, subst, ℕ, zero, suc, ◌+◌, ◌≤◌, List, [], ◌∷◌}
+use Rattle.std.proofs.Common.{Option, Some, None, Bool, true, false, if◌then◌else◌, length, slice_get, slice_set, arith}
+use Rattle.std.proofs.Common.{eq-eqb, eqb-true, ◌==◌}
 use Rattle.std.specs.Prelude.{ℤ, nat_eq}
 use Rattle.std.proofs.lemmas.Bool.{true≢false}
 use Rattle.std.proofs.lemmas.List.{length-set}
@@ -15,12 +17,15 @@ use Rattle.sp_tree.specs.NameFirst.{together}
 use Rattle.sp_tree.specs.Plain.{Program, Variable, Block, Stmt, Expr, ExprForm, Actuals}
 use Rattle.sp_tree.specs.Plain as plain
 use Rattle.sp_tree.specs.PlainNamed as n
-use Rattle.sp_code.specs.Scopes.{Sort, Ordinals, Channels, Many, NoSort, kind_of, Scope, is_block, is_index, level, sort, sort_by}
+use Rattle.sp_code.specs.Scopes.{Sort, Ordinals, Channels, Many, NoSort, kind_of, Scope, is_block, is_index, level}
+use Rattle.sp_code.specs.Scopes.{sort, sort_by}
 use Rattle.sp_code.specs.Places.{after_value, after_var, after_actuals}
 use Rattle.sp_types.specs.Tables.{Env, entry, variable_kind, formals_of, formals_in}
 use Rattle.sp_types.specs.TypeRules.{is_ordinal, ordinal, unless, differ}
 use Rattle.sp_types.specs.Kinds.{expression_kind, form_kind, selected, element}
-use Rattle.sp_types.specs.TypeWalk.{expression_sites, form_sites, variable_sites, selectors_sites, selector_sites, actuals_sites, actual_sites, standard_sites, place, is_variable, count, formal, others, formal_role, formal_kind}
+use Rattle.sp_types.specs.TypeWalk.{expression_sites, form_sites, variable_sites, selectors_sites, selector_sites}
+use Rattle.sp_types.specs.TypeWalk.{actuals_sites, actual_sites, standard_sites, place, is_variable, count, formal}
+use Rattle.sp_types.specs.TypeWalk.{others, formal_role, formal_kind}
 use Rattle.sp_types.specs.CheckedTree.{or_zero, checked_expression, checked_form, checked_variable, checked_actuals}
 use Rattle.sp_tree.specs.CheckedOf as of_
 use Rattle.sp_tree.specs.Bare.{bare_expression, bare_form, bare_variable, bare_actuals}
@@ -35,13 +40,16 @@ use Rattle.sp_code.specs.Places.{after_test, after_tests, after, after_arms}
 use Rattle.sp_types.specs.Tables.{counted, indexed}
 use Rattle.sp_types.specs.TypeRules.{condition_rule, assign_rule, range_rule, limit_rule, selector_rule}
 use Rattle.sp_types.specs.TypeWalk as w
-use Rattle.sp_types.specs.TypeWalk.{statement_after, statements_after, arm_after, other_after, branches_after, arms_after, form_after, counted_by, parts_count, single_count}
-use Rattle.sp_types.specs.CheckedTree.{checked_statement, checked_statement_form, checked_statements, checked_arms, checked_branches, in_sequence, first_place, constant_numbers}
+use Rattle.sp_types.specs.TypeWalk.{statement_after, statements_after, arm_after, other_after, branches_after}
+use Rattle.sp_types.specs.TypeWalk.{arms_after, form_after, counted_by, parts_count, single_count}
+use Rattle.sp_types.specs.CheckedTree.{checked_statement, checked_statement_form, checked_statements, checked_arms}
+use Rattle.sp_types.specs.CheckedTree.{checked_branches, in_sequence, first_place, constant_numbers}
 use Rattle.sp_tree.specs.Bare.{bare_statement, bare_statement_form, bare_statements, bare_arms}
 use Rattle.sp_facts.specs.Knows.{IsTyped, IsTypedForm, AreTyped, AreTypedArms, AreTypedBranches}
 use Rattle.sp_code.specs.Stands.{Hushed, StandsAt, AllAt, ChildrenAt, ArmsAt, RightAt, OrdinalAt, TestAt, TestsAt}
 use Rattle.sp_facts.specs.Scoped.{IsInForall, InStatement, InStatementForm, InStatements, InArms, InBranches}
-use Rattle.sp_facts.proofs.Expressions.{form_fine, ordinal_sort, expression_fine, variable_fine, actuals_fine, call_at, ordinal_is, boolean_is}
+use Rattle.sp_facts.proofs.Expressions.{form_fine, ordinal_sort, expression_fine, variable_fine, actuals_fine, call_at}
+use Rattle.sp_facts.proofs.Expressions.{ordinal_is, boolean_is}
 
 -- ---- what is known goes on
 
@@ -50,7 +58,8 @@ get_set [] x a l = absurd (omega (arith, l))
 get_set (y ∷ xs) zero a l = refl
 get_set (y ∷ xs) (suc x) a l = get_set xs x a (omega (arith, l))
 
-pub get_other : {A : Type 0} (xs : List A) (x y : ℕ) (a : A) → (y ≡ x → ⊥) → slice_get (slice_set xs x a) y ≡ slice_get xs y
+pub get_other : {A : Type 0} (xs : List A) (x y : ℕ) (a : A) → (y ≡ x → ⊥)
+    → slice_get (slice_set xs x a) y ≡ slice_get xs y
 get_other [] x y a d = refl
 get_other (z ∷ xs) zero zero a d = absurd (d refl)
 get_other (z ∷ xs) zero (suc y) a d = refl
@@ -62,10 +71,38 @@ module _ (p : Program) (m : ℕ) where
   IsIndex x = (v : Variable) × (slice_get p.variables x ≡ Some v) × (v.role ≡ role.Index)
 
   knows_counted : (env : Env) → Knows p m env → Knows p m (counted env)
-  knows_counted env h = record { kinds = h.kinds; integer = h.integer; boolean = h.boolean; char = h.char; given = h.given; variables = h.variables; room = h.room; roles = h.roles; blocks = h.blocks; formals = h.formals; answers = h.answers; elements = h.elements; fields = h.fields }
+  knows_counted env h = record {
+    kinds = h.kinds;
+    integer = h.integer;
+    boolean = h.boolean;
+    char = h.char;
+    given = h.given;
+    variables = h.variables;
+    room = h.room;
+    roles = h.roles;
+    blocks = h.blocks;
+    formals = h.formals;
+    answers = h.answers;
+    elements = h.elements;
+    fields = h.fields;
+  }
 
   knows_by : (env : Env) → Knows p m env → (k : ℕ) → Knows p m (counted_by k env)
-  knows_by env h k = record { kinds = h.kinds; integer = h.integer; boolean = h.boolean; char = h.char; given = h.given; variables = h.variables; room = h.room; roles = h.roles; blocks = h.blocks; formals = h.formals; answers = h.answers; elements = h.elements; fields = h.fields }
+  knows_by env h k = record {
+    kinds = h.kinds;
+    integer = h.integer;
+    boolean = h.boolean;
+    char = h.char;
+    given = h.given;
+    variables = h.variables;
+    room = h.room;
+    roles = h.roles;
+    blocks = h.blocks;
+    formals = h.formals;
+    answers = h.answers;
+    elements = h.elements;
+    fields = h.fields;
+  }
 
   knows_indexed : (env : Env) (x : ℕ) (k : Option ℕ) → IsIndex x → Knows p m env → Knows p m (indexed env x k)
   knows_indexed env x k (v, at, r) h = record {
@@ -74,7 +111,13 @@ module _ (p : Program) (m : ℕ) where
     boolean = h.boolean;
     char = h.char;
     given = h.given;
-    variables = λ y u ya d. (ap entry (get_other env.variables x y k (λ e. subst NoIndex (ap (λ (z : Variable). z.role) (same_Some u v (sym ya ∙ ap (slice_get p.variables) e ∙ at)) ∙ r) d)) ∙ (h.variables y u ya d).0, (h.variables y u ya d).1);
+    variables = λ y u ya d. (
+      ap entry (get_other env.variables x y k
+          (λ e. subst NoIndex (ap (λ (z : Variable). z.role)
+          (same_Some u v (sym ya ∙ ap (slice_get p.variables) e ∙ at))
+          ∙ r) d)) ∙ (h.variables y u ya d).0,
+      (h.variables y u ya d).1,
+    );
     room = λ y u ya. (let l = h.room y u ya in let z = length-set env.variables x k in omega (arith, l, z));
     roles = h.roles;
     blocks = h.blocks;
@@ -84,20 +127,28 @@ module _ (p : Program) (m : ℕ) where
     fields = h.fields;
   }
 
-  pub more_indices : (env : Env) (x k : ℕ) (sc : List Scope) (o : Option ℕ) → Knows p m env → o ≡ Some k → is_ordinal (slice_get p.kinds k) ≡ true → ((v : Variable) → slice_get p.variables x ≡ Some v → v.kind ≡ k) → HasIndices p env sc → HasIndices p (indexed env x o) (OfIndex x ∷ sc)
+  pub more_indices : (env : Env) (x k : ℕ) (sc : List Scope) (o : Option ℕ) → Knows p m env → o ≡ Some k
+      → is_ordinal (slice_get p.kinds k) ≡ true → ((v : Variable) → slice_get p.variables x ≡ Some v → v.kind ≡ k)
+      → HasIndices p env sc → HasIndices p (indexed env x o) (OfIndex x ∷ sc)
   more_indices env x k sc o knows oe ord typed h y up v e at = go (y == x) refl e
     where
-      same : y ≡ x → (entry (slice_get (slice_set env.variables x o) y) ≡ Some v.kind) × (is_ordinal (slice_get p.kinds v.kind) ≡ true)
+      same : y ≡ x → (entry (slice_get (slice_set env.variables x o) y) ≡ Some v.kind)
+          × (is_ordinal (slice_get p.kinds v.kind) ≡ true)
       same yx =
           let vx = subst (λ z. slice_get p.variables z ≡ Some v) yx at in
-          let vk = typed v vx in
-          (ap (λ z. entry (slice_get (slice_set env.variables x o) z)) yx ∙ ap entry (get_set env.variables x o (knows.room x v vx)) ∙ oe ∙ ap Some (sym vk), subst (λ z. is_ordinal (slice_get p.kinds z) ≡ true) (sym vk) ord)
+          let vk = typed v vx in (
+            ap (λ z. entry (slice_get (slice_set env.variables x o) z)) yx
+                ∙ ap entry (get_set env.variables x o (knows.room x v vx)) ∙ oe ∙ ap Some (sym vk),
+            subst (λ z. is_ordinal (slice_get p.kinds z) ≡ true) (sym vk) ord,
+          )
 
       less : (l : Option ℕ) → one_more l ≡ Some up → (j : ℕ) × (l ≡ Some j)
       less None e = absurd (cc e)
       less (Some j) e = (j, refl)
 
-      go : (b : Bool) → (y == x) ≡ b → (if b then Some 0 else one_more (level (is_index y) sc)) ≡ Some up → (entry (slice_get (slice_set env.variables x o) y) ≡ Some v.kind) × (is_ordinal (slice_get p.kinds v.kind) ≡ true)
+      go : (b : Bool) → (y == x) ≡ b → (if b then Some 0 else one_more (level (is_index y) sc)) ≡ Some up
+          → (entry (slice_get (slice_set env.variables x o) y) ≡ Some v.kind)
+          × (is_ordinal (slice_get p.kinds v.kind) ≡ true)
       go true b e = same (eqb-true y x b)
       go false b e =
           let found = less (level (is_index y) sc) e in
@@ -106,7 +157,8 @@ module _ (p : Program) (m : ℕ) where
 
   -- what is known later of the same program
   abbrev pub Grown : Env → Env → Type 0
-  Grown env later = Knows p m later × ((y : ℕ) (v : Variable) → slice_get p.variables y ≡ Some v → variable_kind env y ≡ Some v.kind → variable_kind later y ≡ Some v.kind)
+  Grown env later = Knows p m later × ((y : ℕ) (v : Variable) → slice_get p.variables y ≡ Some v
+      → variable_kind env y ≡ Some v.kind → variable_kind later y ≡ Some v.kind)
 
   abbrev pub Ready : Env → List Scope → Type 0
   Ready env sc = Knows p m env × HasIndices p env sc
@@ -123,14 +175,17 @@ module _ (p : Program) (m : ℕ) where
   pub by_count : (env : Env) → Knows p m env → Grown env (counted env)
   by_count env h = (knows_counted env h, λ y v at e. e)
 
-  pub by_index : (env : Env) (x k : ℕ) (o : Option ℕ) → o ≡ Some k → IsIndex x → ((v : Variable) → slice_get p.variables x ≡ Some v → v.kind ≡ k) → Knows p m env → Grown env (indexed env x o)
+  pub by_index : (env : Env) (x k : ℕ) (o : Option ℕ) → o ≡ Some k → IsIndex x
+      → ((v : Variable) → slice_get p.variables x ≡ Some v → v.kind ≡ k) → Knows p m env → Grown env (indexed env x o)
   by_index env x k o oe is typed h = (knows_indexed env x o is h, λ y v at e. go y v at e (y == x) refl)
     where
-      go : (y : ℕ) (v : Variable) → slice_get p.variables y ≡ Some v → variable_kind env y ≡ Some v.kind → (b : Bool) → (y == x) ≡ b → entry (slice_get (slice_set env.variables x o) y) ≡ Some v.kind
+      go : (y : ℕ) (v : Variable) → slice_get p.variables y ≡ Some v → variable_kind env y ≡ Some v.kind → (b : Bool)
+          → (y == x) ≡ b → entry (slice_get (slice_set env.variables x o) y) ≡ Some v.kind
       go y v at e true b =
           let yx = eqb-true y x b in
           let vx = subst (λ z. slice_get p.variables z ≡ Some v) yx at in
-          ap (λ z. entry (slice_get (slice_set env.variables x o) z)) yx ∙ ap entry (get_set env.variables x o (h.room x v vx)) ∙ oe ∙ ap Some (sym (typed v vx))
+          ap (λ z. entry (slice_get (slice_set env.variables x o) z)) yx
+          ∙ ap entry (get_set env.variables x o (h.room x v vx)) ∙ oe ∙ ap Some (sym (typed v vx))
       go y v at e false b = ap entry (get_other env.variables x y o (λ yx. true≢false (sym (eq-eqb y x yx) ∙ b))) ∙ e
 
   module _ (moves shares : Stmt → List ℕ) (hush : ℕ → Type 0) where
@@ -139,28 +194,48 @@ module _ (p : Program) (m : ℕ) where
 
     -- what may stand where a function is being called, and in a forall: the rules of interference say so
     abbrev pub Quiet : Bool → List Scope → (Use → Type 0) → Type 0
-    Quiet free sc Here = (free ≡ false → (Here Stop → ⊥) × ((g : ℕ) (args : Actuals) → Here (CallOf g args) → hush g)) × (IsInForall sc → (x : ℕ) → Here (Target x) → ⊥) × ((x : ℕ) (s : Stmt) → Here (ForallOf x s) → (y : ℕ) → In_stmt s (Target y) → ⊥)
+    Quiet free sc Here = (free ≡ false → (Here Stop → ⊥) × ((g : ℕ) (args : Actuals) → Here (CallOf g args) → hush g))
+        × (IsInForall sc → (x : ℕ) → Here (Target x) → ⊥)
+        × ((x : ℕ) (s : Stmt) → Here (ForallOf x s) → (y : ℕ) → In_stmt s (Target y) → ⊥)
 
-    forall_part : (free : Bool) (sc : List Scope) (x : ℕ) (f t : Expr) (a : Stmt) → Quiet free sc (In_stmt (plain.Forall x f t a)) → Quiet free (OfIndex x ∷ sc) (In_stmt a)
-    forall_part free sc x f t a quiet = ((λ e. (λ h. (quiet.0 e).0 (inr (inr (inr (inl (h, tt))))), λ g args h. (quiet.0 e).1 g args (inr (inr (inr (inl (h, tt))))))), (λ i y h. quiet.2 x a (inl refl) y h), λ y s h z k. quiet.2 y s (inr (inr (inr (inl (h, tt))))) z k)
+    forall_part : (free : Bool) (sc : List Scope) (x : ℕ) (f t : Expr) (a : Stmt)
+        → Quiet free sc (In_stmt (plain.Forall x f t a)) → Quiet free (OfIndex x ∷ sc) (In_stmt a)
+    forall_part free sc x f t a quiet = (
+      (λ e. (
+        λ h. (quiet.0 e).0 (inr (inr (inr (inl (h, tt))))),
+        λ g args h. (quiet.0 e).1 g args (inr (inr (inr (inl (h, tt))))),
+      )),
+      (λ i y h. quiet.2 x a (inl refl) y h),
+      λ y s h z k. quiet.2 y s (inr (inr (inr (inl (h, tt))))) z k,
+    )
 
-    pub within : (free : Bool) (sc : List Scope) (All_ Here : Use → Type 0) → ((u : Use) → Here u → All_ u) → Quiet free sc All_ → Quiet free sc Here
-    within free sc All_ Here into quiet = ((λ e. (λ h. (quiet.0 e).0 (into Stop h), λ g args h. (quiet.0 e).1 g args (into (CallOf g args) h))), (λ i x h. quiet.1 i x (into (Target x) h)), λ x s h y k. quiet.2 x s (into (ForallOf x s) h) y k)
+    pub within : (free : Bool) (sc : List Scope) (All_ Here : Use → Type 0) → ((u : Use) → Here u → All_ u)
+        → Quiet free sc All_ → Quiet free sc Here
+    within free sc All_ Here into quiet = (
+      (λ e.
+          (λ h. (quiet.0 e).0 (into Stop h), λ g args h. (quiet.0 e).1 g args (into (CallOf g args) h))),
+      (λ i x h. quiet.1 i x (into (Target x) h)),
+      λ x s h y k. quiet.2 x s (into (ForallOf x s) h) y k,
+    )
 
     pub free_is : (free : Bool) (sc : List Scope) (Here : Use → Type 0) → Quiet free sc Here → Here Stop → free ≡ true
     free_is true sc Here quiet h = refl
     free_is false sc Here quiet h = absurd ((quiet.0 refl).0 h)
 
-    hushed : (free : Bool) (sc : List Scope) (Here : Use → Type 0) (f : ℕ) (args : Actuals) → Quiet free sc Here → Here (CallOf f args) → Hushed hush free f
+    hushed : (free : Bool) (sc : List Scope) (Here : Use → Type 0) (f : ℕ) (args : Actuals) → Quiet free sc Here
+        → Here (CallOf f args) → Hushed hush free f
     hushed true sc Here f args quiet h = tt
     hushed false sc Here f args quiet h = (quiet.0 refl).1 f args h
 
-    for_level : (free : Bool) (sc : List Scope) (Here : Use → Type 0) (x b : ℕ) → Quiet free sc Here → Here (Target x) → (level (is_block b) sc ≡ Some 0) ⊎ IsInForall sc → level (is_block b) sc ≡ Some 0
+    for_level : (free : Bool) (sc : List Scope) (Here : Use → Type 0) (x b : ℕ) → Quiet free sc Here → Here (Target x)
+        → (level (is_block b) sc ≡ Some 0) ⊎ IsInForall sc → level (is_block b) sc ≡ Some 0
     for_level free sc Here x b quiet h (inl e) = e
     for_level free sc Here x b quiet h (inr i) = absurd (quiet.1 i x h)
 
     -- of an array or record nothing but a variable has the type
-    right_at : (sc : List Scope) (q k : ℕ) (s : Sort) (form : ExprForm) → sort p k ≡ s → IsKind p k → FormAt p moves shares AnyInstr AnyTable AnyText hush sc q k form → RightAt p moves shares AnyInstr AnyTable AnyText hush sc q k s form
+    right_at : (sc : List Scope) (q k : ℕ) (s : Sort) (form : ExprForm) → sort p k ≡ s → IsKind p k
+        → FormAt p moves shares AnyInstr AnyTable AnyText hush sc q k form
+        → RightAt p moves shares AnyInstr AnyTable AnyText hush sc q k s form
     right_at sc q k Ordinals form e ik h = (h, tt)
     right_at sc q k Channels form e ik h = (h, tt)
     right_at sc q k Many (plain.Read v) e ik h = (h.0, tt)
@@ -210,26 +285,40 @@ module _ (p : Program) (m : ℕ) where
     abbrev pub Ordinal_ : List Scope → Expr → Type 0
     Ordinal_ sc e = (q : ℕ) → OrdinalAt p moves shares AnyInstr AnyTable AnyText hush sc q e
 
-    pub condition : (env : Env) (sc : List Scope) → Ready env sc → (e : n.Expression) → w.condition_sites [] together listed env e ≡ [] → InExpression p m sc e → Ordinal_ sc (bare_expression (checked_expression env e))
+    pub condition : (env : Env) (sc : List Scope) → Ready env sc → (e : n.Expression)
+        → w.condition_sites [] together listed env e ≡ [] → InExpression p m sc e
+        → Ordinal_ sc (bare_expression (checked_expression env e))
     condition env sc ready e calm here q =
-        let parts = calm_at (expression_sites [] together listed env e) (condition_rule (place e) (expression_kind env e)) calm in
+        let parts = calm_at (expression_sites [] together listed env e)
+        (condition_rule (place e) (expression_kind env e)) calm in
         let r = expression_fine p m moves shares hush env ready.0 sc ready.1 e parts.0 here in
-        let is = nat_eq_is 1 r.0 (calm_unless rule.Y4 (place e) (nat_eq 1) (expression_kind env e) r.0 r.1 parts.1) in
-        (r.4 q, boolean_is p m moves shares hush env ready.0 sc ready.1 (kind_of (bare_expression (checked_expression env e))) (r.3 ∙ sym is))
+        let is = nat_eq_is 1 r.0 (calm_unless rule.Y4 (place e) (nat_eq 1) (expression_kind env e) r.0 r.1 parts.1) in (
+          r.4 q,
+          boolean_is p m moves shares hush env ready.0 sc ready.1
+              (kind_of (bare_expression (checked_expression env e))) (r.3 ∙ sym is),
+        )
 
     -- an expression of a known ordinal type
-    limit : (env : Env) (sc : List Scope) → Ready env sc → (o : Option ℕ) (k : ℕ) → o ≡ Some k → sort p k ≡ Ordinals → (e : n.Expression) → w.limit_sites [] together listed env o e ≡ [] → InExpression p m sc e → Ordinal_ sc (bare_expression (checked_expression env e))
+    limit : (env : Env) (sc : List Scope) → Ready env sc → (o : Option ℕ) (k : ℕ) → o ≡ Some k → sort p k ≡ Ordinals
+        → (e : n.Expression) → w.limit_sites [] together listed env o e ≡ [] → InExpression p m sc e
+        → Ordinal_ sc (bare_expression (checked_expression env e))
     limit env sc ready o k oe ord e calm here q =
-        let parts = calm_at (expression_sites [] together listed env e) (limit_rule (place e) o (expression_kind env e)) calm in
+        let parts = calm_at (expression_sites [] together listed env e) (limit_rule (place e) o (expression_kind env e))
+        calm in
         let r = expression_fine p m moves shares hush env ready.0 sc ready.1 e parts.0 here in
-        let is = calm_differ o (expression_kind env e) k r.0 oe r.1 (calm_if rule.Y10 (place e) (differ o (expression_kind env e)) parts.1) in
+        let is = calm_differ o (expression_kind env e) k r.0 oe r.1
+        (calm_if rule.Y10 (place e) (differ o (expression_kind env e)) parts.1) in
         (r.4 q, ap (sort p) (r.3 ∙ sym is) ∙ ord)
 
     -- an expression whose type a rule wants to be ordinal
-    ranged : (r : Rule) (env : Env) (sc : List Scope) → Ready env sc → (e : n.Expression) → together (expression_sites [] together listed env e) (listed (unless r (place e) (ordinal env) (expression_kind env e))) ≡ [] → InExpression p m sc e
-        → (k : ℕ) × (expression_kind env e ≡ Some k) × (is_ordinal (slice_get p.kinds k) ≡ true) × Ordinal_ sc (bare_expression (checked_expression env e))
+    ranged : (r : Rule) (env : Env) (sc : List Scope) → Ready env sc → (e : n.Expression)
+        → together (expression_sites [] together listed env e)
+        (listed (unless r (place e) (ordinal env) (expression_kind env e))) ≡ [] → InExpression p m sc e
+        → (k : ℕ) × (expression_kind env e ≡ Some k) × (is_ordinal (slice_get p.kinds k) ≡ true)
+        × Ordinal_ sc (bare_expression (checked_expression env e))
     ranged rl env sc ready e calm here =
-        let parts = calm_at (expression_sites [] together listed env e) (unless rl (place e) (ordinal env) (expression_kind env e)) calm in
+        let parts = calm_at (expression_sites [] together listed env e)
+        (unless rl (place e) (ordinal env) (expression_kind env e)) calm in
         let r = expression_fine p m moves shares hush env ready.0 sc ready.1 e parts.0 here in
         let ord = calm_unless rl (place e) (ordinal env) (expression_kind env e) r.0 r.1 parts.1 in
         let is = subst (λ ks. is_ordinal (slice_get ks r.0) ≡ true) ready.0.kinds ord in
@@ -237,113 +326,212 @@ module _ (p : Program) (m : ℕ) where
 
     -- the calls of standard procedures (open: `performs`)
     abbrev pub Performs : Type 0
-    Performs = (free : Bool) (env : Env) (sc : List Scope) (at : Place) (f : StandardProcedure) (args : n.Arguments) → Ready env sc → w.perform_sites [] together listed env f args ≡ [] → InStatementForm p m sc (n.Perform f args)
-        → Quiet free sc (In_stmt (bare_statement_form (checked_statement_form env at (n.Perform f args)))) → Done free sc (bare_statement_form (checked_statement_form env at (n.Perform f args)))
+    Performs = (free : Bool) (env : Env) (sc : List Scope) (at : Place) (f : StandardProcedure) (args : n.Arguments)
+        → Ready env sc → w.perform_sites [] together listed env f args ≡ [] → InStatementForm p m sc (n.Perform f args)
+        → Quiet free sc (In_stmt (bare_statement_form (checked_statement_form env at (n.Perform f args))))
+        → Done free sc (bare_statement_form (checked_statement_form env at (n.Perform f args)))
 
     module _ (performs : Performs) (free : Bool) where
       abbrev pub Fine : Env → Env → List Scope → Stmt → Type 0
       Fine env later sc s = Grown env later × Done free sc s
 
       mutual
-        pub statement_fine : (env : Env) (sc : List Scope) (s : n.Statement) → Ready env sc → w.statement_sites [] together listed env s ≡ [] → InStatement p m sc s → IsTyped p env s → Quiet free sc (In_stmt (bare_statement (checked_statement env s)))
+        pub statement_fine : (env : Env) (sc : List Scope) (s : n.Statement) → Ready env sc
+            → w.statement_sites [] together listed env s ≡ [] → InStatement p m sc s → IsTyped p env s
+            → Quiet free sc (In_stmt (bare_statement (checked_statement env s)))
             → Fine env (statement_after env s) sc (bare_statement (checked_statement env s))
         statement_fine env sc (n.Does at form) ready calm here typed quiet =
             let up = by_count env ready.0 in
-            let r = statement_form_fine (counted env) sc at form (ready_after env (counted env) sc ready up) calm here typed quiet in
+            let r = statement_form_fine (counted env) sc at form (ready_after env (counted env) sc ready up) calm here
+            typed quiet in
             (then_ env (counted env) (form_after (counted env) form) up r.0, r.1)
 
-        pub statement_form_fine : (env : Env) (sc : List Scope) (at : Place) (form : n.Form) → Ready env sc → w.statement_form_sites [] together listed env form ≡ [] → InStatementForm p m sc form → IsTypedForm p env form
-            → Quiet free sc (In_stmt (bare_statement_form (checked_statement_form env at form))) → Fine env (form_after env form) sc (bare_statement_form (checked_statement_form env at form))
+        pub statement_form_fine : (env : Env) (sc : List Scope) (at : Place) (form : n.Form) → Ready env sc
+            → w.statement_form_sites [] together listed env form ≡ [] → InStatementForm p m sc form
+            → IsTypedForm p env form
+            → Quiet free sc (In_stmt (bare_statement_form (checked_statement_form env at form)))
+            → Fine env (form_after env form) sc (bare_statement_form (checked_statement_form env at form))
         statement_form_fine env sc at n.Empty ready calm here typed quiet = (same env ready.0, λ q. tt)
-        statement_form_fine env sc at (n.Assign (n.Entire x name ss) (n.At eat form)) ready calm (seen, aimed, in_ss, in_e) typed quiet =
-            let parts = calm_parts (variable_sites [] together listed env (n.Entire x name ss)) (together (form_sites [] together listed env eat form) (listed (assign_rule eat (selected env (n.Entire x name ss)) (form_kind env form)))) calm in
-            let one = calm_at (form_sites [] together listed env eat form) (assign_rule eat (selected env (n.Entire x name ss)) (form_kind env form)) parts.1 in
-            let rv = variable_fine p m moves shares hush env ready.0 sc ready.1 (n.Entire x name ss) parts.0 (seen, in_ss) in
+        statement_form_fine env sc at (n.Assign (n.Entire x name ss) (n.At eat form)) ready calm
+            (seen, aimed, in_ss, in_e) typed quiet =
+            let parts = calm_parts (variable_sites [] together listed env (n.Entire x name ss))
+            (together (form_sites [] together listed env eat form)
+            (listed (assign_rule eat (selected env (n.Entire x name ss)) (form_kind env form)))) calm in
+            let one = calm_at (form_sites [] together listed env eat form)
+            (assign_rule eat (selected env (n.Entire x name ss)) (form_kind env form)) parts.1 in
+            let rv = variable_fine p m moves shares hush env ready.0 sc ready.1 (n.Entire x name ss) parts.0
+            (seen, in_ss) in
             let re = form_fine p m moves shares hush env ready.0 sc ready.1 eat form one.0 in_e in
-            let is = calm_differ (selected env (n.Entire x name ss)) (form_kind env form) rv.0 re.0 rv.1 re.1 (calm_if rule.Y5 eat (differ (selected env (n.Entire x name ss)) (form_kind env form)) one.1) in
+            let is = calm_differ (selected env (n.Entire x name ss)) (form_kind env form) rv.0 re.0 rv.1 re.1
+            (calm_if rule.Y5 eat (differ (selected env (n.Entire x name ss)) (form_kind env form)) one.1) in
             let v = bare_variable (checked_variable env (n.Entire x name ss)) in (
               same env ready.0,
-              λ q. subst (λ z. StandsAt p moves shares AnyInstr AnyTable AnyText hush free sc q (plain.Assign v (plain.Typed z (bare_form (checked_form env form))))) (sym (ap or_zero re.1))
-                  (subst (λ z. PlaceAt p moves shares AnyInstr AnyTable AnyText hush sc q v z) is (rv.3 q), aimed, right_at sc (after_var q v) re.0 (sort p re.0) (bare_form (checked_form env form)) refl re.2 (re.3 (after_var q v))),
+              λ q. subst (λ z. StandsAt p moves shares AnyInstr AnyTable AnyText hush free sc q
+                  (plain.Assign v (plain.Typed z (bare_form (checked_form env form))))) (sym (ap or_zero re.1)) (
+                    subst (λ z. PlaceAt p moves shares AnyInstr AnyTable AnyText hush sc q v z) is (rv.3 q),
+                    aimed,
+                    right_at sc (after_var q v) re.0 (sort p re.0) (bare_form (checked_form env form)) refl re.2
+                        (re.3 (after_var q v)),
+                  ),
             )
         statement_form_fine env sc at (n.Call f args) ready calm (b, call, none, acts) typed quiet =
             let formals : formals_of env f ≡ b.formals = ap formals_in (ready.0.blocks f b call.1) in
-            let passes = actuals_fine p m moves shares hush env ready.0 sc ready.1 b.formals args (subst (λ z. actuals_sites [] together listed env z args ≡ []) formals calm) (ready.0.formals f b call.1) acts in
+            let passes = actuals_fine p m moves shares hush env ready.0 sc ready.1 b.formals args
+            (subst (λ z. actuals_sites [] together listed env z args ≡ []) formals calm)
+            (ready.0.formals f b call.1) acts in
             let args_ = bare_actuals (of_.actuals (checked_actuals env (formals_of env f) args)) in (
               same env ready.0,
               λ q. (
                 b,
-                subst (λ z. ActualsAt p moves shares AnyInstr AnyTable AnyText hush sc q (bare_actuals (of_.actuals (checked_actuals env z args))) b.formals) (sym formals) (passes q),
+                subst (λ z. ActualsAt p moves shares AnyInstr AnyTable AnyText hush sc q
+                    (bare_actuals (of_.actuals (checked_actuals env z args))) b.formals) (sym formals) (passes q),
                 call_at p m moves shares hush env ready.0 sc ready.1 f b call (after_actuals q args_),
                 none,
                 hushed free sc (In_stmt (plain.Call f args_)) f args_ quiet (inl refl),
               ),
             )
-        statement_form_fine env sc at (n.Perform f args) ready calm here typed quiet = ((knows_by env ready.0 (parts_count (single_count f args)), λ y v at e. e), performs free env sc at f args ready calm here quiet)
-        statement_form_fine env sc at (n.Sequence ss) ready calm here typed quiet = statements_fine env sc ss ready calm here typed quiet
+        statement_form_fine env sc at (n.Perform f args) ready calm here typed quiet = (
+          (knows_by env ready.0 (parts_count (single_count f args)), λ y v at e. e),
+          performs free env sc at f args ready calm here quiet,
+        )
+        statement_form_fine env sc at (n.Sequence ss) ready calm here typed quiet =
+            statements_fine env sc ss ready calm here typed quiet
         statement_form_fine env sc at (n.If e a n.NoElse) ready calm (in_e, in_a, in_o) (ta, to) quiet =
-            let parts = calm_parts (w.condition_sites [] together listed env e) (together (w.statement_sites [] together listed env a) []) calm in
+            let parts = calm_parts (w.condition_sites [] together listed env e)
+            (together (w.statement_sites [] together listed env a) []) calm in
             let two = calm_parts (w.statement_sites [] together listed env a) [] parts.1 in
             let c1 = condition env sc ready e parts.0 in_e in
-            let ra = statement_fine env sc a ready two.0 in_a ta (within free sc (In_stmt (plain.If (bare_expression (checked_expression env e)) (bare_statement (checked_statement env a)))) (In_stmt (bare_statement (checked_statement env a))) (λ u h. inr h) quiet) in
+            let ra = statement_fine env sc a ready two.0 in_a ta
+            (within free sc (In_stmt (plain.If (bare_expression (checked_expression env e))
+            (bare_statement (checked_statement env a)))) (In_stmt (bare_statement (checked_statement env a)))
+            (λ u h. inr h) quiet) in
             (ra.0, λ q. (c1 q, tt, ra.1 (after_value q (bare_expression (checked_expression env e)) + 1)))
         statement_form_fine env sc at (n.If e a (n.Else b)) ready calm (in_e, in_a, in_o) (ta, to) quiet =
-            let parts = calm_parts (w.condition_sites [] together listed env e) (together (w.statement_sites [] together listed env a) (w.statement_sites [] together listed (statement_after env a) b)) calm in
-            let two = calm_parts (w.statement_sites [] together listed env a) (w.statement_sites [] together listed (statement_after env a) b) parts.1 in
+            let parts = calm_parts (w.condition_sites [] together listed env e)
+            (together (w.statement_sites [] together listed env a)
+            (w.statement_sites [] together listed (statement_after env a) b)) calm in
+            let two = calm_parts (w.statement_sites [] together listed env a)
+            (w.statement_sites [] together listed (statement_after env a) b) parts.1 in
             let c1 = condition env sc ready e parts.0 in_e in
             let e_ = bare_expression (checked_expression env e) in
             let a_ = bare_statement (checked_statement env a) in
             let b_ = bare_statement (checked_statement (statement_after env a) b) in
-            let ra = statement_fine env sc a ready two.0 in_a ta (within free sc (In_stmt (plain.IfElse e_ a_ b_)) (In_stmt a_) (λ u h. inr (inl h)) quiet) in
-            let rb = statement_fine (statement_after env a) sc b (ready_after env (statement_after env a) sc ready ra.0) two.1 in_o to (within free sc (In_stmt (plain.IfElse e_ a_ b_)) (In_stmt b_) (λ u h. inr (inr h)) quiet) in
-            (then_ env (statement_after env a) (statement_after (statement_after env a) b) ra.0 rb.0, λ q. (c1 q, tt, ra.1 (after_value q e_ + 1), tt, rb.1 (after p (after_value q e_ + 1) a_ + 1)))
+            let ra = statement_fine env sc a ready two.0 in_a ta
+            (within free sc (In_stmt (plain.IfElse e_ a_ b_)) (In_stmt a_) (λ u h. inr (inl h)) quiet) in
+            let rb = statement_fine (statement_after env a) sc b (ready_after env (statement_after env a) sc ready ra.0)
+            two.1 in_o to (within free sc (In_stmt (plain.IfElse e_ a_ b_)) (In_stmt b_) (λ u h. inr (inr h))
+            quiet) in (
+              then_ env (statement_after env a) (statement_after (statement_after env a) b) ra.0 rb.0,
+              λ q. (c1 q, tt, ra.1 (after_value q e_ + 1), tt, rb.1 (after p (after_value q e_ + 1) a_ + 1)),
+            )
         statement_form_fine env sc at (n.While e a) ready calm (in_e, in_a) typed quiet =
-            let parts = calm_parts (w.condition_sites [] together listed env e) (w.statement_sites [] together listed env a) calm in
+            let parts = calm_parts (w.condition_sites [] together listed env e)
+            (w.statement_sites [] together listed env a) calm in
             let c1 = condition env sc ready e parts.0 in_e in
             let e_ = bare_expression (checked_expression env e) in
             let a_ = bare_statement (checked_statement env a) in
-            let ra = statement_fine env sc a ready parts.1 in_a typed (within free sc (In_stmt (plain.While e_ a_)) (In_stmt a_) (λ u h. inr h) quiet) in
+            let ra = statement_fine env sc a ready parts.1 in_a typed
+            (within free sc (In_stmt (plain.While e_ a_)) (In_stmt a_) (λ u h. inr h) quiet) in
             (ra.0, λ q. (c1 q, tt, tt, ra.1 (after_value q e_ + 1 + 1), tt))
         statement_form_fine env sc at (n.Repeat ss e) ready calm (in_ss, in_e) typed quiet =
-            let parts = calm_parts (w.statements_sites [] together listed (counted env) ss) (w.condition_sites [] together listed (statements_after (counted env) ss) e) calm in
+            let parts = calm_parts (w.statements_sites [] together listed (counted env) ss)
+            (w.condition_sites [] together listed (statements_after (counted env) ss) e) calm in
             let up = by_count env ready.0 in
             let e_ = bare_expression (checked_expression (statements_after (counted env) ss) e) in
             let a_ = bare_statement (in_sequence env.next (first_place at ss) (checked_statements (counted env) ss)) in
-            let ra = statements_fine (counted env) sc ss (ready_after env (counted env) sc ready up) parts.0 in_ss typed (within free sc (In_stmt (plain.Repeat a_ e_)) (In_stmt a_) (λ u h. inr h) quiet) in
+            let ra = statements_fine (counted env) sc ss (ready_after env (counted env) sc ready up) parts.0 in_ss typed
+            (within free sc (In_stmt (plain.Repeat a_ e_)) (In_stmt a_) (λ u h. inr h) quiet) in
             let later = then_ env (counted env) (statements_after (counted env) ss) up ra.0 in
-            let c1 = condition (statements_after (counted env) ss) sc (ready_after env (statements_after (counted env) ss) sc ready later) e parts.1 in_e in
+            let c1 = condition (statements_after (counted env) ss) sc
+            (ready_after env (statements_after (counted env) ss) sc ready later) e parts.1 in_e in
             (later, λ q. (tt, ra.1 (q + 1), c1 (after p (q + 1) a_), tt))
         statement_form_fine env sc at (n.Case e arms) ready calm (in_e, in_arms) typed quiet =
-            let parts = calm_parts (together (expression_sites [] together listed env e) (listed (selector_rule env (place e) (expression_kind env e)))) (together (w.lists_sites [] together listed env (expression_kind env e) [] (w.constant_lists arms)) (w.arms_sites [] together listed env arms)) calm in
-            let two = calm_parts (w.lists_sites [] together listed env (expression_kind env e) [] (w.constant_lists arms)) (w.arms_sites [] together listed env arms) parts.1 in
+            let parts = calm_parts (together (expression_sites [] together listed env e)
+            (listed (selector_rule env (place e) (expression_kind env e))))
+            (together (w.lists_sites [] together listed env (expression_kind env e) [] (w.constant_lists arms))
+            (w.arms_sites [] together listed env arms)) calm in
+            let two = calm_parts (w.lists_sites [] together listed env (expression_kind env e) []
+            (w.constant_lists arms)) (w.arms_sites [] together listed env arms) parts.1 in
             let c1 = ranged rule.Y11 env sc ready e parts.0 in_e in
             let e_ = bare_expression (checked_expression env e) in
             let arms_ = bare_arms (of_.arms (checked_arms env arms)) in
-            let ra = arms_fine env sc arms ready two.1 in_arms typed (within free sc (In_stmt (plain.Case e_ arms_)) (In_arms arms_) (λ u h. inr h) quiet) in
-            (ra.0, λ q. (c1.3 q, tests_at (after_value q e_) arms_ (after_tests (after_value q e_) arms_ + 1), tt, ra.1 (after_tests (after_value q e_) arms_ + 1) (after_arms p (after_tests (after_value q e_) arms_ + 1) arms_)))
-        statement_form_fine env sc at (n.For x name from down to a) ready calm ((v, vat, vr, vl), in_from, in_to, in_a) typed quiet =
+            let ra = arms_fine env sc arms ready two.1 in_arms typed
+            (within free sc (In_stmt (plain.Case e_ arms_)) (In_arms arms_) (λ u h. inr h) quiet) in (
+              ra.0,
+              λ q. (
+                c1.3 q,
+                tests_at (after_value q e_) arms_ (after_tests (after_value q e_) arms_ + 1),
+                tt,
+                ra.1 (after_tests (after_value q e_) arms_ + 1)
+                    (after_arms p (after_tests (after_value q e_) arms_ + 1) arms_),
+              ),
+            )
+        statement_form_fine env sc at (n.For x name from down to a) ready calm ((v, vat, vr, vl), in_from, in_to, in_a)
+            typed quiet =
             let known = ready.0.variables x v vat (subst NoIndex (sym vr) tt) in
-            let parts = calm_parts (listed (range_rule env name (variable_kind env x))) (together (w.limit_sites [] together listed env (variable_kind env x) from) (together (w.limit_sites [] together listed env (variable_kind env x) to) (w.statement_sites [] together listed env a))) calm in
-            let two = calm_parts (w.limit_sites [] together listed env (variable_kind env x) from) (together (w.limit_sites [] together listed env (variable_kind env x) to) (w.statement_sites [] together listed env a)) parts.1 in
-            let three = calm_parts (w.limit_sites [] together listed env (variable_kind env x) to) (w.statement_sites [] together listed env a) two.1 in
-            let ord = calm_unless rule.Y10 name (ordinal env) (variable_kind env x) v.kind known.0 (calm_site (range_rule env name (variable_kind env x)) parts.0) in
+            let parts = calm_parts (listed (range_rule env name (variable_kind env x)))
+            (together (w.limit_sites [] together listed env (variable_kind env x) from)
+            (together (w.limit_sites [] together listed env (variable_kind env x) to)
+            (w.statement_sites [] together listed env a))) calm in
+            let two = calm_parts (w.limit_sites [] together listed env (variable_kind env x) from)
+            (together (w.limit_sites [] together listed env (variable_kind env x) to)
+            (w.statement_sites [] together listed env a)) parts.1 in
+            let three = calm_parts (w.limit_sites [] together listed env (variable_kind env x) to)
+            (w.statement_sites [] together listed env a) two.1 in
+            let ord = calm_unless rule.Y10 name (ordinal env) (variable_kind env x) v.kind known.0
+            (calm_site (range_rule env name (variable_kind env x)) parts.0) in
             let sorted = ordinal_is p m moves shares hush env ready.0 sc ready.1 v.kind ord in
             let l1 = limit env sc ready (variable_kind env x) v.kind known.0 sorted from two.0 in_from in
             let l2 = limit env sc ready (variable_kind env x) v.kind known.0 sorted to three.0 in_to in
             let f_ = bare_expression (checked_expression env from) in
             let t_ = bare_expression (checked_expression env to) in
             let a_ = bare_statement (checked_statement env a) in
-            let ra = statement_fine env sc a ready three.1 in_a typed (within free sc (In_stmt (plain.For x f_ down t_ a_)) (In_stmt a_) (λ u h. inr (inr (inr h))) quiet) in
-            (ra.0, λ q. (l1 q, l2 (after_value q f_), ((v, vat, vr, for_level free sc (In_stmt (plain.For x f_ down t_ a_)) x v.block quiet (inl refl) vl, sorted), tt, tt, ra.1 (after_value (after_value q f_) t_ + 1 + 1), tt)))
+            let ra = statement_fine env sc a ready three.1 in_a typed
+            (within free sc (In_stmt (plain.For x f_ down t_ a_)) (In_stmt a_) (λ u h. inr (inr (inr h))) quiet) in (
+              ra.0,
+              λ q. (
+                l1 q,
+                l2 (after_value q f_),
+                (
+                  (
+                    v,
+                    vat,
+                    vr,
+                    for_level free sc (In_stmt (plain.For x f_ down t_ a_)) x v.block quiet (inl refl) vl,
+                    sorted,
+                  ),
+                  tt,
+                  tt,
+                  ra.1 (after_value (after_value q f_) t_ + 1 + 1),
+                  tt,
+                ),
+              ),
+            )
         statement_form_fine env sc at (n.Parallel bs) ready calm here typed quiet =
             let ss_ = bare_statements (of_.statements (checked_branches env at bs)) in
-            let rb = branches_fine env sc at bs ready calm here typed (within free sc (In_stmt (plain.Parallel ss_)) (In_stmts ss_) (λ u h. inr (inl h)) quiet) in
-            (rb.0, λ q. (0, tt, tt, tt, rb.1 (q + 1 + 1), free_is free sc (In_stmt (plain.Parallel ss_)) quiet (inr (inr refl))))
-        statement_form_fine env sc at (n.Forall x from to a) ready calm (is, in_from, in_to, in_a) (kinds, typed) quiet =
-            let parts = calm_parts (together (expression_sites [] together listed env from) (listed (range_rule env (place from) (expression_kind env from)))) (together (w.limit_sites [] together listed env (expression_kind env from) to) (w.statement_sites [] together listed (indexed env x (expression_kind env from)) a)) calm in
-            let two = calm_parts (w.limit_sites [] together listed env (expression_kind env from) to) (w.statement_sites [] together listed (indexed env x (expression_kind env from)) a) parts.1 in
+            let rb = branches_fine env sc at bs ready calm here typed
+            (within free sc (In_stmt (plain.Parallel ss_)) (In_stmts ss_) (λ u h. inr (inl h)) quiet) in (
+              rb.0,
+              λ q. (
+                0,
+                tt,
+                tt,
+                tt,
+                rb.1 (q + 1 + 1),
+                free_is free sc (In_stmt (plain.Parallel ss_)) quiet (inr (inr refl)),
+              ),
+            )
+        statement_form_fine env sc at (n.Forall x from to a) ready calm (is, in_from, in_to, in_a) (kinds, typed)
+            quiet =
+            let parts = calm_parts (together (expression_sites [] together listed env from)
+            (listed (range_rule env (place from) (expression_kind env from))))
+            (together (w.limit_sites [] together listed env (expression_kind env from) to)
+            (w.statement_sites [] together listed (indexed env x (expression_kind env from)) a)) calm in
+            let two = calm_parts (w.limit_sites [] together listed env (expression_kind env from) to)
+            (w.statement_sites [] together listed (indexed env x (expression_kind env from)) a) parts.1 in
             let c1 = ranged rule.Y10 env sc ready from parts.0 in_from in
-            let l2 = limit env sc ready (expression_kind env from) c1.0 c1.1 (ordinal_sort (slice_get p.kinds c1.0) c1.2) to two.0 in_to in
+            let l2 = limit env sc ready (expression_kind env from) c1.0 c1.1
+            (ordinal_sort (slice_get p.kinds c1.0) c1.2) to two.0 in_to in
             let inner = indexed env x (expression_kind env from) in
             let is_kind = λ (v : Variable) (vat : slice_get p.variables x ≡ Some v). kinds v vat c1.0 c1.1 in
             let up = by_index env x c1.0 (expression_kind env from) c1.1 is is_kind ready.0 in
@@ -351,43 +539,89 @@ module _ (p : Program) (m : ℕ) where
             let t_ = bare_expression (checked_expression env to) in
             let a_ = bare_statement (checked_statement inner a) in
             let all_ = In_stmt (plain.Forall x f_ t_ a_) in
-            let ra = statement_fine inner (OfIndex x ∷ sc) a (up.0, more_indices env x c1.0 sc (expression_kind env from) ready.0 c1.1 c1.2 is_kind ready.1) two.1 in_a typed
-            (forall_part free sc x f_ t_ a_ quiet) in
-            (then_ env inner (statement_after inner a) up ra.0, λ q. (0, tt, c1.3 q, l2 (after_value q f_), tt, tt, ra.1 (after_value (after_value q f_) t_ + 1 + 1), tt, free_is free sc all_ quiet (inr (inr (inr (inr refl))))))
-        statement_form_fine env sc at (n.Assume e) ready calm here typed quiet = let c1 = condition env sc ready e calm here in (same env ready.0, λ q. (c1 q, tt))
+            let ra = statement_fine inner (OfIndex x ∷ sc) a
+            (up.0, more_indices env x c1.0 sc (expression_kind env from) ready.0 c1.1 c1.2 is_kind ready.1) two.1
+            in_a typed
+            (forall_part free sc x f_ t_ a_ quiet) in (
+              then_ env inner (statement_after inner a) up ra.0,
+              λ q. (
+                0,
+                tt,
+                c1.3 q,
+                l2 (after_value q f_),
+                tt,
+                tt,
+                ra.1 (after_value (after_value q f_) t_ + 1 + 1),
+                tt,
+                free_is free sc all_ quiet (inr (inr (inr (inr refl)))),
+              ),
+            )
+        statement_form_fine env sc at (n.Assume e) ready calm here typed quiet = let c1 =
+            condition env sc ready e calm here in (same env ready.0, λ q. (c1 q, tt))
 
-        pub statements_fine : (env : Env) (sc : List Scope) (ss : n.Statements) → Ready env sc → w.statements_sites [] together listed env ss ≡ [] → InStatements p m sc ss → AreTyped p env ss → Quiet free sc (In_stmts (bare_statements (of_.statements (checked_statements env ss))))
-            → Grown env (statements_after env ss) × ((q : ℕ) → AllAt p moves shares AnyInstr AnyTable AnyText hush free sc q (bare_statements (of_.statements (checked_statements env ss))))
+        pub statements_fine : (env : Env) (sc : List Scope) (ss : n.Statements) → Ready env sc
+            → w.statements_sites [] together listed env ss ≡ [] → InStatements p m sc ss → AreTyped p env ss
+            → Quiet free sc (In_stmts (bare_statements (of_.statements (checked_statements env ss))))
+            → Grown env (statements_after env ss)
+            × ((q : ℕ) → AllAt p moves shares AnyInstr AnyTable AnyText hush free sc q
+            (bare_statements (of_.statements (checked_statements env ss))))
         statements_fine env sc n.NoStatement ready calm here typed quiet = (same env ready.0, λ q. tt)
         statements_fine env sc (n.AndThen a rest) ready calm (in_a, in_rest) (ta, trest) quiet =
-            let parts = calm_parts (w.statement_sites [] together listed env a) (w.statements_sites [] together listed (statement_after env a) rest) calm in
+            let parts = calm_parts (w.statement_sites [] together listed env a)
+            (w.statements_sites [] together listed (statement_after env a) rest) calm in
             let a_ = bare_statement (checked_statement env a) in
             let rest_ = bare_statements (of_.statements (checked_statements (statement_after env a) rest)) in
-            let ra = statement_fine env sc a ready parts.0 in_a ta (within free sc (In_stmts (plain.And a_ rest_)) (In_stmt a_) (λ u h. inl h) quiet) in
-            let rb = statements_fine (statement_after env a) sc rest (ready_after env (statement_after env a) sc ready ra.0) parts.1 in_rest trest (within free sc (In_stmts (plain.And a_ rest_)) (In_stmts rest_) (λ u h. inr h) quiet) in
-            (then_ env (statement_after env a) (statements_after (statement_after env a) rest) ra.0 rb.0, λ q. (ra.1 q, rb.1 (after p q a_)))
+            let ra = statement_fine env sc a ready parts.0 in_a ta
+            (within free sc (In_stmts (plain.And a_ rest_)) (In_stmt a_) (λ u h. inl h) quiet) in
+            let rb = statements_fine (statement_after env a) sc rest
+            (ready_after env (statement_after env a) sc ready ra.0) parts.1 in_rest trest
+            (within free sc (In_stmts (plain.And a_ rest_)) (In_stmts rest_) (λ u h. inr h) quiet) in (
+              then_ env (statement_after env a) (statements_after (statement_after env a) rest) ra.0 rb.0,
+              λ q. (ra.1 q, rb.1 (after p q a_)),
+            )
 
-        pub arms_fine : (env : Env) (sc : List Scope) (arms : n.Arms) → Ready env sc → w.arms_sites [] together listed env arms ≡ [] → InArms p m sc arms → AreTypedArms p env arms → Quiet free sc (In_arms (bare_arms (of_.arms (checked_arms env arms))))
-            → Grown env (arms_after env arms) × ((q end : ℕ) → ArmsAt p moves shares AnyInstr AnyTable AnyText hush free sc q (bare_arms (of_.arms (checked_arms env arms))) end)
+        pub arms_fine : (env : Env) (sc : List Scope) (arms : n.Arms) → Ready env sc
+            → w.arms_sites [] together listed env arms ≡ [] → InArms p m sc arms → AreTypedArms p env arms
+            → Quiet free sc (In_arms (bare_arms (of_.arms (checked_arms env arms))))
+            → Grown env (arms_after env arms)
+            × ((q end : ℕ) → ArmsAt p moves shares AnyInstr AnyTable AnyText hush free sc q
+            (bare_arms (of_.arms (checked_arms env arms))) end)
         arms_fine env sc n.NoArm ready calm here typed quiet = (same env ready.0, λ q end. tt)
         arms_fine env sc (n.Or (n.On cs a) rest) ready calm (in_a, in_rest) (ta, trest) quiet =
-            let parts = calm_parts (w.statement_sites [] together listed env a) (w.arms_sites [] together listed (statement_after env a) rest) calm in
+            let parts = calm_parts (w.statement_sites [] together listed env a)
+            (w.arms_sites [] together listed (statement_after env a) rest) calm in
             let a_ = bare_statement (checked_statement env a) in
             let rest_ = bare_arms (of_.arms (checked_arms (statement_after env a) rest)) in
             let all_ = In_arms (plain.Or (plain.On (constant_numbers env cs) a_) rest_) in
-            let ra = statement_fine env sc a ready parts.0 in_a ta (within free sc all_ (In_stmt a_) (λ u h. inl h) quiet) in
-            let rb = arms_fine (statement_after env a) sc rest (ready_after env (statement_after env a) sc ready ra.0) parts.1 in_rest trest (within free sc all_ (In_arms rest_) (λ u h. inr h) quiet) in
-            (then_ env (statement_after env a) (arms_after (statement_after env a) rest) ra.0 rb.0, λ q end. (ra.1 q, tt, rb.1 (after p q a_ + 1) end))
+            let ra = statement_fine env sc a ready parts.0 in_a ta
+            (within free sc all_ (In_stmt a_) (λ u h. inl h) quiet) in
+            let rb = arms_fine (statement_after env a) sc rest (ready_after env (statement_after env a) sc ready ra.0)
+            parts.1 in_rest trest (within free sc all_ (In_arms rest_) (λ u h. inr h) quiet) in (
+              then_ env (statement_after env a) (arms_after (statement_after env a) rest) ra.0 rb.0,
+              λ q end. (ra.1 q, tt, rb.1 (after p q a_ + 1) end),
+            )
 
-        pub branches_fine : (env : Env) (sc : List Scope) (at : Place) (bs : n.Branches) → Ready env sc → w.branches_sites [] together listed env bs ≡ [] → InBranches p m sc bs → AreTypedBranches p env bs → Quiet free sc (In_stmts (bare_statements (of_.statements (checked_branches env at bs))))
-            → Grown env (branches_after env bs) × ((q : ℕ) → ChildrenAt p moves shares AnyInstr AnyTable AnyText hush free sc q (bare_statements (of_.statements (checked_branches env at bs))))
+        pub branches_fine : (env : Env) (sc : List Scope) (at : Place) (bs : n.Branches) → Ready env sc
+            → w.branches_sites [] together listed env bs ≡ [] → InBranches p m sc bs → AreTypedBranches p env bs
+            → Quiet free sc (In_stmts (bare_statements (of_.statements (checked_branches env at bs))))
+            → Grown env (branches_after env bs)
+            × ((q : ℕ) → ChildrenAt p moves shares AnyInstr AnyTable AnyText hush free sc q
+            (bare_statements (of_.statements (checked_branches env at bs))))
         branches_fine env sc at n.NoBranch ready calm here typed quiet = (same env ready.0, λ q. tt)
         branches_fine env sc at (n.Beside ss rest) ready calm (in_ss, in_rest) (ts, trest) quiet =
-            let parts = calm_parts (w.statements_sites [] together listed (counted env) ss) (w.branches_sites [] together listed (statements_after (counted env) ss) rest) calm in
+            let parts = calm_parts (w.statements_sites [] together listed (counted env) ss)
+            (w.branches_sites [] together listed (statements_after (counted env) ss) rest) calm in
             let up = by_count env ready.0 in
             let a_ = bare_statement (in_sequence env.next (first_place at ss) (checked_statements (counted env) ss)) in
-            let rest_ = bare_statements (of_.statements (checked_branches (statements_after (counted env) ss) at rest)) in
-            let ra = statements_fine (counted env) sc ss (ready_after env (counted env) sc ready up) parts.0 in_ss ts (within free sc (In_stmts (plain.And a_ rest_)) (In_stmt a_) (λ u h. inl h) quiet) in
+            let rest_ = bare_statements (of_.statements
+            (checked_branches (statements_after (counted env) ss) at rest)) in
+            let ra = statements_fine (counted env) sc ss (ready_after env (counted env) sc ready up) parts.0 in_ss ts
+            (within free sc (In_stmts (plain.And a_ rest_)) (In_stmt a_) (λ u h. inl h) quiet) in
             let later = then_ env (counted env) (statements_after (counted env) ss) up ra.0 in
-            let rb = branches_fine (statements_after (counted env) ss) sc at rest (ready_after env (statements_after (counted env) ss) sc ready later) parts.1 in_rest trest (within free sc (In_stmts (plain.And a_ rest_)) (In_stmts rest_) (λ u h. inr h) quiet) in
-            (then_ env (statements_after (counted env) ss) (branches_after (statements_after (counted env) ss) rest) later rb.0, λ q. (ra.1 q, tt, rb.1 (after p q a_ + 1)))
+            let rb = branches_fine (statements_after (counted env) ss) sc at rest
+            (ready_after env (statements_after (counted env) ss) sc ready later) parts.1 in_rest trest
+            (within free sc (In_stmts (plain.And a_ rest_)) (In_stmts rest_) (λ u h. inr h) quiet) in (
+              then_ env (statements_after (counted env) ss) (branches_after (statements_after (counted env) ss) rest)
+                  later rb.0,
+              λ q. (ra.1 q, tt, rb.1 (after p q a_ + 1)),
+            )

@@ -1,5 +1,6 @@
 -- The tree of a text that breaks no rule is formed.
-use Rattle.std.proofs.Common.{◌≡◌, refl, sym, subst, ℕ, zero, suc, ◌≤◌, List, [], ◌∷◌, Option, Some, None, true, length, slice_get, arith}
+use Rattle.std.proofs.Common.{◌≡◌, refl, sym, subst, ℕ, zero, suc, ◌≤◌, List, [], ◌∷◌, Option, Some, None, true, length}
+use Rattle.std.proofs.Common.{slice_get, arith}
 use Rattle.sp_base.specs.declared.place.Place.{Place}
 use Rattle.sp_tree.specs.declared.checked.KindOf.{KindOf}
 use Rattle.sp_tree.specs.declared.checked.KindOf.TheVariants as kind
@@ -20,7 +21,8 @@ use Rattle.sp_tree.specs.Sites.{SplitsAt}
 use Rattle.sp_tree.specs.Formed.{AreBefore, IsFormedUse, IsFormed}
 use Rattle.sp_tree.proofs.NoBreach.{block_at}
 use Rattle.sp_types.specs.declared.tables.Ordinal.{Ordinal}
-use Rattle.sp_types.specs.Tables.{Env, entry, constant_kind, ordinal_kind, env_of, numbers_of, constants_of, type_of, type_number, types_of}
+use Rattle.sp_types.specs.Tables.{Env, entry, constant_kind, ordinal_kind, env_of, numbers_of, constants_of, type_of}
+use Rattle.sp_types.specs.Tables.{type_number, types_of}
 use Rattle.sp_types.specs.TypeRules.{is_ordinal}
 use Rattle.sp_types.specs.TypeFirst.{types_broken}
 use Rattle.sp_types.specs.TypeWalk.{starts_of, blocks_after}
@@ -73,12 +75,18 @@ module _ (s : syntax.Program) (calm : names_broken s ≡ []) (no_types : types_b
   constants_there : (i : ℕ) → IsThere (length p_.kinds) (constant_kind env_ i)
   constants_there i = go (constants_of n_) i (λ j l. (known s calm no_types given).0 j l)
     where
-      go : (cs : List (Option Ordinal)) (i : ℕ) → ((j : ℕ) → suc j ≤ length cs → (o : Ordinal) × (slice_get cs j ≡ Some (Some o)) × (is_ordinal (slice_get p_.kinds o.kind) ≡ true)) → IsThere (length p_.kinds) (ordinal_kind (entry (slice_get cs i)))
+      go : (cs : List (Option Ordinal)) (i : ℕ)
+          → ((j : ℕ) → suc j ≤ length cs → (o : Ordinal) × (slice_get cs j ≡ Some (Some o))
+          × (is_ordinal (slice_get p_.kinds o.kind) ≡ true))
+          → IsThere (length p_.kinds) (ordinal_kind (entry (slice_get cs i)))
       go [] i h = tt
-      go (x ∷ cs) zero h = let r = h 0 (omega arith) in subst (λ o. IsThere (length p_.kinds) (ordinal_kind (entry o))) (sym r.1) (ordinal_there p_.kinds r.0.kind r.2)
+      go (x ∷ cs) zero h = let r = h 0 (omega arith) in
+          subst (λ o. IsThere (length p_.kinds) (ordinal_kind (entry o))) (sym r.1)
+          (ordinal_there p_.kinds r.0.kind r.2)
       go (x ∷ cs) (suc i) h = go cs i (λ j l. h (suc j) (omega (arith, l)))
 
-  variables_there : (us : List checked.Variable) → HaveTypes (length n_.kinds) us → AreThere (length p_.kinds) (types_of (numbers_of n_) us)
+  variables_there : (us : List checked.Variable) → HaveTypes (length n_.kinds) us
+      → AreThere (length p_.kinds) (types_of (numbers_of n_) us)
   variables_there [] h = tt
   variables_there (u ∷ us) h = (by u.role, variables_there us h.1)
     where
@@ -101,14 +109,21 @@ module _ (s : syntax.Program) (calm : names_broken s ≡ []) (no_types : types_b
     standard = standard_there;
     constants = constants_there;
     variables = variables_there n_.variables (program_typed s calm);
-    elements = λ k low high index element e. (let a = (formed s calm no_types given k (kind.Array low high index element) e).0 in let b = within p_.kinds k (kind.Array low high index element) e in omega (arith, a, b));
-    fields = λ k fs e. (let b = within p_.kinds k (kind.Fields fs) e in before_more k (length p_.kinds) fs (omega (arith, b)) (formed s calm no_types given k (kind.Fields fs) e));
+    elements = λ k low high index element e.
+        (let a = (formed s calm no_types given k (kind.Array low high index element) e).0 in
+        let b = within p_.kinds k (kind.Array low high index element) e in omega (arith, a, b));
+    fields = λ k fs e. (let b = within p_.kinds k (kind.Fields fs) e in
+        before_more k (length p_.kinds) fs (omega (arith, b)) (formed s calm no_types given k (kind.Fields fs) e));
   }
 
   kinds : (x : ℕ) (v : plain.Variable) → slice_get p_.variables x ≡ Some v → suc v.kind ≤ length p_.kinds
-  kinds x v at = variable_there (length p_.kinds) (blocks_after env_ (starts_of n_.blocks) n_.blocks).variables n_.variables x v standard_there (blocks_tabled (length p_.kinds) env_ (starts_of n_.blocks) n_.blocks tabled).variables at
+  kinds x v at = variable_there (length p_.kinds) (blocks_after env_ (starts_of n_.blocks) n_.blocks).variables
+      n_.variables x v standard_there (blocks_tabled (length p_.kinds) env_ (starts_of n_.blocks) n_.blocks
+      tabled).variables at
 
-  module _ (filled : AreFilled n_.kinds) (split : BlocksHave AnyIndex IsSplit n_.blocks) (fine : (f : ℕ) (b : plain.Block) → slice_get p_.blocks f ≡ Some b → IsFine p_ (λ s. []) (λ s. []) (IsQuiet p_) f 0 b) where
+  module _ (filled : AreFilled n_.kinds) (split : BlocksHave AnyIndex IsSplit n_.blocks)
+      (fine : (f : ℕ) (b : plain.Block) → slice_get p_.blocks f ≡ Some b
+      → IsFine p_ (λ s. []) (λ s. []) (IsQuiet p_) f 0 b) where
     -- a parallel statement has a process statement
     abbrev HasProcess : Use → Type 0
     HasProcess (Target x) = Unit {0}
@@ -122,18 +137,23 @@ module _ (s : syntax.Program) (calm : names_broken s ≡ []) (no_types : types_b
     process c.NoStatement h e = h
     process (c.AndThen s rest) h e = cc e
 
-    branch : (env : Env) (at : Place) (bs : n.Branches) → IsSplit bs → HasPart (SplitsAt (of_.statements (checked_branches env at bs)))
+    branch : (env : Env) (at : Place) (bs : n.Branches) → IsSplit bs
+        → HasPart (SplitsAt (of_.statements (checked_branches env at bs)))
     branch env at n.NoBranch h = h
     branch env at (n.Beside ss rest) h = tt
 
-    has_process : (f : ℕ) (b : plain.Block) → slice_get p_.blocks f ≡ Some b → (u : Use) → In_stmt b.body u → HasProcess u
+    has_process : (f : ℕ) (b : plain.Block) → slice_get p_.blocks f ≡ Some b → (u : Use) → In_stmt b.body u
+        → HasProcess u
     has_process f b at u i =
         let m = block_at (program_checked n_).blocks f b at in
-        statement_kept HasPart HasProcess (λ x. tt) (λ x. tt) (λ g here args h. tt) process (λ here x s h. tt) (λ here h. tt) m.0.body u
-        (blocks_fit HasPart (λ g here args. tt) (λ x here s. tt) (λ here. tt) AnyIndex IsSplit (λ here x s h. tt) branch env_ (starts_of n_.blocks) n_.blocks split f m.0 m.1)
+        statement_kept HasPart HasProcess (λ x. tt) (λ x. tt) (λ g here args h. tt) process (λ here x s h. tt)
+        (λ here h. tt) m.0.body u
+        (blocks_fit HasPart (λ g here args. tt) (λ x here s. tt) (λ here. tt) AnyIndex IsSplit (λ here x s h. tt) branch
+        env_ (starts_of n_.blocks) n_.blocks split f m.0 m.1)
         (subst (λ (z : plain.Block). In_stmt z.body u) (sym m.2) i)
 
-    both : (u : Use) → IsGoodUse p_ (input s calm) (output s calm) (λ s. []) (λ s. []) (IsQuiet p_) u → HasProcess u → IsFormedUse p_ u
+    both : (u : Use) → IsGoodUse p_ (input s calm) (output s calm) (λ s. []) (λ s. []) (IsQuiet p_) u → HasProcess u
+        → IsFormedUse p_ u
     both (Target x) h k = h
     both (Seen x) h k = h
     both (CallOf f args) h k = tt
@@ -142,12 +162,16 @@ module _ (s : syntax.Program) (calm : names_broken s ≡ []) (no_types : types_b
     both Stop h k = tt
 
     uses : (f : ℕ) (b : plain.Block) → slice_get p_.blocks f ≡ Some b → (u : Use) → In_stmt b.body u → IsFormedUse p_ u
-    uses f b at u i = both u (stands_uses p_ (input s calm) (output s calm) (λ s. []) (λ s. []) (IsQuiet p_) (scopes_of p_ f) 0 b.body ((fine f b at).body true tt) u i) (has_process f b at u i)
+    uses f b at u i = both u (stands_uses p_ (input s calm) (output s calm) (λ s. []) (λ s. []) (IsQuiet p_)
+        (scopes_of p_ f) 0 b.body ((fine f b at).body true tt) u i) (has_process f b at u i)
 
     pub program_formed : IsFormed p_
     program_formed = record {
       arrays = λ k low high index element e. formed s calm no_types given k (kind.Array low high index element) e;
-      fields = λ k fs e. (formed s calm no_types given k (kind.Fields fs) e, record_filled (numbers_of n_) (constants_of n_) n_.kinds filled k fs e);
+      fields = λ k fs e. (
+        formed s calm no_types given k (kind.Fields fs) e,
+        record_filled (numbers_of n_) (constants_of n_) n_.kinds filled k fs e,
+      );
       formals = formals s calm;
       answers = answers s calm;
       kinds = kinds;

@@ -43,34 +43,43 @@ module _ (g : c.Program) (calm : KeepsInterference g) where
   IsQuietUse (ForallOf x s) = Unit {0}
   IsQuietUse Stop = ⊥
 
-  quiet_use : (f : ℕ) (k : c.Block) → slice_get g.blocks f ≡ Some k → IsFunction (bare g) f → (u : Use) → In_stmt (bare_statement k.body) u → IsQuietUse u
+  quiet_use : (f : ℕ) (k : c.Block) → slice_get g.blocks f ≡ Some k → IsFunction (bare g) f → (u : Use)
+      → In_stmt (bare_statement k.body) u → IsQuietUse u
   quiet_use f k at function u i =
-      statement_kept IsSilent IsQuietUse (λ x. tt) (λ x. tt) (λ b here args h leads. h here (refl, leads)) (λ ss h. tt) (λ here x s h. tt) (λ here h. h here refl) k.body u
-      (fit_each IsSilent (statement_sites k.body) (λ site s here h. calm rule.I9 here (f, k, at, function, site, s, h))) i
+      statement_kept IsSilent IsQuietUse (λ x. tt) (λ x. tt) (λ b here args h leads. h here (refl, leads)) (λ ss h. tt)
+      (λ here x s h. tt) (λ here h. h here refl) k.body u
+      (fit_each IsSilent (statement_sites k.body) (λ site s here h. calm rule.I9 here (f, k, at, function, site, s, h)))
+      i
 
   -- a function leads to no statement that it may not have
-  pub function_quiet : (f x : ℕ) (b : plain.Block) → slice_get (bare g).blocks f ≡ Some b → b.answer ≡ Some x → IsQuiet (bare g) f
+  pub function_quiet : (f x : ℕ) (b : plain.Block) → slice_get (bare g).blocks f ≡ Some b → b.answer ≡ Some x
+      → IsQuiet (bare g) f
   function_quiet f x b at ans (k, kat, [], r) =
       let m = block_at g.blocks f k kat in
       quiet_use f m.0 m.1 (b, x, at, ans) Stop (subst (λ (z : plain.Block). In_stmt z.body Stop) (sym m.2) r)
   function_quiet f x b at ans (k, kat, d ∷ ds, (args, h, next, nat, passes, r)) =
       let m = block_at g.blocks f k kat in
-      quiet_use f m.0 m.1 (b, x, at, ans) (CallOf d args) (subst (λ (z : plain.Block). In_stmt z.body (CallOf d args)) (sym m.2) h) (next, nat, ds, r)
+      quiet_use f m.0 m.1 (b, x, at, ans) (CallOf d args)
+      (subst (λ (z : plain.Block). In_stmt z.body (CallOf d args)) (sym m.2) h) (next, nat, ds, r)
 
-module _ (s : syntax.Program) (calm : names_broken s ≡ []) (kept : KeepsInterference (program_checked (program_named s))) where
+module _ (s : syntax.Program) (calm : names_broken s ≡ [])
+    (kept : KeepsInterference (program_checked (program_named s))) where
   abbrev g_ : c.Program
   g_ = program_checked (program_named s)
 
   abbrev n_ : n.Program
   n_ = program_named s
 
-  indices_fit : (f : ℕ) (b : c.Block) → slice_get g_.blocks f ≡ Some b → Each (HasIndex (bare g_)) (statement_sites b.body)
-  indices_fit f b at = blocks_fit (HasIndex (bare g_)) (λ f at args. tt) (λ x at s. tt) (λ at. tt) (IsIndexOf (bare g_)) AnyBranches (λ at x s h. h) (λ env at bs h. tt) (env_of n_) (starts_of n_.blocks) n_.blocks
+  indices_fit : (f : ℕ) (b : c.Block) → slice_get g_.blocks f ≡ Some b
+      → Each (HasIndex (bare g_)) (statement_sites b.body)
+  indices_fit f b at = blocks_fit (HasIndex (bare g_)) (λ f at args. tt) (λ x at s. tt) (λ at. tt) (IsIndexOf (bare g_))
+      AnyBranches (λ at x s h. h) (λ env at bs h. tt) (env_of n_) (starts_of n_.blocks) n_.blocks
       (blocks_have (bare g_) (length n_.constants) 0 n_.blocks (scoped s calm)) f b at
 
   pub program_free : IsFreeOfInterference (bare g_)
   program_free = record {
-    blocks = blocks_kept g_ kept (λ b k at site i. fit_at (HasIndex (bare g_)) (statement_sites k.body) site (indices_fit b k at) i);
+    blocks = blocks_kept g_ kept (λ b k at site i. fit_at (HasIndex (bare g_)) (statement_sites k.body) site
+        (indices_fit b k at) i);
     parents = λ b k q at e. parents s calm b q k at e;
     consoles = consoles s calm;
     answers = λ b k x at e. results s calm b k x at e;

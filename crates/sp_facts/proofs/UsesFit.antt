@@ -2,9 +2,13 @@
 use Rattle.std.proofs.Common.{◌≡◌, inl, inr, ℕ, List, [], ◌∷◌, ◌++◌, Option, Some, None, sym, subst}
 use Rattle.sp_base.specs.declared.place.Place.{Place}
 use Rattle.sp_tree.specs.PlainChecked as p
-use Rattle.sp_tree.specs.Bare.{bare_expression, bare_form, bare_variable, bare_selectors, bare_actuals, bare_width, bare_statement, bare_statements, bare_arms}
-use Rattle.sp_tree.specs.Uses.{Use, Target, Seen, CallOf, ParallelOf, ForallOf, Stop, In_expr, In_form, In_read, In_target, In_selectors, In_actuals, In_width, In_stmt, In_stmts, In_arms}
-use Rattle.sp_tree.specs.Sites.{Site, SplitsAt, SpreadsAt, CallsAt, StopsAt, expression_sites, form_sites, variable_sites, selectors_sites, actuals_sites, width_sites, statement_sites, statements_sites, arms_sites}
+use Rattle.sp_tree.specs.Bare.{bare_expression, bare_form, bare_variable, bare_selectors, bare_actuals, bare_width}
+use Rattle.sp_tree.specs.Bare.{bare_statement, bare_statements, bare_arms}
+use Rattle.sp_tree.specs.Uses.{Use, Target, Seen, CallOf, ParallelOf, ForallOf, Stop, In_expr, In_form, In_read}
+use Rattle.sp_tree.specs.Uses.{In_target, In_selectors, In_actuals, In_width, In_stmt, In_stmts, In_arms}
+use Rattle.sp_tree.specs.Sites.{Site, SplitsAt, SpreadsAt, CallsAt, StopsAt, expression_sites, form_sites}
+use Rattle.sp_tree.specs.Sites.{variable_sites, selectors_sites, actuals_sites, width_sites, statement_sites}
+use Rattle.sp_tree.specs.Sites.{statements_sites, arms_sites}
 use Rattle.sp_facts.specs.Each.{Each}
 
 fit_left : (Fits : Site → Type 0) (xs ys : List Site) → Each Fits (xs ++ ys) → Each Fits xs
@@ -15,18 +19,25 @@ fit_right : (Fits : Site → Type 0) (xs ys : List Site) → Each Fits (xs ++ ys
 fit_right Fits [] ys h = h
 fit_right Fits (x ∷ xs) ys h = fit_right Fits xs ys h.1
 
-module _ (Fits : Site → Type 0) (Fine : Use → Type 0) (aims : (x : ℕ) → Fine (Target x)) (sees : (x : ℕ) → Fine (Seen x)) (runs : (f : ℕ) (at : Place) (args : p.Actuals) → Fits (CallsAt f at args) → Fine (CallOf f (bare_actuals args)))
-    (splits : (ss : p.Statements) → Fits (SplitsAt ss) → Fine (ParallelOf (bare_statements ss))) (spreads : (at : Place) (x : ℕ) (s : p.Statement) → Fits (SpreadsAt at x s) → Fine (ForallOf x (bare_statement s))) (stops : (at : Place) → Fits (StopsAt at) → Fine Stop) where
+module _ (Fits : Site → Type 0) (Fine : Use → Type 0) (aims : (x : ℕ) → Fine (Target x))
+    (sees : (x : ℕ) → Fine (Seen x)) (runs : (f : ℕ) (at : Place) (args : p.Actuals) → Fits (CallsAt f at args)
+    → Fine (CallOf f (bare_actuals args)))
+    (splits : (ss : p.Statements) → Fits (SplitsAt ss) → Fine (ParallelOf (bare_statements ss)))
+    (spreads : (at : Place) (x : ℕ) (s : p.Statement) → Fits (SpreadsAt at x s)
+    → Fine (ForallOf x (bare_statement s))) (stops : (at : Place) → Fits (StopsAt at) → Fine Stop) where
   mutual
-    expression_kept : (e : p.Expression) (u : Use) → Each Fits (expression_sites e) → In_expr (bare_expression e) u → Fine u
+    expression_kept : (e : p.Expression) (u : Use) → Each Fits (expression_sites e) → In_expr (bare_expression e) u
+        → Fine u
     expression_kept (p.At at k form) u h i = form_kept form u h i
 
     form_kept : (e : p.ExpressionForm) (u : Use) → Each Fits (form_sites e) → In_form (bare_form e) u → Fine u
     form_kept (p.Number n) u h i = absurd i
     form_kept (p.Read v) u h i = read_kept v u h i
     form_kept (p.Unary op a) u h i = expression_kept a u h i
-    form_kept (p.Binary op a b) u h (inl i) = expression_kept a u (fit_left Fits (expression_sites a) (expression_sites b) h) i
-    form_kept (p.Binary op a b) u h (inr i) = expression_kept b u (fit_right Fits (expression_sites a) (expression_sites b) h) i
+    form_kept (p.Binary op a b) u h (inl i) =
+        expression_kept a u (fit_left Fits (expression_sites a) (expression_sites b) h) i
+    form_kept (p.Binary op a b) u h (inr i) =
+        expression_kept b u (fit_right Fits (expression_sites a) (expression_sites b) h) i
     form_kept (p.Apply f at args) u h (inl e) = subst Fine (sym e) (runs f at args h.0)
     form_kept (p.Apply f at args) u h (inr i) = actuals_kept args u h.1 i
     form_kept (p.Standard f p.NoExpression) u h e = subst Fine (sym e) (sees 0)
@@ -40,18 +51,26 @@ module _ (Fits : Site → Type 0) (Fine : Use → Type 0) (aims : (x : ℕ) → 
     target_kept (p.Entire x at ss) u h (inl e) = subst Fine (sym e) (aims x)
     target_kept (p.Entire x at ss) u h (inr i) = selectors_kept ss u h i
 
-    selectors_kept : (ss : p.Selectors) (u : Use) → Each Fits (selectors_sites ss) → In_selectors (bare_selectors ss) u → Fine u
+    selectors_kept : (ss : p.Selectors) (u : Use) → Each Fits (selectors_sites ss) → In_selectors (bare_selectors ss) u
+        → Fine u
     selectors_kept p.Whole u h i = absurd i
-    selectors_kept (p.Select (p.Index e) rest) u h (inl i) = expression_kept e u (fit_left Fits (expression_sites e) (selectors_sites rest) h) i
-    selectors_kept (p.Select (p.Index e) rest) u h (inr i) = selectors_kept rest u (fit_right Fits (expression_sites e) (selectors_sites rest) h) i
+    selectors_kept (p.Select (p.Index e) rest) u h (inl i) =
+        expression_kept e u (fit_left Fits (expression_sites e) (selectors_sites rest) h) i
+    selectors_kept (p.Select (p.Index e) rest) u h (inr i) =
+        selectors_kept rest u (fit_right Fits (expression_sites e) (selectors_sites rest) h) i
     selectors_kept (p.Select (p.Field f) rest) u h i = selectors_kept rest u h i
 
-    actuals_kept : (args : p.Actuals) (u : Use) → Each Fits (actuals_sites args) → In_actuals (bare_actuals args) u → Fine u
+    actuals_kept : (args : p.Actuals) (u : Use) → Each Fits (actuals_sites args) → In_actuals (bare_actuals args) u
+        → Fine u
     actuals_kept p.Nothing u h i = absurd i
-    actuals_kept (p.Pass (p.ByValue e) rest) u h (inl i) = expression_kept e u (fit_left Fits (expression_sites e) (actuals_sites rest) h) i
-    actuals_kept (p.Pass (p.ByValue e) rest) u h (inr i) = actuals_kept rest u (fit_right Fits (expression_sites e) (actuals_sites rest) h) i
-    actuals_kept (p.Pass (p.ByReference v) rest) u h (inl i) = target_kept v u (fit_left Fits (variable_sites v) (actuals_sites rest) h) i
-    actuals_kept (p.Pass (p.ByReference v) rest) u h (inr i) = actuals_kept rest u (fit_right Fits (variable_sites v) (actuals_sites rest) h) i
+    actuals_kept (p.Pass (p.ByValue e) rest) u h (inl i) =
+        expression_kept e u (fit_left Fits (expression_sites e) (actuals_sites rest) h) i
+    actuals_kept (p.Pass (p.ByValue e) rest) u h (inr i) =
+        actuals_kept rest u (fit_right Fits (expression_sites e) (actuals_sites rest) h) i
+    actuals_kept (p.Pass (p.ByReference v) rest) u h (inl i) =
+        target_kept v u (fit_left Fits (variable_sites v) (actuals_sites rest) h) i
+    actuals_kept (p.Pass (p.ByReference v) rest) u h (inr i) =
+        actuals_kept rest u (fit_right Fits (variable_sites v) (actuals_sites rest) h) i
 
   width_kept : (w : Option p.Expression) (u : Use) → Each Fits (width_sites w) → In_width (bare_width w) u → Fine u
   width_kept None u h i = absurd i
@@ -64,35 +83,57 @@ module _ (Fits : Site → Type 0) (Fine : Use → Type 0) (aims : (x : ℕ) → 
   stop at u h e = subst Fine (sym e) (stops at h)
 
   mutual
-    pub statement_kept : (s : p.Statement) (u : Use) → Each Fits (statement_sites s) → In_stmt (bare_statement s) u → Fine u
+    pub statement_kept : (s : p.Statement) (u : Use) → Each Fits (statement_sites s) → In_stmt (bare_statement s) u
+        → Fine u
     statement_kept (p.Does n at p.Empty) u h i = absurd i
-    statement_kept (p.Does n at (p.Assign v e)) u h (inl i) = target_kept v u (fit_left Fits (variable_sites v) (expression_sites e) h) i
-    statement_kept (p.Does n at (p.Assign v e)) u h (inr i) = expression_kept e u (fit_right Fits (variable_sites v) (expression_sites e) h) i
+    statement_kept (p.Does n at (p.Assign v e)) u h (inl i) =
+        target_kept v u (fit_left Fits (variable_sites v) (expression_sites e) h) i
+    statement_kept (p.Does n at (p.Assign v e)) u h (inr i) =
+        expression_kept e u (fit_right Fits (variable_sites v) (expression_sites e) h) i
     statement_kept (p.Does n at (p.Call f args)) u h (inl e) = subst Fine (sym e) (runs f at args h.0)
     statement_kept (p.Does n at (p.Call f args)) u h (inr i) = actuals_kept args u h.1 i
     statement_kept (p.Does n at (p.Sequence ss)) u h i = statements_kept ss u h i
-    statement_kept (p.Does n at (p.If e s p.NoElse)) u h (inl i) = expression_kept e u (fit_left Fits (expression_sites e) (statement_sites s) h) i
-    statement_kept (p.Does n at (p.If e s p.NoElse)) u h (inr i) = statement_kept s u (fit_right Fits (expression_sites e) (statement_sites s) h) i
-    statement_kept (p.Does n at (p.If e s (p.Else t))) u h (inl i) = expression_kept e u (fit_left Fits (expression_sites e) _ h) i
-    statement_kept (p.Does n at (p.If e s (p.Else t))) u h (inr (inl i)) = statement_kept s u (fit_left Fits (statement_sites s) (statement_sites t) (fit_right Fits (expression_sites e) _ h)) i
-    statement_kept (p.Does n at (p.If e s (p.Else t))) u h (inr (inr i)) = statement_kept t u (fit_right Fits (statement_sites s) (statement_sites t) (fit_right Fits (expression_sites e) _ h)) i
-    statement_kept (p.Does n at (p.While e s)) u h (inl i) = expression_kept e u (fit_left Fits (expression_sites e) (statement_sites s) h) i
-    statement_kept (p.Does n at (p.While e s)) u h (inr i) = statement_kept s u (fit_right Fits (expression_sites e) (statement_sites s) h) i
-    statement_kept (p.Does n at (p.Repeat s e)) u h (inl i) = expression_kept e u (fit_left Fits (expression_sites e) (statement_sites s) h) i
-    statement_kept (p.Does n at (p.Repeat s e)) u h (inr i) = statement_kept s u (fit_right Fits (expression_sites e) (statement_sites s) h) i
+    statement_kept (p.Does n at (p.If e s p.NoElse)) u h (inl i) =
+        expression_kept e u (fit_left Fits (expression_sites e) (statement_sites s) h) i
+    statement_kept (p.Does n at (p.If e s p.NoElse)) u h (inr i) =
+        statement_kept s u (fit_right Fits (expression_sites e) (statement_sites s) h) i
+    statement_kept (p.Does n at (p.If e s (p.Else t))) u h (inl i) =
+        expression_kept e u (fit_left Fits (expression_sites e) _ h) i
+    statement_kept (p.Does n at (p.If e s (p.Else t))) u h (inr (inl i)) =
+        statement_kept s u (fit_left Fits (statement_sites s) (statement_sites t)
+        (fit_right Fits (expression_sites e) _ h)) i
+    statement_kept (p.Does n at (p.If e s (p.Else t))) u h (inr (inr i)) =
+        statement_kept t u (fit_right Fits (statement_sites s) (statement_sites t)
+        (fit_right Fits (expression_sites e) _ h)) i
+    statement_kept (p.Does n at (p.While e s)) u h (inl i) =
+        expression_kept e u (fit_left Fits (expression_sites e) (statement_sites s) h) i
+    statement_kept (p.Does n at (p.While e s)) u h (inr i) =
+        statement_kept s u (fit_right Fits (expression_sites e) (statement_sites s) h) i
+    statement_kept (p.Does n at (p.Repeat s e)) u h (inl i) =
+        expression_kept e u (fit_left Fits (expression_sites e) (statement_sites s) h) i
+    statement_kept (p.Does n at (p.Repeat s e)) u h (inr i) =
+        statement_kept s u (fit_right Fits (expression_sites e) (statement_sites s) h) i
     statement_kept (p.Does n at (p.For x name from down to s)) u h (inl e) = aim x u e
-    statement_kept (p.Does n at (p.For x name from down to s)) u h (inr (inl i)) = expression_kept from u (fit_left Fits (expression_sites from) _ h.1) i
-    statement_kept (p.Does n at (p.For x name from down to s)) u h (inr (inr (inl i))) = expression_kept to u (fit_left Fits (expression_sites to) _ (fit_right Fits (expression_sites from) _ h.1)) i
-    statement_kept (p.Does n at (p.For x name from down to s)) u h (inr (inr (inr i))) = statement_kept s u (fit_right Fits (expression_sites to) _ (fit_right Fits (expression_sites from) _ h.1)) i
-    statement_kept (p.Does n at (p.Case e arms)) u h (inl i) = expression_kept e u (fit_left Fits (expression_sites e) (arms_sites arms) h) i
-    statement_kept (p.Does n at (p.Case e arms)) u h (inr i) = arms_kept arms u (fit_right Fits (expression_sites e) (arms_sites arms) h) i
+    statement_kept (p.Does n at (p.For x name from down to s)) u h (inr (inl i)) =
+        expression_kept from u (fit_left Fits (expression_sites from) _ h.1) i
+    statement_kept (p.Does n at (p.For x name from down to s)) u h (inr (inr (inl i))) =
+        expression_kept to u (fit_left Fits (expression_sites to) _ (fit_right Fits (expression_sites from) _ h.1)) i
+    statement_kept (p.Does n at (p.For x name from down to s)) u h (inr (inr (inr i))) =
+        statement_kept s u (fit_right Fits (expression_sites to) _ (fit_right Fits (expression_sites from) _ h.1)) i
+    statement_kept (p.Does n at (p.Case e arms)) u h (inl i) =
+        expression_kept e u (fit_left Fits (expression_sites e) (arms_sites arms) h) i
+    statement_kept (p.Does n at (p.Case e arms)) u h (inr i) =
+        arms_kept arms u (fit_right Fits (expression_sites e) (arms_sites arms) h) i
     statement_kept (p.Does n at (p.Parallel ss)) u h (inl e) = subst Fine (sym e) (splits ss h.0)
     statement_kept (p.Does n at (p.Parallel ss)) u h (inr (inl i)) = statements_kept ss u h.1.1 i
     statement_kept (p.Does n at (p.Parallel ss)) u h (inr (inr e)) = stop at u h.1.0 e
     statement_kept (p.Does n at (p.Forall x from to s)) u h (inl e) = subst Fine (sym e) (spreads at x s h.0)
-    statement_kept (p.Does n at (p.Forall x from to s)) u h (inr (inl i)) = expression_kept from u (fit_left Fits (expression_sites from) _ h.1.1) i
-    statement_kept (p.Does n at (p.Forall x from to s)) u h (inr (inr (inl i))) = expression_kept to u (fit_left Fits (expression_sites to) _ (fit_right Fits (expression_sites from) _ h.1.1)) i
-    statement_kept (p.Does n at (p.Forall x from to s)) u h (inr (inr (inr (inl i)))) = statement_kept s u (fit_right Fits (expression_sites to) _ (fit_right Fits (expression_sites from) _ h.1.1)) i.0
+    statement_kept (p.Does n at (p.Forall x from to s)) u h (inr (inl i)) =
+        expression_kept from u (fit_left Fits (expression_sites from) _ h.1.1) i
+    statement_kept (p.Does n at (p.Forall x from to s)) u h (inr (inr (inl i))) =
+        expression_kept to u (fit_left Fits (expression_sites to) _ (fit_right Fits (expression_sites from) _ h.1.1)) i
+    statement_kept (p.Does n at (p.Forall x from to s)) u h (inr (inr (inr (inl i)))) =
+        statement_kept s u (fit_right Fits (expression_sites to) _ (fit_right Fits (expression_sites from) _ h.1.1)) i.0
     statement_kept (p.Does n at (p.Forall x from to s)) u h (inr (inr (inr (inr e)))) = stop at u h.1.0 e
     statement_kept (p.Does n at (p.Assume e)) u h i = expression_kept e u h i
     statement_kept (p.Does n at (p.ReadValue v)) u h (inl e) = aim 0 u e
@@ -101,8 +142,10 @@ module _ (Fits : Site → Type 0) (Fine : Use → Type 0) (aims : (x : ℕ) → 
     statement_kept (p.Does n at p.ReadLine) u h (inl e) = aim 0 u e
     statement_kept (p.Does n at p.ReadLine) u h (inr e) = stop at u h.0 e
     statement_kept (p.Does n at (p.WriteValue e w)) u h (inl i) = aim 1 u i
-    statement_kept (p.Does n at (p.WriteValue e w)) u h (inr (inl i)) = expression_kept e u (fit_left Fits (expression_sites e) (width_sites w) h.1) i
-    statement_kept (p.Does n at (p.WriteValue e w)) u h (inr (inr (inl i))) = width_kept w u (fit_right Fits (expression_sites e) (width_sites w) h.1) i
+    statement_kept (p.Does n at (p.WriteValue e w)) u h (inr (inl i)) =
+        expression_kept e u (fit_left Fits (expression_sites e) (width_sites w) h.1) i
+    statement_kept (p.Does n at (p.WriteValue e w)) u h (inr (inr (inl i))) =
+        width_kept w u (fit_right Fits (expression_sites e) (width_sites w) h.1) i
     statement_kept (p.Does n at (p.WriteValue e w)) u h (inr (inr (inr i))) = stop at u h.0 i
     statement_kept (p.Does n at (p.WriteText t w)) u h (inl i) = aim 1 u i
     statement_kept (p.Does n at (p.WriteText t w)) u h (inr (inl i)) = width_kept w u h.1 i
@@ -111,19 +154,28 @@ module _ (Fits : Site → Type 0) (Fine : Use → Type 0) (aims : (x : ℕ) → 
     statement_kept (p.Does n at p.WriteLine) u h (inr i) = stop at u h.0 i
     statement_kept (p.Does n at (p.Open v)) u h (inl i) = target_kept v u h.1 i
     statement_kept (p.Does n at (p.Open v)) u h (inr e) = stop at u h.0 e
-    statement_kept (p.Does n at (p.Send c e)) u h (inl i) = expression_kept c u (fit_left Fits (expression_sites c) (expression_sites e) h.1) i
-    statement_kept (p.Does n at (p.Send c e)) u h (inr (inl i)) = expression_kept e u (fit_right Fits (expression_sites c) (expression_sites e) h.1) i
+    statement_kept (p.Does n at (p.Send c e)) u h (inl i) =
+        expression_kept c u (fit_left Fits (expression_sites c) (expression_sites e) h.1) i
+    statement_kept (p.Does n at (p.Send c e)) u h (inr (inl i)) =
+        expression_kept e u (fit_right Fits (expression_sites c) (expression_sites e) h.1) i
     statement_kept (p.Does n at (p.Send c e)) u h (inr (inr i)) = stop at u h.0 i
-    statement_kept (p.Does n at (p.Receive c v)) u h (inl i) = expression_kept c u (fit_left Fits (expression_sites c) (variable_sites v) h.1) i
-    statement_kept (p.Does n at (p.Receive c v)) u h (inr (inl i)) = target_kept v u (fit_right Fits (expression_sites c) (variable_sites v) h.1) i
+    statement_kept (p.Does n at (p.Receive c v)) u h (inl i) =
+        expression_kept c u (fit_left Fits (expression_sites c) (variable_sites v) h.1) i
+    statement_kept (p.Does n at (p.Receive c v)) u h (inr (inl i)) =
+        target_kept v u (fit_right Fits (expression_sites c) (variable_sites v) h.1) i
     statement_kept (p.Does n at (p.Receive c v)) u h (inr (inr e)) = stop at u h.0 e
 
-    statements_kept : (ss : p.Statements) (u : Use) → Each Fits (statements_sites ss) → In_stmts (bare_statements ss) u → Fine u
+    statements_kept : (ss : p.Statements) (u : Use) → Each Fits (statements_sites ss) → In_stmts (bare_statements ss) u
+        → Fine u
     statements_kept p.NoStatement u h i = absurd i
-    statements_kept (p.AndThen s rest) u h (inl i) = statement_kept s u (fit_left Fits (statement_sites s) (statements_sites rest) h) i
-    statements_kept (p.AndThen s rest) u h (inr i) = statements_kept rest u (fit_right Fits (statement_sites s) (statements_sites rest) h) i
+    statements_kept (p.AndThen s rest) u h (inl i) =
+        statement_kept s u (fit_left Fits (statement_sites s) (statements_sites rest) h) i
+    statements_kept (p.AndThen s rest) u h (inr i) =
+        statements_kept rest u (fit_right Fits (statement_sites s) (statements_sites rest) h) i
 
     arms_kept : (arms : p.Arms) (u : Use) → Each Fits (arms_sites arms) → In_arms (bare_arms arms) u → Fine u
     arms_kept p.NoArm u h i = absurd i
-    arms_kept (p.Or (p.On cs s) rest) u h (inl i) = statement_kept s u (fit_left Fits (statement_sites s) (arms_sites rest) h) i
-    arms_kept (p.Or (p.On cs s) rest) u h (inr i) = arms_kept rest u (fit_right Fits (statement_sites s) (arms_sites rest) h) i
+    arms_kept (p.Or (p.On cs s) rest) u h (inl i) =
+        statement_kept s u (fit_left Fits (statement_sites s) (arms_sites rest) h) i
+    arms_kept (p.Or (p.On cs s) rest) u h (inr i) =
+        arms_kept rest u (fit_right Fits (statement_sites s) (arms_sites rest) h) i

@@ -1,16 +1,25 @@
 -- In a fine statement each target is a variable that there is and no index, and the output is not read.
-use Rattle.std.proofs.Common.{◌≡◌, inl, inr, ap, sym, ◌∙◌, subst, ℕ, ◌+◌, List, [], ◌∷◌, Option, Some, None, true, slice_get}
+use Rattle.std.proofs.Common.{◌≡◌, inl, inr, ap, sym, ◌∙◌, subst, ℕ, ◌+◌, List, [], ◌∷◌, Option, Some, None, true}
+use Rattle.std.proofs.Common.{slice_get}
 use Rattle.std.proofs.lemmas.Option.{same_Some}
 use Rattle.sp_tree.specs.declared.checked.Role.{Role}
 use Rattle.sp_tree.specs.declared.checked.Role.TheVariants as role
-use Rattle.sp_tree.specs.Plain.{Expr, Typed, ExprForm, Number, Read, Unary, Binary, Apply, Standard, AtInput, Var, Entire, Index, Field, Selectors, Whole, Select, ByValue, ByReference, Actuals, Nothing, Pass, Program, Variable, Stmt, Empty, Assign, Call, Sequence, If, IfElse, While, Repeat, For, Case, Parallel, Forall, Assume, ReadValue, ReadLine, WriteValue, WriteText, WriteLine, Open, Send, Receive, Stmts, No, And, On, Arms, NoArm, Or}
-use Rattle.sp_tree.specs.Uses.{Use, Seen, CallOf, ParallelOf, ForallOf, Stop, In_expr, In_form, In_read, In_target, In_selectors, In_actuals, In_width, In_stmt, In_stmts, In_arms}
+use Rattle.sp_tree.specs.Plain.{Expr, Typed, ExprForm, Number, Read, Unary, Binary, Apply, Standard, AtInput, Var}
+use Rattle.sp_tree.specs.Plain.{Entire, Index, Field, Selectors, Whole, Select, ByValue, ByReference, Actuals, Nothing}
+use Rattle.sp_tree.specs.Plain.{Pass, Program, Variable, Stmt, Empty, Assign, Call, Sequence, If, IfElse, While, Repeat}
+use Rattle.sp_tree.specs.Plain.{For, Case, Parallel, Forall, Assume, ReadValue, ReadLine, WriteValue, WriteText}
+use Rattle.sp_tree.specs.Plain.{WriteLine, Open, Send, Receive, Stmts, No, And, On, Arms, NoArm, Or}
+use Rattle.sp_tree.specs.Uses.{Use, Seen, CallOf, ParallelOf, ForallOf, Stop, In_expr, In_form, In_read, In_target}
+use Rattle.sp_tree.specs.Uses.{In_selectors, In_actuals, In_width, In_stmt, In_stmts, In_arms}
 use Rattle.sp_tree.specs.Uses as use_of
 use Rattle.sp_code.specs.Scopes.{Sort, Ordinals, Channels, Many, NoSort, Scope, OfIndex, sort}
 use Rattle.sp_code.specs.Places.{after_value, after_var, after_tests, after}
-use Rattle.sp_code.specs.Stands.{NoIndex, VarRole, VarAt, IsTarget, ValueAt, FormAt, PlaceAt, SelectedAt, ActualsAt, WidthAt, RightAt, StandsAt, AllAt, ChildrenAt, ArmsAt, AnyInstr, AnyTable, AnyText}
+use Rattle.sp_code.specs.Stands.{NoIndex, VarRole, VarAt, IsTarget, ValueAt, FormAt, PlaceAt, SelectedAt, ActualsAt}
+use Rattle.sp_code.specs.Stands.{WidthAt, RightAt, StandsAt, AllAt, ChildrenAt, ArmsAt, AnyInstr, AnyTable, AnyText}
 
-module _ (p : Program) (input : (v : Variable) × (slice_get p.variables 0 ≡ Some v) × (v.role ≡ role.Console)) (output : (v : Variable) × (slice_get p.variables 1 ≡ Some v) × (v.role ≡ role.Console)) (moves shares : Stmt → List ℕ) (hush : ℕ → Type 0) where
+module _ (p : Program) (input : (v : Variable) × (slice_get p.variables 0 ≡ Some v) × (v.role ≡ role.Console))
+    (output : (v : Variable) × (slice_get p.variables 1 ≡ Some v) × (v.role ≡ role.Console))
+    (moves shares : Stmt → List ℕ) (hush : ℕ → Type 0) where
   abbrev pub IsGoodUse : Use → Type 0
   IsGoodUse (use_of.Target x) = (v : Variable) × (slice_get p.variables x ≡ Some v) × (v.role ≡ role.Index → ⊥)
   IsGoodUse (Seen x) = x ≡ 1 → ⊥
@@ -50,8 +59,10 @@ module _ (p : Program) (input : (v : Variable) × (slice_get p.variables 0 ≡ S
 
   no_output : (sc : List Scope) (q x k : ℕ) → VarAt p moves shares AnyInstr AnyTable AnyText hush sc q x k → x ≡ 1 → ⊥
   no_output sc q x k (v, at, kind, r) e =
-      let s : v ≡ output.0 = same_Some v output.0 (sym (subst (λ z. slice_get p.variables z ≡ Some v) e at) ∙ output.1) in
-      subst (VarRole p moves shares AnyInstr AnyTable AnyText hush sc q x v) (ap (λ (z : Variable). z.role) s ∙ output.2) r
+      let s : v ≡ output.0 = same_Some v output.0
+      (sym (subst (λ z. slice_get p.variables z ≡ Some v) e at) ∙ output.1) in
+      subst (VarRole p moves shares AnyInstr AnyTable AnyText hush sc q x v)
+      (ap (λ (z : Variable). z.role) s ∙ output.2) r
 
   console_not : (r : Role) → r ≡ role.Console → r ≡ role.Index → ⊥
   console_not r c e = cc (sym c ∙ e)
@@ -69,7 +80,8 @@ module _ (p : Program) (input : (v : Variable) × (slice_get p.variables 0 ≡ S
     value_uses : (sc : List Scope) (q : ℕ) (e : Expr) → Value sc q e → (u : Use) → In_expr e u → IsGoodUse u
     value_uses sc q (Typed k form) h u i = form_uses sc q k form h u i
 
-    form_uses : (sc : List Scope) (q k : ℕ) (form : ExprForm) → Form sc q k form → (u : Use) → In_form form u → IsGoodUse u
+    form_uses : (sc : List Scope) (q k : ℕ) (form : ExprForm) → Form sc q k form → (u : Use) → In_form form u
+        → IsGoodUse u
     form_uses sc q k (Number n) h u i = absurd i
     form_uses sc q k (Read v) h u i = read_uses sc q v k h.0 u i
     form_uses sc q k (Unary op a) h u i = value_uses sc q a h.0 u i
@@ -84,29 +96,39 @@ module _ (p : Program) (input : (v : Variable) × (slice_get p.variables 0 ≡ S
     read_uses sc q (Entire x ss) k (k1, var, sel) u (inl e) = subst IsGoodUse (sym e) (no_output sc q x k1 var)
     read_uses sc q (Entire x ss) k (k1, var, sel) u (inr i) = selectors_uses sc (q + 1) ss k1 k sel u i
 
-    target_uses : (sc : List Scope) (q : ℕ) (v : Var) (k : ℕ) → Place sc q v k → Target v → (u : Use) → In_target v u → IsGoodUse u
+    target_uses : (sc : List Scope) (q : ℕ) (v : Var) (k : ℕ) → Place sc q v k → Target v → (u : Use) → In_target v u
+        → IsGoodUse u
     target_uses sc q (Entire x ss) k h (v, at, d) u (inl e) = subst IsGoodUse (sym e) (v, at, no_index v.role d)
     target_uses sc q (Entire x ss) k (k1, var, sel) t u (inr i) = selectors_uses sc (q + 1) ss k1 k sel u i
 
-    selectors_uses : (sc : List Scope) (q : ℕ) (ss : Selectors) (k k2 : ℕ) → Selected sc q ss k k2 → (u : Use) → In_selectors ss u → IsGoodUse u
+    selectors_uses : (sc : List Scope) (q : ℕ) (ss : Selectors) (k k2 : ℕ) → Selected sc q ss k k2 → (u : Use)
+        → In_selectors ss u → IsGoodUse u
     selectors_uses sc q Whole k k2 h u i = absurd i
-    selectors_uses sc q (Select (Index e) rest) k k2 (low, high, index, element, at, value, s, is, more) u (inl i) = value_uses sc q e value u i
-    selectors_uses sc q (Select (Index e) rest) k k2 (low, high, index, element, at, value, s, is, more) u (inr i) = selectors_uses sc (after_value q e + 1) rest element k2 more u i
-    selectors_uses sc q (Select (Field f) rest) k k2 (fs, name, t, at, there, is, more) u i = selectors_uses sc (q + 1) rest t k2 more u i
+    selectors_uses sc q (Select (Index e) rest) k k2 (low, high, index, element, at, value, s, is, more) u (inl i) =
+        value_uses sc q e value u i
+    selectors_uses sc q (Select (Index e) rest) k k2 (low, high, index, element, at, value, s, is, more) u (inr i) =
+        selectors_uses sc (after_value q e + 1) rest element k2 more u i
+    selectors_uses sc q (Select (Field f) rest) k k2 (fs, name, t, at, there, is, more) u i =
+        selectors_uses sc (q + 1) rest t k2 more u i
 
-    actuals_uses : (sc : List Scope) (q : ℕ) (args : Actuals) (xs : List ℕ) → Passed sc q args xs → (u : Use) → In_actuals args u → IsGoodUse u
+    actuals_uses : (sc : List Scope) (q : ℕ) (args : Actuals) (xs : List ℕ) → Passed sc q args xs → (u : Use)
+        → In_actuals args u → IsGoodUse u
     actuals_uses sc q Nothing xs h u i = absurd i
     actuals_uses sc q (Pass a rest) [] h u i = absurd h
     actuals_uses sc q (Pass (ByValue e) rest) (x ∷ xs) h u (inl i) = value_uses sc q e h.0 u i
     actuals_uses sc q (Pass (ByValue e) rest) (x ∷ xs) h u (inr i) = actuals_uses sc (after_value q e) rest xs h.2 u i
-    actuals_uses sc q (Pass (ByReference v) rest) (x ∷ xs) (k, at, t, formal, more) u (inl i) = target_uses sc q v k at t u i
-    actuals_uses sc q (Pass (ByReference v) rest) (x ∷ xs) (k, at, t, formal, more) u (inr i) = actuals_uses sc (after_var q v) rest xs more u i
+    actuals_uses sc q (Pass (ByReference v) rest) (x ∷ xs) (k, at, t, formal, more) u (inl i) =
+        target_uses sc q v k at t u i
+    actuals_uses sc q (Pass (ByReference v) rest) (x ∷ xs) (k, at, t, formal, more) u (inr i) =
+        actuals_uses sc (after_var q v) rest xs more u i
 
-  width_uses : (sc : List Scope) (q : ℕ) (w : Option Expr) → WidthAt p moves shares AnyInstr AnyTable AnyText hush sc q w → (u : Use) → In_width w u → IsGoodUse u
+  width_uses : (sc : List Scope) (q : ℕ) (w : Option Expr)
+      → WidthAt p moves shares AnyInstr AnyTable AnyText hush sc q w → (u : Use) → In_width w u → IsGoodUse u
   width_uses sc q None h u i = absurd i
   width_uses sc q (Some e) h u i = value_uses sc q e h.0 u i
 
-  right_uses : (sc : List Scope) (q k : ℕ) (s : Sort) (form : ExprForm) → RightAt p moves shares AnyInstr AnyTable AnyText hush sc q k s form → (u : Use) → In_form form u → IsGoodUse u
+  right_uses : (sc : List Scope) (q k : ℕ) (s : Sort) (form : ExprForm)
+      → RightAt p moves shares AnyInstr AnyTable AnyText hush sc q k s form → (u : Use) → In_form form u → IsGoodUse u
   right_uses sc q k Ordinals form h u i = form_uses sc q k form h.0 u i
   right_uses sc q k Channels form h u i = form_uses sc q k form h.0 u i
   right_uses sc q k Many (Read v) h u i = read_uses sc q v k h.0 u i
@@ -135,19 +157,26 @@ module _ (p : Program) (input : (v : Variable) × (slice_get p.variables 0 ≡ S
     stands_uses sc q (While e s) h u (inr i) = stands_uses sc (after_value q e + 1 + 1) s h.3 u i
     stands_uses sc q (Repeat s e) h u (inl i) = value_uses sc (after p (q + 1) s) e h.2.0 u i
     stands_uses sc q (Repeat s e) h u (inr i) = stands_uses sc (q + 1) s h.1 u i
-    stands_uses sc q (For x from down to s) (f, t, ((v, at, local, level, ordinal), first, tick, body, last)) u (inl e) = subst IsGoodUse (sym e) (v, at, λ (z : v.role ≡ role.Index). cc (sym local ∙ z))
+    stands_uses sc q (For x from down to s) (f, t, ((v, at, local, level, ordinal), first, tick, body, last)) u
+        (inl e) = subst IsGoodUse (sym e) (v, at, λ (z : v.role ≡ role.Index). cc (sym local ∙ z))
     stands_uses sc q (For x from down to s) h u (inr (inl i)) = value_uses sc q from h.0.0 u i
     stands_uses sc q (For x from down to s) h u (inr (inr (inl i))) = value_uses sc (after_value q from) to h.1.0 u i
-    stands_uses sc q (For x from down to s) (f, t, (var, first, tick, body, last)) u (inr (inr (inr i))) = stands_uses sc (after_value (after_value q from) to + 1 + 1) s body u i
+    stands_uses sc q (For x from down to s) (f, t, (var, first, tick, body, last)) u (inr (inr (inr i))) =
+        stands_uses sc (after_value (after_value q from) to + 1 + 1) s body u i
     stands_uses sc q (Case e arms) h u (inl i) = value_uses sc q e h.0.0 u i
-    stands_uses sc q (Case e arms) (o, tests, none, more) u (inr i) = arms_uses sc (after_tests (after_value q e) arms + 1) arms _ more u i
+    stands_uses sc q (Case e arms) (o, tests, none, more) u (inr i) =
+        arms_uses sc (after_tests (after_value q e) arms + 1) arms _ more u i
     stands_uses sc q (Parallel ss) h u (inl e) = subst IsGoodUse (sym e) tt
-    stands_uses sc q (Parallel ss) (t, table, fork, jump, children, free) u (inr (inl i)) = children_uses sc (q + 1 + 1) ss children u i
+    stands_uses sc q (Parallel ss) (t, table, fork, jump, children, free) u (inr (inl i)) =
+        children_uses sc (q + 1 + 1) ss children u i
     stands_uses sc q (Parallel ss) h u (inr (inr e)) = of_stop u e
     stands_uses sc q (Forall x from to s) h u (inl e) = subst IsGoodUse (sym e) tt
-    stands_uses sc q (Forall x from to s) (t, table, f, l, fork, jump, body, end, free) u (inr (inl i)) = value_uses sc q from f.0 u i
-    stands_uses sc q (Forall x from to s) (t, table, f, l, fork, jump, body, end, free) u (inr (inr (inl i))) = value_uses sc (after_value q from) to l.0 u i
-    stands_uses sc q (Forall x from to s) (t, table, f, l, fork, jump, body, end, free) u (inr (inr (inr (inl i)))) = stands_uses (OfIndex x ∷ sc) (after_value (after_value q from) to + 1 + 1) s body u i.0
+    stands_uses sc q (Forall x from to s) (t, table, f, l, fork, jump, body, end, free) u (inr (inl i)) =
+        value_uses sc q from f.0 u i
+    stands_uses sc q (Forall x from to s) (t, table, f, l, fork, jump, body, end, free) u (inr (inr (inl i))) =
+        value_uses sc (after_value q from) to l.0 u i
+    stands_uses sc q (Forall x from to s) (t, table, f, l, fork, jump, body, end, free) u (inr (inr (inr (inl i)))) =
+        stands_uses (OfIndex x ∷ sc) (after_value (after_value q from) to + 1 + 1) s body u i.0
     stands_uses sc q (Forall x from to s) h u (inr (inr (inr (inr e)))) = of_stop u e
     stands_uses sc q (Assume e) h u i = value_uses sc q e h.0.0 u i
     stands_uses sc q (ReadValue v) h u (inl e) = of_input u e
@@ -157,7 +186,8 @@ module _ (p : Program) (input : (v : Variable) × (slice_get p.variables 0 ≡ S
     stands_uses sc q ReadLine h u (inr e) = of_stop u e
     stands_uses sc q (WriteValue e w) h u (inl i) = of_output u i
     stands_uses sc q (WriteValue e w) (t, o, at, width, is, written) u (inr (inl i)) = value_uses sc q e o.0 u i
-    stands_uses sc q (WriteValue e w) (t, o, at, width, is, written) u (inr (inr (inl i))) = width_uses sc (after_value q e) w width u i
+    stands_uses sc q (WriteValue e w) (t, o, at, width, is, written) u (inr (inr (inl i))) =
+        width_uses sc (after_value q e) w width u i
     stands_uses sc q (WriteValue e w) h u (inr (inr (inr i))) = of_stop u i
     stands_uses sc q (WriteText t w) h u (inl i) = of_output u i
     stands_uses sc q (WriteText t w) (n, text, width, more) u (inr (inl i)) = width_uses sc q w width u i
@@ -170,20 +200,26 @@ module _ (p : Program) (input : (v : Variable) × (slice_get p.variables 0 ≡ S
     stands_uses sc q (Send c e) h u (inr (inl i)) = value_uses sc (after_value q c) e h.2 u i
     stands_uses sc q (Send c e) h u (inr (inr i)) = of_stop u i
     stands_uses sc q (Receive c v) (k, value, channel, at, target, is, free) u (inl i) = value_uses sc q c value u i
-    stands_uses sc q (Receive c v) (k, value, channel, at, target, is, free) u (inr (inl i)) = target_uses sc (after_value q c) v k at target u i
+    stands_uses sc q (Receive c v) (k, value, channel, at, target, is, free) u (inr (inl i)) =
+        target_uses sc (after_value q c) v k at target u i
     stands_uses sc q (Receive c v) h u (inr (inr e)) = of_stop u e
 
-    all_uses : (sc : List Scope) (q : ℕ) (ss : Stmts) → AllAt p moves shares AnyInstr AnyTable AnyText hush true sc q ss → (u : Use) → In_stmts ss u → IsGoodUse u
+    all_uses : (sc : List Scope) (q : ℕ) (ss : Stmts) → AllAt p moves shares AnyInstr AnyTable AnyText hush true sc q ss
+        → (u : Use) → In_stmts ss u → IsGoodUse u
     all_uses sc q No h u i = absurd i
     all_uses sc q (And s rest) h u (inl i) = stands_uses sc q s h.0 u i
     all_uses sc q (And s rest) h u (inr i) = all_uses sc (after p q s) rest h.1 u i
 
-    children_uses : (sc : List Scope) (q : ℕ) (ss : Stmts) → ChildrenAt p moves shares AnyInstr AnyTable AnyText hush true sc q ss → (u : Use) → In_stmts ss u → IsGoodUse u
+    children_uses : (sc : List Scope) (q : ℕ) (ss : Stmts)
+        → ChildrenAt p moves shares AnyInstr AnyTable AnyText hush true sc q ss → (u : Use) → In_stmts ss u
+        → IsGoodUse u
     children_uses sc q No h u i = absurd i
     children_uses sc q (And s rest) h u (inl i) = stands_uses sc q s h.0 u i
     children_uses sc q (And s rest) h u (inr i) = children_uses sc (after p q s + 1) rest h.2 u i
 
-    arms_uses : (sc : List Scope) (q : ℕ) (arms : Arms) (end : ℕ) → ArmsAt p moves shares AnyInstr AnyTable AnyText hush true sc q arms end → (u : Use) → In_arms arms u → IsGoodUse u
+    arms_uses : (sc : List Scope) (q : ℕ) (arms : Arms) (end : ℕ)
+        → ArmsAt p moves shares AnyInstr AnyTable AnyText hush true sc q arms end → (u : Use) → In_arms arms u
+        → IsGoodUse u
     arms_uses sc q NoArm end h u i = absurd i
     arms_uses sc q (Or (On ms s) rest) end h u (inl i) = stands_uses sc q s h.0 u i
     arms_uses sc q (Or (On ms s) rest) end h u (inr i) = arms_uses sc (after p q s + 1) rest end h.2 u i

@@ -1,3 +1,4 @@
+-- None of this belongs to what the program promises: it is for contracts between crates.
 -- What is said of each item of a list, for facts that are no computation. The other facts of this crate are said by
 -- it.
 use Rattle.std.specs.Prelude.{List, [], ◌∷◌}

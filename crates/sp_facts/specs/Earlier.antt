@@ -1,3 +1,4 @@
+-- None of this belongs to what the program promises: it is for contracts between crates.
 -- A type's definition names earlier types alone. The phase of names gives it, and the laws of this crate make of it
 -- that sizes and values of types are there.
 use Rattle.std.specs.Prelude.{◌≡◌, ℕ, suc, ◌≤◌, int_le, List, [], ◌∷◌, Option, Some, true}

@@ -1,3 +1,4 @@
+-- None of this belongs to what the program promises: it is for contracts between crates.
 -- What the grammar gives: a record has a field. It is kept through the phase of names, since a type without cells
 -- would have no code.
 use Rattle.std.specs.Prelude.{List, [], ◌∷◌}

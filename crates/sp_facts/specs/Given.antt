@@ -1,3 +1,4 @@
+-- None of this belongs to what the program promises: it is for contracts between crates.
 -- Constants are named behind their declarations, and those of an enumeration are of an ordinal type. The proofs of the
 -- facts of types rest on it.
 use Rattle.std.specs.Prelude.{◌≡◌, ℕ, suc, ◌≤◌, List, [], ◌∷◌, true, slice_get}
@@ -29,7 +30,8 @@ AreValuesBehind j (constant.Enumerated k i ∷ cs) = AreValuesBehind (suc j) cs
 abbrev pub AreBehind : List KindOf → List ℕ → ℕ → List NamedConstant → Type 0
 AreBehind kinds numbers j [] = Unit {0}
 AreBehind kinds numbers j (constant.Value c ∷ cs) = IsBehind j c.value × AreBehind kinds numbers (suc j) cs
-AreBehind kinds numbers j (constant.Enumerated k i ∷ cs) = (is_ordinal (slice_get kinds (type_number numbers k)) ≡ true) × AreBehind kinds numbers (suc j) cs
+AreBehind kinds numbers j (constant.Enumerated k i ∷ cs) = (is_ordinal (slice_get kinds (type_number numbers k)) ≡ true)
+    × AreBehind kinds numbers (suc j) cs
 
 abbrev pub IsBoundBehind : ℕ → NamedKindForm → Type 0
 IsBoundBehind j form.Integer = Unit {0}
@@ -48,7 +50,8 @@ AreBoundsBehind j (k ∷ ks) = IsBoundBehind j k.form × AreBoundsBehind j ks
 abbrev pub AreEnumerated : List KindOf → List ℕ → List NamedConstant → Type 0
 AreEnumerated kinds numbers [] = Unit {0}
 AreEnumerated kinds numbers (constant.Value c ∷ cs) = AreEnumerated kinds numbers cs
-AreEnumerated kinds numbers (constant.Enumerated k i ∷ cs) = (is_ordinal (slice_get kinds (type_number numbers k)) ≡ true) × AreEnumerated kinds numbers cs
+AreEnumerated kinds numbers (constant.Enumerated k i ∷ cs) =
+    (is_ordinal (slice_get kinds (type_number numbers k)) ≡ true) × AreEnumerated kinds numbers cs
 
 -- the constants of enumerations are of ordinal types
 abbrev pub IsGiven : n.Program → Type 0

@@ -1,3 +1,4 @@
+-- None of this belongs to what the program promises: it is for contracts between crates.
 -- What the phases of names and types give of the tree of a program that breaks no rule. The laws of this crate promise
 -- it, and `sp_ready` makes of it all that the code asks for.
 use Rattle.std.specs.Prelude.{◌≡◌, ℕ, suc, ◌≤◌, List, Some, Ok, slice_get}
@@ -28,9 +29,12 @@ pub record IsNumberedTree (p : Program) : Type 0 where
   -- a block stands in one with a lower number
   pub parents : (f q : ℕ) (b : Block) → slice_get p.blocks f ≡ Some b → b.parent ≡ Some q → suc q ≤ f
   -- parameters and result
-  pub formals : (f : ℕ) (b : Block) → slice_get p.blocks f ≡ Some b → b.formals ≡ among is_parameter (variables_of f 0 p.variables)
-  pub answers : (f : ℕ) (b : Block) → slice_get p.blocks f ≡ Some b → as_list b.answer ≡ among is_answer (variables_of f 0 p.variables)
-  pub results : (f : ℕ) (b : Block) (x : ℕ) → slice_get p.blocks f ≡ Some b → b.answer ≡ Some x → (v : Variable) × (slice_get p.variables x ≡ Some v) × (v.role ≡ role.Answer) × (v.block ≡ f)
+  pub formals : (f : ℕ) (b : Block) → slice_get p.blocks f ≡ Some b
+      → b.formals ≡ among is_parameter (variables_of f 0 p.variables)
+  pub answers : (f : ℕ) (b : Block) → slice_get p.blocks f ≡ Some b
+      → as_list b.answer ≡ among is_answer (variables_of f 0 p.variables)
+  pub results : (f : ℕ) (b : Block) (x : ℕ) → slice_get p.blocks f ≡ Some b → b.answer ≡ Some x → (v : Variable)
+      × (slice_get p.variables x ≡ Some v) × (v.role ≡ role.Answer) × (v.block ≡ f)
   pub input : (v : Variable) × (slice_get p.variables 0 ≡ Some v) × (v.role ≡ role.Console)
   pub output : (v : Variable) × (slice_get p.variables 1 ≡ Some v) × (v.role ≡ role.Console)
 
@@ -40,4 +44,5 @@ KeepsInterference c = (r : Rule) (at : Place) → Interferes c r at → ⊥
 
 -- the text breaks no rule, and has this checked tree
 abbrev pub IsAccepted : List ℕ → checked.Program → Type 0
-IsAccepted text c = ((m : named.Program) × ((s : syntax.Program) × IsTree text s × (resolved s ≡ Ok m)) × (typed m ≡ Ok c)) × KeepsInterference c
+IsAccepted text c = ((m : named.Program) × ((s : syntax.Program) × IsTree text s × (resolved s ≡ Ok m))
+    × (typed m ≡ Ok c)) × KeepsInterference c

@@ -1,3 +1,4 @@
+-- None of this belongs to what the program promises: it is for contracts between crates.
 -- What is asked of the index of each forall and of the branches of each parallel statement in a statement. The walk is
 -- said once, and what is asked is left open.
 use Rattle.std.specs.Prelude.{ℕ, List, [], ◌∷◌}

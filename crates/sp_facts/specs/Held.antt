@@ -1,3 +1,4 @@
+-- None of this belongs to what the program promises: it is for contracts between crates.
 -- What a part declares stands in the tables of the program from the next numbers on. The induction over the
 -- declarations keeps it, from the innermost block outward.
 use Rattle.std.specs.Prelude.{◌≡◌, ℕ, suc, ◌≤◌, List, [], ◌∷◌, Some, slice_get}
@@ -11,7 +12,8 @@ module _ (p : Program) (constants : ℕ) where
   -- these blocks stand in the program from a number on
   abbrev pub HoldsBlocks : ℕ → List n.Block → Type 0
   HoldsBlocks k [] = Unit {0}
-  HoldsBlocks k (b ∷ bs) = ((c : Block) × (slice_get p.blocks k ≡ Some c) × (c.parent ≡ b.parent) × (c.formals ≡ b.formals) × (c.answer ≡ answer_variable b.answer)) × HoldsBlocks (suc k) bs
+  HoldsBlocks k (b ∷ bs) = ((c : Block) × (slice_get p.blocks k ≡ Some c) × (c.parent ≡ b.parent)
+      × (c.formals ≡ b.formals) × (c.answer ≡ answer_variable b.answer)) × HoldsBlocks (suc k) bs
 
   -- each name in the blocks from a number on is of a visible declaration
   abbrev pub AreScoped : ℕ → List n.Block → Type 0

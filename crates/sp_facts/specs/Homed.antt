@@ -1,3 +1,4 @@
+-- None of this belongs to what the program promises: it is for contracts between crates.
 -- What the phase of names gives of all variables but the first two: each is of a block that there is, and none is a
 -- console.
 use Rattle.std.specs.Prelude.{ℕ, suc, ◌≤◌, List}

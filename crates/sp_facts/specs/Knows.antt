@@ -1,3 +1,4 @@
+-- None of this belongs to what the program promises: it is for contracts between crates.
 -- What the tables of the phase of types say of the plain tree without places. The proofs of the facts of types keep it
 -- along the walk.
 use Rattle.std.specs.Prelude.{◌≡◌, ◌⊎◌, ℕ, suc, ◌≤◌, ℤ, List, [], ◌∷◌, Some, true, length, slice_get}
@@ -34,22 +35,31 @@ pub record Knows (p : Program) (constants : ℕ) (env : Env) : Type 0 where
   pub boolean : slice_get p.kinds 1 ≡ Some kind.Boolean
   pub char : slice_get p.kinds 2 ≡ Some kind.Char
   -- a declared constant is an ordinal
-  pub given : (k : ℕ) → suc k ≤ constants → (o : Ordinal) × (slice_get env.constants k ≡ Some (Some o)) × (is_ordinal (slice_get p.kinds o.kind) ≡ true)
+  pub given : (k : ℕ) → suc k ≤ constants → (o : Ordinal) × (slice_get env.constants k ≡ Some (Some o))
+      × (is_ordinal (slice_get p.kinds o.kind) ≡ true)
   -- all variables but indices have their types
-  pub variables : (x : ℕ) (v : Variable) → slice_get p.variables x ≡ Some v → NoIndex v.role → (variable_kind env x ≡ Some v.kind) × IsKind p v.kind
+  pub variables : (x : ℕ) (v : Variable) → slice_get p.variables x ≡ Some v → NoIndex v.role
+      → (variable_kind env x ≡ Some v.kind) × IsKind p v.kind
   -- there is room for the types of indices
   pub room : (x : ℕ) (v : Variable) → slice_get p.variables x ≡ Some v → suc x ≤ length env.variables
   pub roles : (x : ℕ) (v : Variable) → slice_get p.variables x ≡ Some v → slice_get env.roles x ≡ Some v.role
-  pub blocks : (f : ℕ) (b : Block) → slice_get p.blocks f ≡ Some b → slice_get env.blocks f ≡ Some (record { formals = b.formals; answer = b.answer })
+  pub blocks : (f : ℕ) (b : Block) → slice_get p.blocks f ≡ Some b
+      → slice_get env.blocks f ≡ Some (record { formals = b.formals; answer = b.answer })
   pub formals : (f : ℕ) (b : Block) → slice_get p.blocks f ≡ Some b → AreFormals p b.formals
-  pub answers : (f : ℕ) (b : Block) (x : ℕ) → slice_get p.blocks f ≡ Some b → b.answer ≡ Some x → (v : Variable) × (slice_get p.variables x ≡ Some v) × (v.role ≡ role.Answer) × (v.block ≡ f) × (is_ordinal (slice_get p.kinds v.kind) ≡ true)
+  pub answers : (f : ℕ) (b : Block) (x : ℕ) → slice_get p.blocks f ≡ Some b → b.answer ≡ Some x → (v : Variable)
+      × (slice_get p.variables x ≡ Some v) × (v.role ≡ role.Answer) × (v.block ≡ f)
+      × (is_ordinal (slice_get p.kinds v.kind) ≡ true)
   -- components have types that there are
-  pub elements : (k : ℕ) (low high : ℤ) (index element : ℕ) → slice_get p.kinds k ≡ Some (kind.Array low high index element) → IsKind p element × (is_ordinal (slice_get p.kinds index) ≡ true)
-  pub fields : (k : ℕ) (fs : List (List ℕ × ℕ)) (f : ℕ) (name : List ℕ) (t : ℕ) → slice_get p.kinds k ≡ Some (kind.Fields fs) → slice_get fs f ≡ Some (name, t) → IsKind p t
+  pub elements : (k : ℕ) (low high : ℤ) (index element : ℕ)
+      → slice_get p.kinds k ≡ Some (kind.Array low high index element) → IsKind p element
+      × (is_ordinal (slice_get p.kinds index) ≡ true)
+  pub fields : (k : ℕ) (fs : List (List ℕ × ℕ)) (f : ℕ) (name : List ℕ) (t : ℕ)
+      → slice_get p.kinds k ≡ Some (kind.Fields fs) → slice_get fs f ≡ Some (name, t) → IsKind p t
 
 -- the indices of the foralls around have their types
 abbrev pub HasIndices : Program → Env → List Scope → Type 0
-HasIndices p env sc = (x up : ℕ) (v : Variable) → level (is_index x) sc ≡ Some up → slice_get p.variables x ≡ Some v → (variable_kind env x ≡ Some v.kind) × (is_ordinal (slice_get p.kinds v.kind) ≡ true)
+HasIndices p env sc = (x up : ℕ) (v : Variable) → level (is_index x) sc ≡ Some up → slice_get p.variables x ≡ Some v
+    → (variable_kind env x ≡ Some v.kind) × (is_ordinal (slice_get p.kinds v.kind) ≡ true)
 
 -- the index of a forall has the type in the tree that its first limit has
 module _ (p : Program) where
@@ -70,7 +80,8 @@ module _ (p : Program) where
     IsTypedForm env (n.For x at from down to a) = IsTyped env a
     IsTypedForm env (n.Parallel bs) = AreTypedBranches env bs
     IsTypedForm env (n.Forall x from to a) =
-        ((v : Variable) → slice_get p.variables x ≡ Some v → (k : ℕ) → expression_kind env from ≡ Some k → v.kind ≡ k) × IsTyped (indexed env x (expression_kind env from)) a
+        ((v : Variable) → slice_get p.variables x ≡ Some v → (k : ℕ) → expression_kind env from ≡ Some k → v.kind ≡ k)
+        × IsTyped (indexed env x (expression_kind env from)) a
     IsTypedForm env (n.Assume e) = Unit {0}
 
     pub IsTypedOther : Env → n.Other → Type 0
@@ -87,4 +98,5 @@ module _ (p : Program) where
 
     pub AreTypedBranches : Env → n.Branches → Type 0
     AreTypedBranches env n.NoBranch = Unit {0}
-    AreTypedBranches env (n.Beside ss rest) = AreTyped (counted env) ss × AreTypedBranches (statements_after (counted env) ss) rest
+    AreTypedBranches env (n.Beside ss rest) = AreTyped (counted env) ss
+        × AreTypedBranches (statements_after (counted env) ss) rest

@@ -1,6 +1,8 @@
+-- None of this belongs to what the program promises: it is for contracts between crates.
 -- What the phase of names gives of a tree with numbers for names: each name in it is of a declaration that is visible
 -- there. The facts of code are led from it, part by part.
-use Rattle.std.specs.Prelude.{◌≡◌, ◌⊎◌, ℕ, suc, ◌≤◌, List, [], ◌∷◌, Option, Some, None, Bool, true, false, slice_get, drop}
+use Rattle.std.specs.Prelude.{◌≡◌, ◌⊎◌, ℕ, suc, ◌≤◌, List, [], ◌∷◌, Option, Some, None, Bool, true, false, slice_get}
+use Rattle.std.specs.Prelude.{drop}
 use Rattle.sp_tree.specs.declared.checked.Role.{Role}
 use Rattle.sp_tree.specs.declared.checked.Role.TheVariants as role
 use Rattle.sp_tree.specs.declared.meaning.StandardProcedure.{StandardProcedure}
@@ -58,9 +60,11 @@ module _ (p : Program) (constants : ℕ) where
   abbrev pub CallIn : List Scope → ℕ → Block → Type 0
   CallIn sc f b = (up : ℕ) × (slice_get p.blocks f ≡ Some b) × AroundIn sc f b.parent up
 
-  -- a local variable of the block, where no forall is around; in a forall no rule of names refuses it, but one of interference does
+  -- a local variable of the block, where no forall is around; in a forall no rule of names refuses it, but one of
+  -- interference does
   abbrev pub ForIn : List Scope → ℕ → Type 0
-  ForIn sc x = (v : Variable) × (slice_get p.variables x ≡ Some v) × (v.role ≡ role.Local) × ((level (is_block v.block) sc ≡ Some 0) ⊎ IsInForall sc)
+  ForIn sc x = (v : Variable) × (slice_get p.variables x ≡ Some v) × (v.role ≡ role.Local)
+      × ((level (is_block v.block) sc ≡ Some 0) ⊎ IsInForall sc)
 
   abbrev pub AimedExpression : n.Expression → Type 0
   AimedExpression (n.At at (n.Read (n.Entire x name ss))) = AimedIn x
@@ -75,7 +79,8 @@ module _ (p : Program) (constants : ℕ) where
     InForm sc (n.Quoted t) = Unit {0}
     InForm sc (n.Constant k) = suc k ≤ constants
     InForm sc (n.Read v) = InVariable sc v
-    InForm sc (n.Apply f at args) = (b : Block) × CallIn sc f b × ((x : ℕ) × (b.answer ≡ Some x)) × InActuals sc b.formals args
+    InForm sc (n.Apply f at args) = (b : Block) × CallIn sc f b × ((x : ℕ) × (b.answer ≡ Some x))
+        × InActuals sc b.formals args
     InForm sc (n.Standard f args) = (function_takes f (count args) ≡ true) × InArguments sc args
     InForm sc (n.Unary op a) = InExpression sc a
     InForm sc (n.Binary op a b) = InExpression sc a × InExpression sc b
@@ -94,7 +99,8 @@ module _ (p : Program) (constants : ℕ) where
     InActuals sc (x ∷ xs) n.NoArgument = ⊥
     InActuals sc [] (n.AndArgument a rest) = ⊥
     InActuals sc (x ∷ xs) (n.AndArgument (n.Pass e w) rest) =
-        InExpression sc e × ((v : Variable) → slice_get p.variables x ≡ Some v → v.role ≡ role.Reference → is_variable e ≡ true → AimedExpression e) × InActuals sc xs rest
+        InExpression sc e × ((v : Variable) → slice_get p.variables x ≡ Some v → v.role ≡ role.Reference
+        → is_variable e ≡ true → AimedExpression e) × InActuals sc xs rest
 
     pub InArguments : List Scope → n.Arguments → Type 0
     InArguments sc n.NoArgument = Unit {0}
@@ -131,16 +137,19 @@ module _ (p : Program) (constants : ℕ) where
     InStatementForm sc n.Empty = Unit {0}
     InStatementForm sc (n.Assign (n.Entire x at ss) e) = SeenIn sc x × AimedIn x × InSelectors sc ss × InExpression sc e
     InStatementForm sc (n.Call f args) = (b : Block) × CallIn sc f b × (b.answer ≡ None) × InActuals sc b.formals args
-    InStatementForm sc (n.Perform f args) = (procedure_takes f (count args) ≡ true) × AimsOf f args × InArguments sc args
+    InStatementForm sc (n.Perform f args) = (procedure_takes f (count args) ≡ true) × AimsOf f args
+        × InArguments sc args
     InStatementForm sc (n.Sequence ss) = InStatements sc ss
     InStatementForm sc (n.If e a o) = InExpression sc e × InStatement sc a × InOther sc o
     InStatementForm sc (n.While e a) = InExpression sc e × InStatement sc a
     InStatementForm sc (n.Repeat ss e) = InStatements sc ss × InExpression sc e
     InStatementForm sc (n.Case e arms) = InExpression sc e × InArms sc arms
-    InStatementForm sc (n.For x at from down to a) = ForIn sc x × InExpression sc from × InExpression sc to × InStatement sc a
+    InStatementForm sc (n.For x at from down to a) = ForIn sc x × InExpression sc from × InExpression sc to
+        × InStatement sc a
     InStatementForm sc (n.Parallel bs) = InBranches sc bs
     InStatementForm sc (n.Forall x from to a) =
-        ((v : Variable) × (slice_get p.variables x ≡ Some v) × (v.role ≡ role.Index)) × InExpression sc from × InExpression sc to × InStatement (OfIndex x ∷ sc) a
+        ((v : Variable) × (slice_get p.variables x ≡ Some v) × (v.role ≡ role.Index)) × InExpression sc from
+        × InExpression sc to × InStatement (OfIndex x ∷ sc) a
     InStatementForm sc (n.Assume e) = InExpression sc e
 
     pub InOther : List Scope → n.Other → Type 0

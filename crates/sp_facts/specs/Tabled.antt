@@ -1,3 +1,4 @@
+-- None of this belongs to what the program promises: it is for contracts between crates.
 -- The types in the tables of the phase of types are types that there are, so that each look-up by a number finds one.
 use Rattle.std.specs.Prelude.{◌≡◌, ℕ, suc, ◌≤◌, ℤ, List, [], ◌∷◌, Option, Some, None, slice_get}
 use Rattle.sp_tree.specs.declared.checked.KindOf.TheVariants as kind
@@ -19,5 +20,6 @@ pub record Tabled (kinds : ℕ) (env : Env) : Type 0 where
   pub standard : 3 ≤ kinds
   pub constants : (i : ℕ) → IsThere kinds (constant_kind env i)
   pub variables : AreThere kinds env.variables
-  pub elements : (k : ℕ) (low high : ℤ) (index element : ℕ) → slice_get env.kinds k ≡ Some (kind.Array low high index element) → suc element ≤ kinds
+  pub elements : (k : ℕ) (low high : ℤ) (index element : ℕ)
+      → slice_get env.kinds k ≡ Some (kind.Array low high index element) → suc element ≤ kinds
   pub fields : (k : ℕ) (fs : List (List ℕ × ℕ)) → slice_get env.kinds k ≡ Some (kind.Fields fs) → AreBefore kinds fs

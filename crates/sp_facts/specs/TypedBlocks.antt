@@ -1,3 +1,4 @@
+-- None of this belongs to what the program promises: it is for contracts between crates.
 -- The index of each forall has in the tree the type of its first limit. The phase of types gives it, and the code of a
 -- forall needs it.
 use Rattle.std.specs.Prelude.{ℕ, List, [], ◌∷◌}
@@ -10,4 +11,5 @@ use Rattle.sp_facts.specs.Knows.{IsTyped}
 abbrev pub AreBlocksTyped : Program → Env → List ℕ → List n.Block → Type 0
 AreBlocksTyped p env starts [] = Unit {0}
 AreBlocksTyped p env [] (b ∷ bs) = Unit {0}
-AreBlocksTyped p env (k ∷ starts) (b ∷ bs) = IsTyped p (started env k) b.body × AreBlocksTyped p (statement_after (started env k) b.body) starts bs
+AreBlocksTyped p env (k ∷ starts) (b ∷ bs) = IsTyped p (started env k) b.body
+    × AreBlocksTyped p (statement_after (started env k) b.body) starts bs

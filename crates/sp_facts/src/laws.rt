@@ -19,45 +19,51 @@ ghost use Rattle.sp_code.specs.Quiet.{IsQuiet};
 ghost use Rattle.sp_tree.specs.Formed.{IsFormed};
 ghost use Rattle.sp_facts.specs.Gives.{tree, IsNumberedTree, KeepsInterference, IsAccepted};
 
-/// Where no rule of names is broken, a declaration's number is its place: parents come before, and the parameters and the
-/// result of a block are its variables of these roles, in order.
+/// Where no rule of names is broken, a declaration's number is its place: parents come before, and the parameters and
+/// the result of a block are its variables of these roles, in order.
 pub fn names_number_the_tree()
     ensures { (s : Program) → names_broken s ≡ [] → IsNumberedTree (tree s) }
 {}
 
 /// Each name in each block is of a declaration that is visible there.
 pub fn names_are_visible()
-    ensures { (s : Program) → names_broken s ≡ [] → AreScoped (tree s) (length (program_named s).constants) 0 (program_named s).blocks }
+    ensures { (s : Program) → names_broken s ≡ []
+        → AreScoped (tree s) (length (program_named s).constants) 0 (program_named s).blocks }
 {}
 
 /// Arrays and records are of earlier types, and an array has an element.
 pub fn types_are_formed()
-    ensures { (s : Program) → names_broken s ≡ [] → types_broken (program_named s) ≡ [] → AreFormedKinds 0 (tree s).kinds }
+    ensures { (s : Program) → names_broken s ≡ [] → types_broken (program_named s) ≡ []
+        → AreFormedKinds 0 (tree s).kinds }
 {}
 
 /// A tree that breaks no rule of names and none of interference is free of interference.
 pub fn trees_are_free_of_interference()
-    ensures { (s : Program) → names_broken s ≡ [] → KeepsInterference (program_checked (program_named s)) → IsFreeOfInterference (tree s) }
+    ensures { (s : Program) → names_broken s ≡ [] → KeepsInterference (program_checked (program_named s))
+        → IsFreeOfInterference (tree s) }
 {}
 
 /// Where no rule of interference is broken, a call of a function leads to no statement that a function may not have.
 pub fn functions_are_quiet()
-    ensures { (c : Checked) → KeepsInterference c → (f x : ℕ) (b : Block) → slice_get (bare c).blocks f ≡ Some b → b.answer ≡ Some x → IsQuiet (bare c) f }
+    ensures { (c : Checked) → KeepsInterference c → (f x : ℕ) (b : Block) → slice_get (bare c).blocks f ≡ Some b
+        → b.answer ≡ Some x → IsQuiet (bare c) f }
 {}
 
 /// Each block is fine.
 pub fn blocks_are_fine()
     ensures { (s : Program) → names_broken s ≡ [] → types_broken (program_named s) ≡ [] → IsFreeOfInterference (tree s)
         → ((f x : ℕ) (b : Block) → slice_get (tree s).blocks f ≡ Some b → b.answer ≡ Some x → IsQuiet (tree s) f)
-        → (moves shares : Stmt → List ℕ) (f q : ℕ) (c : Block) → slice_get (tree s).blocks f ≡ Some c → IsFine (tree s) moves shares (IsQuiet (tree s)) f q c }
+        → (moves shares : Stmt → List ℕ) (f q : ℕ) (c : Block) → slice_get (tree s).blocks f ≡ Some c
+        → IsFine (tree s) moves shares (IsQuiet (tree s)) f q c }
 {}
 
-/// A text that breaks no rule has a tree that is formed, has small types and is free of interference, and each block of it is
-/// fine, whatever sets of variables its forks are given.
+/// A text that breaks no rule has a tree that is formed, has small types and is free of interference, and each block of
+/// it is fine, whatever sets of variables its forks are given.
 pub fn accepted_trees_are_fine()
     ensures formed { (text : List ℕ) (c : Checked) → IsAccepted text c → IsFormed (bare c) }
     ensures small { (text : List ℕ) (c : Checked) → IsAccepted text c → HasSmallTypes (bare c) }
     ensures free { (text : List ℕ) (c : Checked) → IsAccepted text c → IsFreeOfInterference (bare c) }
     ensures fine { (text : List ℕ) (c : Checked) → IsAccepted text c
-        → (moves shares : Stmt → List ℕ) (f q : ℕ) (b : Block) → slice_get (bare c).blocks f ≡ Some b → IsFine (bare c) moves shares (IsQuiet (bare c)) f q b }
+        → (moves shares : Stmt → List ℕ) (f q : ℕ) (b : Block) → slice_get (bare c).blocks f ≡ Some b
+        → IsFine (bare c) moves shares (IsQuiet (bare c)) f q b }
 {}

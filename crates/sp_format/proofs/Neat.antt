@@ -1,6 +1,8 @@
--- What the tokens of a program have next to each other: no star behind an opening parenthesis, and no dot or number behind a
--- dot.
-use Rattle.std.proofs.Common.{◌≡◌, ℕ, suc, Bool, true, false, ◌||◌, ◌&&◌, ◌==◌, cond, ◌<◌, length, map, List, [], ◌∷◌, ◌++◌, append_assoc, Option, Some, None, ◌⊎◌, inl, inr, refl, sym as back_of, ap, ◌∙◌, subst, arith}
+-- What the tokens of a program have next to each other: no star behind an opening parenthesis, and no dot or number
+-- behind a dot.
+use Rattle.std.proofs.Common.{◌≡◌, ℕ, suc, Bool, true, false, ◌||◌, ◌&&◌, ◌==◌, cond, ◌<◌, length, map, List, [], ◌∷◌}
+use Rattle.std.proofs.Common.{◌++◌, append_assoc, Option, Some, None, ◌⊎◌, inl, inr, refl, sym as back_of, ap, ◌∙◌}
+use Rattle.std.proofs.Common.{subst, arith}
 use Rattle.std.proofs.lemmas.Bool.Decides.{nat_tests}
 use Rattle.std.proofs.lemmas.Bool.{eqb-true, false_from_ne_true}
 use Rattle.sp_base.proofs.Facts.{first_true, second_true}
@@ -9,11 +11,14 @@ use Rattle.sp_tree.specs.declared.token.Kind.{Kind}
 use Rattle.sp_tree.specs.declared.token.Kind.TheVariants as kind
 use Rattle.sp_tree.specs.declared.operators.BinaryOp.{BinaryOp}
 use Rattle.sp_tree.specs.PlainSyntax.{Program}
-use Rattle.sp_tree.specs.Grammar.{IsRelational, equal, unequal, less, at_most, greater, at_least, IsAdding, plus, minus, or, IsMultiplying, times, quotient, modulo, and}
+use Rattle.sp_tree.specs.Grammar.{IsRelational, equal, unequal, less, at_most, greater, at_least, IsAdding, plus, minus}
+use Rattle.sp_tree.specs.Grammar.{or, IsMultiplying, times, quotient, modulo, and}
 use Rattle.sp_tree.specs.Viable.{Any, Spells}
-use Rattle.sp_grammar.specs.Symbols.{Symbol, AToken, AName, AProgram, AFormal, AStatement, MoreLabels, MoreArms, AnExpression, ARelation, ASimple, MoreTerms, ATerm, MoreFactors, AFactor, Value}
+use Rattle.sp_grammar.specs.Symbols.{Symbol, AToken, AName, AProgram, AFormal, AStatement, MoreLabels, MoreArms}
+use Rattle.sp_grammar.specs.Symbols.{AnExpression, ARelation, ASimple, MoreTerms, ATerm, MoreFactors, AFactor, Value}
 use Rattle.sp_grammar.specs.Table as row
-use Rattle.sp_grammar.specs.Table.{ConstantRow, PartsRow, FormRow, SelectorRow, FactorRow, SimpleRow, Row, Entry, rows, look, gap}
+use Rattle.sp_grammar.specs.Table.{ConstantRow, PartsRow, FormRow, SelectorRow, FactorRow, SimpleRow, Row, Entry, rows}
+use Rattle.sp_grammar.specs.Table.{look, gap}
 use Rattle.sp_grammar.specs.Machine.{Why, Bad, acts, Next, On, No, acted, after, going, End, Done, Stuck, run}
 use Rattle.sp_grammar.proofs.From.{found}
 use Rattle.sp_grammar.proofs.Run.{leads}
@@ -71,13 +76,15 @@ empty_holds : (q : List Symbol) → is_empty q ≡ true → holds_name q ≡ tru
 empty_holds [] h = refl
 empty_holds (s ∷ q) h = absurd cc
 
-choice : (a b : Bool) (x y x' y' : Bool) → (x ≡ true → x' ≡ true) → (y ≡ true → y' ≡ true) → cond a x (cond b y true) ≡ true → cond a x' (cond b y' true) ≡ true
+choice : (a b : Bool) (x y x' y' : Bool) → (x ≡ true → x' ≡ true) → (y ≡ true → y' ≡ true)
+    → cond a x (cond b y true) ≡ true → cond a x' (cond b y' true) ≡ true
 choice true b x y x' y' f g h = f h
 choice false true x y x' y' f g h = g h
 choice false false x y x' y' f g h = refl
 
 guard_ready : (k : Kind) (q : List Symbol) → guard k q ≡ true → ready k q ≡ true
-guard_ready (kind.Sign n) q h = choice (n == 9) (n == 14) (names_first q) (is_empty q) (holds_part q) (holds_name q) (names_hold q) (empty_holds q) h
+guard_ready (kind.Sign n) q h = choice (n == 9) (n == 14) (names_first q) (is_empty q) (holds_part q) (holds_name q)
+    (names_hold q) (empty_holds q) h
 guard_ready k q h = refl
 
 -- ---- what the rows leave
@@ -86,7 +93,8 @@ record Fine (k : Kind) (l : List Symbol) : Type 0 where
   same : (q : List Symbol) → neat (l ++ q) ≡ neat q
   ready' : (q : List Symbol) → ready k (l ++ q) ≡ true
 
-extend : {k : Kind} {l : List Symbol} → Fine k l → (m : List Symbol) → ((q : List Symbol) → neat (m ++ q) ≡ neat q) → Fine k (l ++ m)
+extend : {k : Kind} {l : List Symbol} → Fine k l → (m : List Symbol) → ((q : List Symbol) → neat (m ++ q) ≡ neat q)
+    → Fine k (l ++ m)
 extend {k} {l} f m g = record {
   same = λ q. ap neat (append_assoc l m q) ∙ f.same (m ++ q) ∙ g q;
   ready' = λ q. ap (ready k) (append_assoc l m q) ∙ f.ready' (m ++ q);
@@ -154,11 +162,16 @@ of_multiplying quotient q = refl
 of_multiplying modulo q = refl
 of_multiplying and q = refl
 
-by : {k : Kind} {l : List Symbol} (q : List Symbol) → Fine k l → neat q ≡ true → (neat (l ++ q) ≡ true) × (ready k (l ++ q) ≡ true)
+by : {k : Kind} {l : List Symbol} (q : List Symbol) → Fine k l → neat q ≡ true → (neat (l ++ q) ≡ true)
+    × (ready k (l ++ q) ≡ true)
 by q f h = (f.same q ∙ h, f.ready' q)
 
-row_neat : {s : Symbol} {k : Kind} {l : List Symbol} (q : List Symbol) → Row s k l → neat (s ∷ q) ≡ true → (neat (l ++ q) ≡ true) × (ready k (l ++ q) ≡ true)
-row_neat q (row.token {k = k}) h = (second_true (guard k q) (neat q) h, guard_ready k q (first_true (guard k q) (neat q) h))
+row_neat : {s : Symbol} {k : Kind} {l : List Symbol} (q : List Symbol) → Row s k l → neat (s ∷ q) ≡ true
+    → (neat (l ++ q) ≡ true) × (ready k (l ++ q) ≡ true)
+row_neat q (row.token {k = k}) h = (
+  second_true (guard k q) (neat q) h,
+  guard_ready k q (first_true (guard k q) (neat q) h),
+)
 row_neat q row.program h = (h, refl)
 row_neat q row.name h = (h, refl)
 row_neat q row.heading h = (h, refl)
@@ -213,8 +226,10 @@ row_neat q (row.factor r) h = by q (of_factor r) h
 row_neat q (row.negated r) h = by q (of_factor r) h
 row_neat q (row.reference r) h = by q (of_selector r) h
 row_neat q (row.selector r) h = by q (of_selector r) h
-row_neat q (row.target {d = d} r) h = by q (extend (of_selector r) (AToken (kind.Sign 13) ∷ AnExpression d ∷ []) (λ q. refl)) h
-row_neat q (row.next_arm {d = d} r) h = by q (extend (of_constant r) (MoreLabels ∷ AStatement d ∷ MoreArms d ∷ []) (λ q. refl)) h
+row_neat q (row.target {d = d} r) h = by q (extend (of_selector r) (AToken (kind.Sign 13) ∷ AnExpression d ∷ [])
+    (λ q. refl)) h
+row_neat q (row.next_arm {d = d} r) h = by q
+    (extend (of_constant r) (MoreLabels ∷ AStatement d ∷ MoreArms d ∷ []) (λ q. refl)) h
 row_neat q (row.expression {d = d} r) h = by q (extend (of_simple r) (ARelation (suc d) ∷ []) (λ q. refl)) h
 row_neat q (row.term {d = d} r) h = by q (extend (of_factor r) (MoreFactors d ∷ []) (λ q. refl)) h
 row_neat q (row.relation {d = d} r) h = (h, of_relation r (ASimple d ∷ q))
@@ -232,13 +247,16 @@ tail_neat s q h = h
 abbrev Goes : Token → List Symbol → Type 0
 Goes t n = (neat n ≡ true) × (ready t.kind n ≡ true)
 
-takes : (s : Symbol) (q n : List Symbol) (t : Token) (e : Entry (Row s)) → look (rows s) t.kind ≡ Some e → neat (s ∷ q) ≡ true → On (e.left ++ q) ≡ On n → Goes t n
+takes : (s : Symbol) (q n : List Symbol) (t : Token) (e : Entry (Row s)) → look (rows s) t.kind ≡ Some e
+    → neat (s ∷ q) ≡ true → On (e.left ++ q) ≡ On n → Goes t n
 takes s q n t e f h p =
     let same : e.left ++ q ≡ n = cc in
     let y = row_neat q e.row h in
     subst (Goes t) same (y.0, subst (λ k. ready k (e.left ++ q) ≡ true) (back_of (found (rows s) t.kind e f)) y.1)
 
-by_act : (s : Symbol) (q n : List Symbol) (t : Token) (o : Option (Entry (Row s))) (v : Option (Value s)) → look (rows s) t.kind ≡ o → neat (s ∷ q) ≡ true → (neat q ≡ true → after None q t ≡ On n → Goes t n) → acted (acts true o v) q (after None q t) ≡ On n → Goes t n
+by_act : (s : Symbol) (q n : List Symbol) (t : Token) (o : Option (Entry (Row s))) (v : Option (Value s))
+    → look (rows s) t.kind ≡ o → neat (s ∷ q) ≡ true → (neat q ≡ true → after None q t ≡ On n → Goes t n)
+    → acted (acts true o v) q (after None q t) ≡ On n → Goes t n
 by_act s q n t (Some e) v f h go p = takes s q n t e f h p
 by_act s q n t None (Some v) f h go p = go (tail_neat s q h) p
 by_act s q n t None None f h go p = absurd cc
@@ -248,10 +266,12 @@ step_neat [] n t h p = absurd cc
 step_neat (s ∷ q) n t h p = by_act s q n t (look (rows s) t.kind) (gap s t) refl h (λ h. step_neat q n t h) p
 
 -- a symbol that has no row for the token and no gap
-stuck : (s : Symbol) (q n : List Symbol) (t : Token) (k : Kind) → t.kind ≡ k → look (rows s) k ≡ None → gap s t ≡ None → after None (s ∷ q) t ≡ On n → ⊥
+stuck : (s : Symbol) (q n : List Symbol) (t : Token) (k : Kind) → t.kind ≡ k → look (rows s) k ≡ None → gap s t ≡ None
+    → after None (s ∷ q) t ≡ On n → ⊥
 stuck s q n t k e l g p =
     let f : look (rows s) t.kind ≡ None = ap (look (rows s)) e ∙ l in
-    let x : acted (acts true (look (rows s) t.kind) (gap s t)) q (after None q t) ≡ No Bad = (λ i. acted (acts true (f i) (g i)) q (after None q t)) in
+    let x : acted (acts true (look (rows s) t.kind) (gap s t)) q (after None q t) ≡ No Bad =
+    (λ i. acted (acts true (f i) (g i)) q (after None q t)) in
     let y : No Bad ≡ On n = back_of x ∙ p in cc
 
 no_star : (q n : List Symbol) (t : Token) → holds_part q ≡ true → t.kind ≡ kind.Sign 2 → after None q t ≡ On n → ⊥
@@ -261,7 +281,8 @@ no_star (AnExpression d ∷ q) n t h e p = stuck (AnExpression d) q n t (kind.Si
 no_star [] n t h e p = cc
 no_star (s ∷ q) n t h e p = cc
 
-no_dot : (q n : List Symbol) (t : Token) (b : ℕ) → holds_name q ≡ true → t.kind ≡ kind.Sign b → after None q t ≡ On n → ⊥
+no_dot : (q n : List Symbol) (t : Token) (b : ℕ) → holds_name q ≡ true → t.kind ≡ kind.Sign b → after None q t ≡ On n
+    → ⊥
 no_dot [] n t b h e p = cc
 no_dot (AName ∷ q) n t b h e p = stuck AName q n t (kind.Sign b) e refl refl p
 no_dot (s ∷ q) n t b h e p = cc
@@ -275,11 +296,15 @@ if_false b x {y} e h = let f : cond false x y ≡ true = subst (λ b. cond b x y
 ne_by : (a : ℕ) → (a == 14) ≡ true → (a == 9) ≡ false
 ne_by a h = grind (arith, nat_tests)
 
-star_by : (q n : List Symbol) (t : Token) (a b : ℕ) → ready (kind.Sign a) q ≡ true → t.kind ≡ kind.Sign b → after None q t ≡ On n → (x y z : Bool) → (a == 9) ≡ x → (b == 2) ≡ y → (a == 14) ≡ z → (w : Bool) → ((x && y) || (z && w)) ≡ false
-star_by q n t a b h e p true true z f g i w = absurd (no_star q n t (if_true (a == 9) _ f h) (e ∙ ap kind.Sign (eqb-true b 2 g)) p)
+star_by : (q n : List Symbol) (t : Token) (a b : ℕ) → ready (kind.Sign a) q ≡ true → t.kind ≡ kind.Sign b
+    → after None q t ≡ On n → (x y z : Bool) → (a == 9) ≡ x → (b == 2) ≡ y → (a == 14) ≡ z → (w : Bool)
+    → ((x && y) || (z && w)) ≡ false
+star_by q n t a b h e p true true z f g i w =
+    absurd (no_star q n t (if_true (a == 9) _ f h) (e ∙ ap kind.Sign (eqb-true b 2 g)) p)
 star_by q n t a b h e p true false true f g i w = absurd (let j = ne_by a i in cc)
 star_by q n t a b h e p true false false f g i w = refl
-star_by q n t a b h e p false y true f g i w = absurd (no_dot q n t b (if_true (a == 14) _ i (if_false (a == 9) _ f h)) e p)
+star_by q n t a b h e p false y true f g i w =
+    absurd (no_dot q n t b (if_true (a == 14) _ i (if_false (a == 9) _ f h)) e p)
 star_by q n t a b h e p false y false f g i w = refl
 
 no_digits : (q n : List Symbol) (t : Token) → holds_name q ≡ true → t.kind ≡ kind.Number → after None q t ≡ On n → ⊥
@@ -287,9 +312,12 @@ no_digits [] n t h e p = cc
 no_digits (AName ∷ q) n t h e p = stuck AName q n t kind.Number e refl refl p
 no_digits (s ∷ q) n t h e p = cc
 
-no_clash : (q n : List Symbol) (t : Token) (j k : Kind) → ready j q ≡ true → t.kind ≡ k → after None q t ≡ On n → clash j k ≡ false
-no_clash q n t (kind.Sign a) (kind.Sign b) h e p = star_by q n t a b h e p (a == 9) (b == 2) (a == 14) refl refl refl (b == 14 || b == 18)
-no_clash q n t (kind.Sign a) kind.Number h e p = false_from_ne_true (a == 14) (λ f. no_digits q n t (if_true (a == 14) _ f (if_false (a == 9) _ (ne_by a f) h)) e p)
+no_clash : (q n : List Symbol) (t : Token) (j k : Kind) → ready j q ≡ true → t.kind ≡ k → after None q t ≡ On n
+    → clash j k ≡ false
+no_clash q n t (kind.Sign a) (kind.Sign b) h e p =
+    star_by q n t a b h e p (a == 9) (b == 2) (a == 14) refl refl refl (b == 14 || b == 18)
+no_clash q n t (kind.Sign a) kind.Number h e p =
+    false_from_ne_true (a == 14) (λ f. no_digits q n t (if_true (a == 14) _ f (if_false (a == 9) _ (ne_by a f) h)) e p)
 no_clash q n t j k h e p = refl
 
 -- ---- all tokens
@@ -302,18 +330,25 @@ apart_from j (k ∷ ks) = (clash j k ≡ false) × apart_from k ks
 abbrev Behind : Kind → List Token → Type 0
 Behind j ts = apart_from j (map (λ t. t.kind) ts)
 
-run_apart_by : (t : Token) (ts : List Token) (q : List Symbol) (j : Kind) (n : Next) → after None q t ≡ n → neat q ≡ true → ready j q ≡ true → ((s : List Symbol) → neat s ≡ true → ready t.kind s ≡ true → run None ts s ≡ Done → Behind t.kind ts) → going n (t ∷ ts) (run None ts) ≡ Done → Behind j (t ∷ ts)
-run_apart_by t ts q j (On s) e h r go d = let y = step_neat q s t h e in (no_clash q s t j t.kind r refl e, go s y.0 y.1 d)
+run_apart_by : (t : Token) (ts : List Token) (q : List Symbol) (j : Kind) (n : Next) → after None q t ≡ n
+    → neat q ≡ true → ready j q ≡ true → ((s : List Symbol) → neat s ≡ true → ready t.kind s ≡ true
+    → run None ts s ≡ Done → Behind t.kind ts) → going n (t ∷ ts) (run None ts) ≡ Done → Behind j (t ∷ ts)
+run_apart_by t ts q j (On s) e h r go d = let y = step_neat q s t h e in
+    (no_clash q s t j t.kind r refl e, go s y.0 y.1 d)
 run_apart_by t ts q j (No w) e h r go d = absurd cc
 
-run_apart : (ts : List Token) (q : List Symbol) (j : Kind) → neat q ≡ true → ready j q ≡ true → run None ts q ≡ Done → Behind j ts
+run_apart : (ts : List Token) (q : List Symbol) (j : Kind) → neat q ≡ true → ready j q ≡ true → run None ts q ≡ Done
+    → Behind j ts
 run_apart [] q j h r d = tt
-run_apart (t ∷ ts) q j h r d = run_apart_by t ts q j (after None q t) refl h r (λ s h r d. run_apart ts s t.kind h r d) d
+run_apart (t ∷ ts) q j h r d = run_apart_by t ts q j (after None q t) refl h r (λ s h r d. run_apart ts s t.kind h r d)
+    d
 
 far_by : {x : End} → (x ≡ Done) ⊎ ((w : Why) × (us : List Token) × (length us < 0) × (x ≡ Stuck w us)) → x ≡ Done
 far_by (inl q) = q
 far_by (inr (w, us, h, q)) = absurd (omega arith)
 
 -- the tokens of a program do not clash
-pub program_apart : (text : List ℕ) (ts : List Token) (p : Program) → Spells text ts p → apart_from kind.Name (map (λ t. t.kind) ts)
-program_apart text ts p h = run_apart ts (AProgram ∷ []) kind.Name refl refl (far_by (leads text Any None 0 (λ d ts o. inl refl) (program text Any h) []).by)
+pub program_apart : (text : List ℕ) (ts : List Token) (p : Program) → Spells text ts p
+    → apart_from kind.Name (map (λ t. t.kind) ts)
+program_apart text ts p h = run_apart ts (AProgram ∷ []) kind.Name refl refl
+    (far_by (leads text Any None 0 (λ d ts o. inl refl) (program text Any h) []).by)

@@ -1,5 +1,6 @@
 -- The canonical text of a program spells the same tree but for places.
-use Rattle.std.proofs.Common.{◌≡◌, ℕ, suc, ◌-◌, List, [], ◌∷◌, ◌++◌, length, length-append, append_assoc, take, drop, true, false, Option, Some, None, refl, sym as back_of, ap, ap₂, ◌∙◌, subst, arith}
+use Rattle.std.proofs.Common.{◌≡◌, ℕ, suc, ◌-◌, List, [], ◌∷◌, ◌++◌, length, length-append, append_assoc, take, drop}
+use Rattle.std.proofs.Common.{true, false, Option, Some, None, refl, sym as back_of, ap, ap₂, ◌∙◌, subst, arith}
 use Rattle.std.proofs.Math.Seq.{drop-append_seam}
 use Rattle.sp_base.specs.declared.place.Place.{Place}
 use Rattle.sp_tree.specs.declared.token.Token.{Token}
@@ -11,7 +12,8 @@ use Rattle.sp_tree.specs.declared.syntax.SynKind.TheVariants as kinds
 use Rattle.sp_tree.specs.declared.syntax.SynValue.TheVariants as value
 use Rattle.sp_tree.specs.Words as w
 use Rattle.sp_tree.specs.Grammar.{moved, declared}
-use Rattle.sp_tree.specs.Lexemes.{BraceBody, brace_ends, brace_byte, StarBody, star_ends, star_byte, Comment, brace_comment, star_comment}
+use Rattle.sp_tree.specs.Lexemes.{BraceBody, brace_ends, brace_byte, StarBody, star_ends, star_byte, Comment}
+use Rattle.sp_tree.specs.Lexemes.{brace_comment, star_comment}
 use Rattle.sp_tree.specs.Spelling.{spelling, name_of, number_of, quoted_of, digits_value, within_quotes}
 use Rattle.sp_tree.specs.PlainSyntax as tree
 use Rattle.sp_tree.specs.PlainSyntax.{Program}
@@ -22,7 +24,9 @@ use Rattle.sp_tree.specs.Breaches.{IsTree}
 use Rattle.sp_grammar.specs.Symbols as sym
 use Rattle.sp_grammar.specs.Symbols.{Symbol, Value, Values, part, split}
 use Rattle.sp_grammar.specs.Table as row
-use Rattle.sp_grammar.specs.Table.{ConstantRow, PartsRow, FormRow, SelectorRow, FactorRow, SimpleRow, Row, Entry, rows, look, gap, build, constant_value, parts_value, form_value, selector_value, factor_value, simple_value}
+use Rattle.sp_grammar.specs.Table.{ConstantRow, PartsRow, FormRow, SelectorRow, FactorRow, SimpleRow, Row, Entry, rows}
+use Rattle.sp_grammar.specs.Table.{look, gap, build, constant_value, parts_value, form_value, selector_value}
+use Rattle.sp_grammar.specs.Table.{factor_value, simple_value}
 use Rattle.sp_grammar.specs.Derives.{Begins, Derives, takes, skips, DerivesAll, none, and}
 use Rattle.sp_grammar.proofs.From.{found, from}
 use Rattle.sp_grammar.proofs.To as to
@@ -58,22 +62,29 @@ module _ (text other : List ℕ) where
   -- ---- a row gives the same of both
 
   module _ (t u : Token) (at : t.at ≡ u.at) where
-    constant_like : {k : Kind} {l : List Symbol} (c : ConstantRow k l) → Says k t u → (vs : Values l) → constant_value text c t vs ≡ constant_value other c u vs
-    constant_like row.constant_number h vs = ap₂ (λ (p : Place) n. record { at = p; negative = None; value = value.Number n }) at h
-    constant_like row.constant_name h vs = ap₂ (λ (p : Place) (n : Name). record { at = p; negative = None; value = value.Named n }) at h
-    constant_like row.constant_text h vs = ap₂ (λ (p : Place) (n : List ℕ). record { at = p; negative = None; value = value.Quoted n }) at h
+    constant_like : {k : Kind} {l : List Symbol} (c : ConstantRow k l) → Says k t u → (vs : Values l)
+        → constant_value text c t vs ≡ constant_value other c u vs
+    constant_like row.constant_number h vs =
+        ap₂ (λ (p : Place) n. record { at = p; negative = None; value = value.Number n }) at h
+    constant_like row.constant_name h vs = ap₂
+        (λ (p : Place) (n : Name). record { at = p; negative = None; value = value.Named n }) at h
+    constant_like row.constant_text h vs = ap₂
+        (λ (p : Place) (n : List ℕ). record { at = p; negative = None; value = value.Quoted n }) at h
     constant_like row.constant_plus h vs = ap (λ (p : Place). record { at = p; negative = Some false; value = vs.0 }) at
     constant_like row.constant_minus h vs = ap (λ (p : Place). record { at = p; negative = Some true; value = vs.0 }) at
 
-    parts_like : {d : ℕ} {k : Kind} {l : List Symbol} (c : PartsRow d k l) (vs : Values l) → parts_value text c t vs ≡ parts_value other c u vs
-    parts_like row.parts_begin (s, (ss, e)) = ap (λ (p : Place). record { parts = tree.NoPart; body = tree.Does p (tree.Sequence (tree.AndThen s ss)) }) at
+    parts_like : {d : ℕ} {k : Kind} {l : List Symbol} (c : PartsRow d k l) (vs : Values l)
+        → parts_value text c t vs ≡ parts_value other c u vs
+    parts_like row.parts_begin (s, (ss, e)) =
+        ap (λ (p : Place). record { parts = tree.NoPart; body = tree.Does p (tree.Sequence (tree.AndThen s ss)) }) at
     parts_like row.parts_const (n, (e, (c, (s, (b, u))))) = refl
     parts_like row.parts_type (n, (e, (c, (s, (b, u))))) = refl
     parts_like row.parts_var (n, (ns, (c, (k, (s, (b, u)))))) = refl
     parts_like row.parts_procedure (n, (fs, (c, (b, (s, (m, u)))))) = refl
     parts_like row.parts_function (n, (fs, (c, (a, (e, (b, (s, (m, u)))))))) = refl
 
-    form_like : {d : ℕ} {k : Kind} {l : List Symbol} (c : FormRow d k l) → Says k t u → (vs : Values l) → form_value text c t vs ≡ form_value other c u vs
+    form_like : {d : ℕ} {k : Kind} {l : List Symbol} (c : FormRow d k l) → Says k t u → (vs : Values l)
+        → form_value text c t vs ≡ form_value other c u vs
     form_like row.form_name h (f, v) = ap f h
     form_like row.form_begin h (s, (ss, v)) = refl
     form_like row.form_if h (e, (x, (s, (o, v)))) = refl
@@ -85,23 +96,28 @@ module _ (text other : List ℕ) where
     form_like row.form_forall h (n, (b, (x, (z, (y, (i, (s, v))))))) = refl
     form_like row.form_assume h (e, v) = refl
 
-    selector_like : {d : ℕ} {k : Kind} {l : List Symbol} (c : SelectorRow d k l) (vs : Values l) → selector_value text c t vs ≡ selector_value other c u vs
+    selector_like : {d : ℕ} {k : Kind} {l : List Symbol} (c : SelectorRow d k l) (vs : Values l)
+        → selector_value text c t vs ≡ selector_value other c u vs
     selector_like row.selector_index (e, (ss, v)) = refl
     selector_like row.selector_field (n, (ss, v)) = refl
 
-    factor_like : {d : ℕ} {k : Kind} {l : List Symbol} (c : FactorRow d k l) → Says k t u → (vs : Values l) → factor_value text c t vs ≡ factor_value other c u vs
+    factor_like : {d : ℕ} {k : Kind} {l : List Symbol} (c : FactorRow d k l) → Says k t u → (vs : Values l)
+        → factor_value text c t vs ≡ factor_value other c u vs
     factor_like row.factor_number h vs = ap₂ (λ (p : Place) n. tree.At p (tree.Number n)) at h
     factor_like row.factor_text h vs = ap₂ (λ (p : Place) (n : List ℕ). tree.At p (tree.Quoted n)) at h
     factor_like row.factor_name h (f, v) = ap₂ (λ (p : Place) (n : Name). tree.At p (f n)) at h
     factor_like row.factor_open h (e, v) = ap (λ (p : Place). moved p e) at
     factor_like row.factor_not h (e, v) = ap (λ (p : Place). tree.At p (tree.Unary unary.Not e)) at
 
-    simple_like : {d : ℕ} {k : Kind} {l : List Symbol} (c : SimpleRow d k l) → Says k t u → (vs : Values l) → simple_value text c t vs ≡ simple_value other c u vs
-    simple_like (row.simple_factor {d = d} {l = l} c) h vs = let p = split l (sym.MoreFactors d ∷ sym.MoreTerms d ∷ []) vs in ap (λ x. p.1.1.0 (p.1.0 x)) (factor_like c h p.0)
+    simple_like : {d : ℕ} {k : Kind} {l : List Symbol} (c : SimpleRow d k l) → Says k t u → (vs : Values l)
+        → simple_value text c t vs ≡ simple_value other c u vs
+    simple_like (row.simple_factor {d = d} {l = l} c) h vs = let p =
+        split l (sym.MoreFactors d ∷ sym.MoreTerms d ∷ []) vs in ap (λ x. p.1.1.0 (p.1.0 x)) (factor_like c h p.0)
     simple_like row.simple_plus h (a, (f, v)) = ap (λ (p : Place). f (tree.At p (tree.Unary unary.Plus a))) at
     simple_like row.simple_minus h (a, (f, v)) = ap (λ (p : Place). f (tree.At p (tree.Unary unary.Minus a))) at
 
-    build_like : {q : Symbol} {k : Kind} {l : List Symbol} (c : Row q k l) → Says k t u → (vs : Values l) → build text c t vs ≡ build other c u vs
+    build_like : {q : Symbol} {k : Kind} {l : List Symbol} (c : Row q k l) → Says k t u → (vs : Values l)
+        → build text c t vs ≡ build other c u vs
     build_like row.token h vs = refl
     build_like row.name h vs = h
     build_like row.program h (n, (x, (s, (b, v)))) = refl
@@ -119,7 +135,8 @@ module _ (text other : List ℕ) where
     build_like row.fields_go_on h (gs, v) = refl
     build_like row.no_field h vs = refl
     build_like row.next_field h (ns, (c, (k, (gs, v)))) = ap (λ (n : Name). record { names = n ∷ ns; kind = k } ∷ gs) h
-    build_like row.by_value h (ns, (c, (k, v))) = ap (λ (n : Name). record { by_reference = false; names = n ∷ ns; kind = k }) h
+    build_like row.by_value h (ns, (c, (k, v))) =
+        ap (λ (n : Name). record { by_reference = false; names = n ∷ ns; kind = k }) h
     build_like row.by_reference h (n, (ns, (c, (k, v)))) = refl
     build_like row.formals_end h vs = refl
     build_like row.next_formal h (f, (fs, v)) = refl
@@ -134,7 +151,9 @@ module _ (text other : List ℕ) where
     build_like row.next_variable h (ns, (c, (k, (s, (b, v))))) = ap (λ (n : Name). declared (tree.Var (n ∷ ns) k) b) h
     build_like (row.statement c) h vs = ap₂ (λ (p : Place) f. tree.Does p f) at (form_like c h vs)
     build_like row.becomes h (e, v) = refl
-    build_like (row.target {d = d} {l = l} c) h vs = let p = split l (sym.AToken w.Becomes ∷ sym.AnExpression d ∷ []) vs in ap (λ x. λ n. tree.Assign (tree.Entire n x) p.1.1.0) (selector_like c p.0)
+    build_like (row.target {d = d} {l = l} c) h vs = let p =
+        split l (sym.AToken w.Becomes ∷ sym.AnExpression d ∷ []) vs in
+        ap (λ x. λ n. tree.Assign (tree.Entire n x) p.1.1.0) (selector_like c p.0)
     build_like row.call h (e, (m, (rest, v))) = refl
     build_like row.other h (s, v) = refl
     build_like row.next_statement h (s, (ss, v)) = refl
@@ -145,14 +164,18 @@ module _ (text other : List ℕ) where
     build_like row.arms_end h vs = refl
     build_like row.arms_go_on h (rest, v) = refl
     build_like row.no_arm h vs = refl
-    build_like (row.next_arm {d = d} {l = l} c) h vs = let p = split l (sym.MoreLabels ∷ sym.AStatement d ∷ sym.MoreArms d ∷ []) vs in ap (λ x. tree.Or (tree.On (x ∷ p.1.0) p.1.1.0) p.1.1.1.0) (constant_like c h p.0)
+    build_like (row.next_arm {d = d} {l = l} c) h vs = let p =
+        split l (sym.MoreLabels ∷ sym.AStatement d ∷ sym.MoreArms d ∷ []) vs in
+        ap (λ x. tree.Or (tree.On (x ∷ p.1.0) p.1.1.0) p.1.1.1.0) (constant_like c h p.0)
     build_like row.upward h vs = refl
     build_like row.downward h vs = refl
-    build_like (row.expression {d = d} {l = l} c) h vs = let p = split l (sym.ARelation (suc d) ∷ []) vs in ap p.1.0 (simple_like c h p.0)
+    build_like (row.expression {d = d} {l = l} c) h vs = let p = split l (sym.ARelation (suc d) ∷ []) vs in
+        ap p.1.0 (simple_like c h p.0)
     build_like (row.relation o) h (b, v) = refl
     build_like (row.simple c) h vs = simple_like c h vs
     build_like (row.next_term o) h (b, (f, v)) = refl
-    build_like (row.term {d = d} {l = l} c) h vs = let p = split l (sym.MoreFactors d ∷ []) vs in ap p.1.0 (factor_like c h p.0)
+    build_like (row.term {d = d} {l = l} c) h vs = let p = split l (sym.MoreFactors d ∷ []) vs in
+        ap p.1.0 (factor_like c h p.0)
     build_like (row.next_factor o) h (b, (f, v)) = refl
     build_like (row.factor c) h vs = factor_like c h vs
     build_like (row.negated c) h vs = factor_like c h vs
@@ -186,21 +209,29 @@ module _ (text other : List ℕ) where
   may_begin (Some d) us = tt
 
   mutual
-    derives : {q : Symbol} {ts r : List Token} {v : Value q} → Derives text Any q ts r v → (us : List Token) → AllLike ts us → Ends q v us r
+    derives : {q : Symbol} {ts r : List Token} {v : Value q} → Derives text Any q ts r v → (us : List Token)
+        → AllLike ts us → Ends q v us r
     derives (takes t e l b x) [] a = absurd a
     derives {q} (takes t e {vs = vs} l b x) (u ∷ us) a =
         let y = derives_all x us a.1 in record {
           left = y.left;
           like = y.like;
-          derived = subst (λ v. Derives other Any q (u ∷ us) y.left v) (back_of (build_like t u a.0.at e.row (subst (λ k. Says k t u) (found (rows q) t.kind e l) a.0.says) vs))
+          derived = subst (λ v. Derives other Any q (u ∷ us) y.left v)
+              (back_of (build_like t u a.0.at e.row (subst (λ k. Says k t u) (found (rows q) t.kind e l) a.0.says) vs))
               (takes u e (ap (look (rows q)) (back_of a.0.kind) ∙ l) (may_begin (part q) (u ∷ us)) y.derived);
         }
     derives (skips t l g) [] a = absurd a
-    derives {q} (skips t l g) (u ∷ us) a = record { left = u ∷ us; like = a; derived = skips u (ap (look (rows q)) (back_of a.0.kind) ∙ l) (back_of (gap_like t u a.0.at q) ∙ g) }
+    derives {q} (skips t l g) (u ∷ us) a = record {
+      left = u ∷ us;
+      like = a;
+      derived = skips u (ap (look (rows q)) (back_of a.0.kind) ∙ l) (back_of (gap_like t u a.0.at q) ∙ g);
+    }
 
-    derives_all : {l : List Symbol} {ts r : List Token} {vs : Values l} → DerivesAll text Any l ts r vs → (us : List Token) → AllLike ts us → EndsAll l vs us r
+    derives_all : {l : List Symbol} {ts r : List Token} {vs : Values l} → DerivesAll text Any l ts r vs
+        → (us : List Token) → AllLike ts us → EndsAll l vs us r
     derives_all none us a = record { left = us; like = a; derived = none }
-    derives_all (and x y) us a = let h = derives x us a in let k = derives_all y h.left h.like in record { left = k.left; like = k.like; derived = and h.derived k.derived }
+    derives_all (and x y) us a = let h = derives x us a in let k = derives_all y h.left h.like in
+        record { left = k.left; like = k.like; derived = and h.derived k.derived }
 
   spells_like : (ts us : List Token) (p : Program) → AllLike ts us → Spells text ts p → Spells other us p
   spells_like ts us p a x =
@@ -241,7 +272,8 @@ tail_front (there {b = b} x) = further b (tail_front x)
 data Itemed (text : List ℕ) : List Item → List Token → Type 0 where
   no_more : Itemed text [] []
   over : {bs : List ℕ} {is : List Item} {ts : List Token} → Itemed text is ts → Itemed text (item None bs ∷ is) ts
-  on : {k : Kind} {bs : List ℕ} {is : List Item} {ts : List Token} (t : Token) → t.kind ≡ k → spelled (Some k) (spelling text t) ≡ bs → Itemed text is ts → Itemed text (item (Some k) bs ∷ is) (t ∷ ts)
+  on : {k : Kind} {bs : List ℕ} {is : List Item} {ts : List Token} (t : Token) → t.kind ≡ k
+      → spelled (Some k) (spelling text t) ≡ bs → Itemed text is ts → Itemed text (item (Some k) bs ∷ is) (t ∷ ts)
 
 record Listed (text bs : List ℕ) (is : List Item) : Type 0 where
   tokens : List Token
@@ -249,45 +281,59 @@ record Listed (text bs : List ℕ) (is : List Item) : Type 0 where
   itemed : Itemed text is tokens
 
 module _ (text : List ℕ) where
-  spelling_of : (k : Kind) (bs u before skipped : List ℕ) → text ≡ before ++ bs → bs ≡ skipped ++ u → spelling text (token_from text k bs u) ≡ front bs u
+  spelling_of : (k : Kind) (bs u before skipped : List ℕ) → text ≡ before ++ bs → bs ≡ skipped ++ u
+      → spelling text (token_from text k bs u) ≡ front bs u
   spelling_of k bs u before skipped e f =
       let m : offset text bs ≡ length before = omega (arith, ap length e, length-append before bs) in
-      let n : offset text u - offset text bs ≡ length bs - length u = omega (arith, ap length e, length-append before bs, ap length f, length-append skipped u) in
-      let d : drop (offset text bs) text ≡ bs = ap (λ n. drop n text) m ∙ ap (drop (length before)) e ∙ drop-append_seam before bs in
+      let n : offset text u - offset text bs ≡ length bs - length u =
+      omega (arith, ap length e, length-append before bs, ap length f, length-append skipped u) in
+      let d : drop (offset text bs) text ≡ bs = ap (λ n. drop n text) m ∙ ap (drop (length before)) e
+      ∙ drop-append_seam before bs in
       ap (λ n. take n (drop (offset text bs) text)) n ∙ ap (take (length bs - length u)) d
 
   listed : {bs : List ℕ} {is : List Item} → (before : List ℕ) → text ≡ before ++ bs → HasItems bs is → Listed text bs is
   listed before e i.no_item = record { tokens = []; scans = s.nothing; itemed = no_more }
   listed {bs = b ∷ bs} before e (i.blank b' h x) =
-      let y = listed (before ++ b ∷ []) (e ∙ back_of (append_assoc before (b ∷ []) bs)) x in record { tokens = y.tokens; scans = s.blank b h y.scans; itemed = y.itemed }
+      let y = listed (before ++ b ∷ []) (e ∙ back_of (append_assoc before (b ∷ []) bs)) x in
+      record { tokens = y.tokens; scans = s.blank b h y.scans; itemed = y.itemed }
   listed {bs} before e (i.comment {u = u} c x) =
       let z = comment_front c in
-      let y = listed (before ++ z.0) (e ∙ ap (λ l. before ++ l) z.1 ∙ back_of (append_assoc before z.0 u)) x in record { tokens = y.tokens; scans = s.comment c y.scans; itemed = over y.itemed }
+      let y = listed (before ++ z.0) (e ∙ ap (λ l. before ++ l) z.1 ∙ back_of (append_assoc before z.0 u)) x in
+      record { tokens = y.tokens; scans = s.comment c y.scans; itemed = over y.itemed }
   listed {bs} before e (i.token {u = u} k o l x) =
       let z = tail_front (lexeme_tail l.spelled) in
       let y = listed (before ++ z.0) (e ∙ ap (λ l. before ++ l) z.1 ∙ back_of (append_assoc before z.0 u)) x in record {
         tokens = token_from text k bs u ∷ y.tokens;
         scans = s.token k o l y.scans;
-        itemed = on (token_from text k bs u) refl (ap (spelled (Some k)) (spelling_of k bs u before z.0 e z.1)) y.itemed;
+        itemed = on (token_from text k bs u) refl (ap (spelled (Some k)) (spelling_of k bs u before z.0 e z.1))
+            y.itemed;
       }
 
 -- tokens of the same items say the same
-said : (text other bs : List ℕ) (t u : Token) (k : Kind) → spelled (Some k) (spelling text t) ≡ bs → spelled (Some k) (spelling other u) ≡ bs → Says text other k t (record u { at = t.at })
+said : (text other bs : List ℕ) (t u : Token) (k : Kind) → spelled (Some k) (spelling text t) ≡ bs
+    → spelled (Some k) (spelling other u) ≡ bs → Says text other k t (record u { at = t.at })
 said text other bs t u kind.Name e f = ap (λ (x : List ℕ). record { text = x; at = t.at }) (e ∙ back_of f)
 said text other bs t u kind.Number e f = ap (digits_value 0) (e ∙ back_of f)
 said text other bs t u kind.Text e f = ap (λ (x : List ℕ). within_quotes (drop 1 x)) (e ∙ back_of f)
 said text other bs t u (kind.Word n) e f = tt
 said text other bs t u (kind.Sign n) e f = tt
 
-alike : (text other : List ℕ) {is : List Item} {ts us : List Token} → Itemed text is ts → Itemed other is us → AllLike text other ts (at_places us ts)
+alike : (text other : List ℕ) {is : List Item} {ts us : List Token} → Itemed text is ts → Itemed other is us
+    → AllLike text other ts (at_places us ts)
 alike text other no_more no_more = tt
 alike text other (over x) (over y) = alike text other x y
 alike text other (on {k = k} {bs = bs} t p e x) (on u q f y) = (
-  record { kind = p ∙ back_of q; at = refl; says = subst (λ k. Says text other k t (record u { at = t.at })) (back_of p) (said text other bs t u k e f) },
+  record {
+    kind = p ∙ back_of q;
+    at = refl;
+    says =
+        subst (λ k. Says text other k t (record u { at = t.at })) (back_of p) (said text other bs t u k e f);
+  },
   alike text other x y,
 )
 
-as_many : (text other : List ℕ) {is : List Item} {ts us : List Token} → Itemed text is ts → Itemed other is us → length us ≡ length ts
+as_many : (text other : List ℕ) {is : List Item} {ts us : List Token} → Itemed text is ts → Itemed other is us
+    → length us ≡ length ts
 as_many text other no_more no_more = refl
 as_many text other (over x) (over y) = as_many text other x y
 as_many text other (on t p e x) (on u q f y) = ap suc (as_many text other x y)
@@ -305,5 +351,6 @@ same_tree text out p t c =
       are_tokens = subst (IsTokens text) is t.are_tokens;
       are_others = subst (IsTokens out) us other.1.are_tokens;
       as_many = as_many text out a.itemed b.itemed;
-      alike = spells_like text out a.tokens (at_places b.tokens a.tokens) p (alike text out a.itemed b.itemed) (subst (λ k. Spells text k p) is t.spells);
+      alike = spells_like text out a.tokens (at_places b.tokens a.tokens) p (alike text out a.itemed b.itemed)
+          (subst (λ k. Spells text k p) is t.spells);
     }

@@ -1,5 +1,7 @@
 -- The items of bytes are one list, and the layout goes along them.
-use Rattle.std.proofs.Common.{◌≡◌, ℕ, zero, suc, ◌+◌, ◌-◌, ◌<◌, ◌≤◌, Bool, true, false, cond, List, [], ◌∷◌, ◌++◌, length, length-append, append_assoc, Option, Some, None, ◌⊎◌, inl, inr, refl, sym as back_of, ap, ◌∙◌, subst, arith}
+use Rattle.std.proofs.Common.{◌≡◌, ℕ, zero, suc, ◌+◌, ◌-◌, ◌<◌, ◌≤◌, Bool, true, false, cond, List, [], ◌∷◌, ◌++◌}
+use Rattle.std.proofs.Common.{length, length-append, append_assoc, Option, Some, None, ◌⊎◌, inl, inr, refl}
+use Rattle.std.proofs.Common.{sym as back_of, ap, ◌∙◌, subst, arith}
 use Rattle.std.proofs.lemmas.Bool.{cases_lt}
 use Rattle.std.proofs.lemmas.List.{append-nil}
 use Rattle.sp_base.specs.declared.place.Place.{Place}
@@ -19,12 +21,14 @@ use Rattle.sp_scan.specs.Finds as f
 use Rattle.sp_scan.specs.Finds.{IsGap, blank_gap, comment_gap}
 use Rattle.sp_format.specs.declared.context.Context.{Context}
 use Rattle.sp_format.specs.Items.{Item, item, item_from, spelled, front, HasItems, no_item, blank, comment, token}
-use Rattle.sp_format.specs.Layout.{context_of, gap, laid, canonical, indentation, count, begins, ends, opens as opens', closes}
+use Rattle.sp_format.specs.Layout.{context_of, gap, laid, canonical, indentation, count, begins, ends, opens as opens'}
+use Rattle.sp_format.specs.Layout.{closes}
 use Rattle.sp_format.specs.Formats.{IsCanonical, IsLong}
 
 -- ---- one list
 
-both : (bs u v : List ℕ) (k j : Option Kind) {is js : List Item} → k ≡ j → u ≡ v → is ≡ js → item_from k bs u ∷ is ≡ item_from j bs v ∷ js
+both : (bs u v : List ℕ) (k j : Option Kind) {is js : List Item} → k ≡ j → u ≡ v → is ≡ js
+    → item_from k bs u ∷ is ≡ item_from j bs v ∷ js
 both bs u v k j p q e = λ i. item_from (p i) bs (q i) ∷ e i
 
 same_kind : {k j : Kind} {bs u v : List ℕ} → u ≡ v → Longest k bs u → Longest j bs v → k ≡ j
@@ -39,14 +43,16 @@ one_items (blank b h x) (comment c x') = absurd (blank_opens b _ h (opens c))
 one_items (blank b h x) (token k o l x') = absurd (not_blank l.spelled h)
 one_items (comment c x) no_item = absurd (let l = comment_length c in omega arith)
 one_items (comment c x) (blank b h x') = absurd (blank_opens b _ h (opens c))
-one_items {bs} (comment {u = u} c x) (comment {u = v} {is = js} c' x') = both bs u v None None refl (one_comment c c') (one_items x (subst (λ w. HasItems w js) (one_comment c' c) x'))
+one_items {bs} (comment {u = u} c x) (comment {u = v} {is = js} c' x') =
+    both bs u v None None refl (one_comment c c') (one_items x (subst (λ w. HasItems w js) (one_comment c' c) x'))
 one_items (comment c x) (token k o l x') = absurd (differ (opens c) o)
 one_items (token k o l x) no_item = absurd (let m = lexeme_length l.spelled in omega arith)
 one_items (token k o l x) (blank b h x') = absurd (not_blank l.spelled h)
 one_items (token k o l x) (comment c x') = absurd (differ (opens c) o)
 one_items {bs} (token {u = u} k o l x) (token {u = v} {is = js} j o' m x') =
     let same = same_rest [] l m in
-    both bs u v (Some k) (Some j) (ap Some (same_kind same l m)) same (one_items x (subst (λ w. HasItems w js) (back_of same) x'))
+    both bs u v (Some k) (Some j) (ap Some (same_kind same l m)) same
+    (one_items x (subst (λ w. HasItems w js) (back_of same) x'))
 
 -- ---- one step
 
@@ -71,7 +77,8 @@ after_comment {bs} {u} c (comment {u = v} {is = is} c' x) = record {
 }
 after_comment c (token k o l x) = absurd (differ (opens c) o)
 
-after_token : {bs u : List ℕ} {is : List Item} (k : Kind) → opens_comment bs ≡ false → Longest k bs u → HasItems bs is → Next (Some k) bs u is
+after_token : {bs u : List ℕ} {is : List Item} (k : Kind) → opens_comment bs ≡ false → Longest k bs u → HasItems bs is
+    → Next (Some k) bs u is
 after_token k o l no_item = absurd (let m = lexeme_length l.spelled in omega arith)
 after_token k o l (blank b h x) = absurd (not_blank l.spelled h)
 after_token k o l (comment c x) = absurd (differ (opens c) o)
@@ -87,9 +94,11 @@ pub items_of : {text bs r : List ℕ} {ts : List Token} → r ≡ [] → Scans t
 items_of e (s.nothing) = ([], subst (λ r. HasItems r []) (back_of e) no_item)
 items_of e (s.blank b h x) = let y = items_of e x in (y.0, blank b h y.1)
 items_of e (s.comment {bs = bs} {u = u} c x) = let y = items_of e x in (item_from None bs u ∷ y.0, comment c y.1)
-items_of e (s.token {bs = bs} {u = u} k o l x) = let y = items_of e x in (item_from (Some k) bs u ∷ y.0, token k o l y.1)
+items_of e (s.token {bs = bs} {u = u} k o l x) = let y = items_of e x in
+    (item_from (Some k) bs u ∷ y.0, token k o l y.1)
 
-chain : {text bs m r : List ℕ} {ts us : List Token} → Scans text bs m ts → Scans text m r us → Scans text bs r (ts ++ us)
+chain : {text bs m r : List ℕ} {ts us : List Token} → Scans text bs m ts → Scans text m r us
+    → Scans text bs r (ts ++ us)
 chain s.nothing y = y
 chain (s.blank b h x) y = s.blank b h (chain x y)
 chain (s.comment c x) y = s.comment c (chain x y)
@@ -120,7 +129,8 @@ is_short text ts h = split (cases_lt 1048576 (length text))
     split (inl l) = absurd (h.kept rule.L1 start (record { above = l; place = refl }))
     split (inr l) = l
 
-pub lay_start : (text out : List ℕ) (context : Context) (ts : List Token) → IsTokens text ts → out ≡ [] → context ≡ context_of [] → LaidSoFar text text out context
+pub lay_start : (text out : List ℕ) (context : Context) (ts : List Token) → IsTokens text ts → out ≡ []
+    → context ≡ context_of [] → LaidSoFar text text out context
 lay_start text out context ts h e f = let y = items_of refl h.scans in let l = is_short text ts h in record {
   tokens = [];
   along = s.nothing;
@@ -142,10 +152,14 @@ to_lexis text rule.L1 at b = absurd b.here
 to_lexis text r at b = b
 
 -- no rule is broken at the rest
-pub lay_kept : {text rest out : List ℕ} {context : Context} (ts : List Token) → IsTokens text ts → LaidSoFar text rest out context → (r : Rule) → BreaksHere r rest → ⊥
-lay_kept {text} {rest} ts h x r b = h.kept r (place_at text (offset text rest)) (to_lexis text r (place_at text (offset text rest)) (record { rest = rest; tokens = x.tokens; along = x.along; here = b; place = refl }))
+pub lay_kept : {text rest out : List ℕ} {context : Context} (ts : List Token) → IsTokens text ts
+    → LaidSoFar text rest out context → (r : Rule) → BreaksHere r rest → ⊥
+lay_kept {text} {rest} ts h x r b = h.kept r (place_at text (offset text rest))
+    (to_lexis text r (place_at text (offset text rest))
+    (record { rest = rest; tokens = x.tokens; along = x.along; here = b; place = refl }))
 
-pub indent_more : (before after start' : List ℕ) (left : ℕ) → before ++ indentation left ≡ start' → 0 < left → after ≡ (before ++ 32 ∷ []) ++ 32 ∷ [] → after ++ indentation (left - 1) ≡ start'
+pub indent_more : (before after start' : List ℕ) (left : ℕ) → before ++ indentation left ≡ start' → 0 < left
+    → after ≡ (before ++ 32 ∷ []) ++ 32 ∷ [] → after ++ indentation (left - 1) ≡ start'
 indent_more before after start' zero e h q = absurd (omega arith)
 indent_more before after start' (suc n) e h q =
     let same : suc n - 1 ≡ n = omega arith in
@@ -155,10 +169,12 @@ indent_more before after start' (suc n) e h q =
     ∙ append_assoc before (32 ∷ []) (32 ∷ indentation n)
     ∙ e
 
-at_first : {rest others : List ℕ} {is : List Item} (b : ℕ) → rest ≡ b ∷ others → HasItems rest is → HasItems (b ∷ others) is
+at_first : {rest others : List ℕ} {is : List Item} (b : ℕ) → rest ≡ b ∷ others → HasItems rest is
+    → HasItems (b ∷ others) is
 at_first {is = is} b e x = subst (λ l. HasItems l is) e x
 
-pub lay_blank : {text rest out : List ℕ} {context : Context} (others : List ℕ) (b : ℕ) → rest ≡ b ∷ others → is_blank b ≡ true → LaidSoFar text rest out context → LaidSoFar text others out context
+pub lay_blank : {text rest out : List ℕ} {context : Context} (others : List ℕ) (b : ℕ) → rest ≡ b ∷ others
+    → is_blank b ≡ true → LaidSoFar text rest out context → LaidSoFar text others out context
 lay_blank {text} {rest} others b e h x = record {
   tokens = x.tokens ++ [];
   along = chain x.along (subst (λ l. Scans text l others []) (back_of e) (s.blank b h s.nothing));
@@ -182,32 +198,53 @@ record Stands (text rest after : List ℕ) (k : Option Kind) (left : List Item) 
   next : Next k rest after left
   less : length after < length rest
 
-gap_stands : {text rest after others : List ℕ} {left : List Item} (b : ℕ) → rest ≡ b ∷ others → is_blank b ≡ false → IsGap rest after → HasItems rest left → Stands text rest after None left
+gap_stands : {text rest after others : List ℕ} {left : List Item} (b : ℕ) → rest ≡ b ∷ others → is_blank b ≡ false
+    → IsGap rest after → HasItems rest left → Stands text rest after None left
 gap_stands b e n (blank_gap b' h) x = absurd (let same : b' ≡ b = cc in differ (ap is_blank (back_of same) ∙ h) n)
-gap_stands b e n (comment_gap c) x = record { tokens = []; along = s.comment c s.nothing; next = after_comment c x; less = comment_length c }
+gap_stands b e n (comment_gap c) x = record {
+  tokens = [];
+  along = s.comment c s.nothing;
+  next = after_comment c x;
+  less = comment_length c;
+}
 
-stands : {text rest after others : List ℕ} {left : List Item} (b : ℕ) (k : Option Kind) → rest ≡ b ∷ others → is_blank b ≡ false → f.Item rest k after → HasItems rest left → Stands text rest after k left
+stands : {text rest after others : List ℕ} {left : List Item} (b : ℕ) (k : Option Kind) → rest ≡ b ∷ others
+    → is_blank b ≡ false → f.Item rest k after → HasItems rest left → Stands text rest after k left
 stands b None e n g x = gap_stands b e n g x
-stands {text} {rest} {after} b (Some k) e n g x = record { tokens = s.token_from text k rest after ∷ []; along = s.token k g.0 g.1 s.nothing; next = after_token k g.0 g.1 x; less = lexeme_length g.1.spelled }
+stands {text} {rest} {after} b (Some k) e n g x =
+    record {
+      tokens = s.token_from text k rest after ∷ [];
+      along = s.token k g.0 g.1 s.nothing;
+      next = after_token k g.0 g.1 x;
+      less = lexeme_length g.1.spelled;
+    }
 
 more_by : (n : ℕ) (c : Bool) → cond c (n + 1) n ≤ n + 1
 more_by n true = omega arith
 more_by n false = omega arith
 
-module _ {text rest out others : List ℕ} {context : Context} (after : List ℕ) (b : ℕ) (k : Option Kind) (e : rest ≡ b ∷ others) (n : is_blank b ≡ false) (g : f.Item rest k after) (x : LaidSoFar text rest out context) where
+module _ {text rest out others : List ℕ} {context : Context} (after : List ℕ) (b : ℕ) (k : Option Kind)
+    (e : rest ≡ b ∷ others) (n : is_blank b ≡ false) (g : f.Item rest k after)
+    (x : LaidSoFar text rest out context) where
   here : Stands text rest after k x.left
   here = stands b k e n g x.has
 
-  laid_by : {o : List ℕ} → o ≡ out ++ (gap context k ++ spelled k (front rest after)) → o ++ laid (item_from k rest after ∷ x.before) here.next.others ≡ laid [] x.all
+  laid_by : {o : List ℕ} → o ≡ out ++ (gap context k ++ spelled k (front rest after))
+      → o ++ laid (item_from k rest after ∷ x.before) here.next.others ≡ laid [] x.all
   laid_by {o} q =
-      ap (λ o. o ++ laid (item_from k rest after ∷ x.before) here.next.others) (q ∙ ap (λ c. out ++ (gap c k ++ spelled k (front rest after))) x.context_is)
-      ∙ append_assoc out (gap (context_of x.before) k ++ spelled k (front rest after)) (laid (item_from k rest after ∷ x.before) here.next.others)
+      ap (λ o. o ++ laid (item_from k rest after ∷ x.before) here.next.others)
+      (q ∙ ap (λ c. out ++ (gap c k ++ spelled k (front rest after))) x.context_is)
+      ∙ append_assoc out (gap (context_of x.before) k ++ spelled k (front rest after))
+      (laid (item_from k rest after ∷ x.before) here.next.others)
       ∙ ap (λ l. out ++ laid x.before l) (back_of here.next.first)
       ∙ x.out_is
 
-  pub lay_item : (o : List ℕ) (c : Context) → o ≡ out ++ (gap context k ++ spelled k (front rest after)) → ((before : List Item) (bytes : List ℕ) → context ≡ context_of before → c ≡ context_of (item k bytes ∷ before)) → LaidSoFar text after o c
+  pub lay_item : (o : List ℕ) (c : Context) → o ≡ out ++ (gap context k ++ spelled k (front rest after))
+      → ((before : List Item) (bytes : List ℕ) → context ≡ context_of before → c ≡ context_of (item k bytes ∷ before))
+      → LaidSoFar text after o c
   lay_item o c q w =
-      let z : c ≡ context_of (item_from k rest after ∷ x.before) = w x.before (spelled k (front rest after)) x.context_is in
+      let z : c ≡ context_of (item_from k rest after ∷ x.before) =
+      w x.before (spelled k (front rest after)) x.context_is in
       record {
         tokens = x.tokens ++ here.tokens;
         along = chain x.along here.along;
@@ -218,20 +255,54 @@ module _ {text rest out others : List ℕ} {context : Context} (after : List ℕ
         has = here.next.has;
         out_is = laid_by q;
         context_is = z;
-        few_begun = omega (arith, x.few_begun, here.less, ap (λ (c : Context). c.begun) z, ap (λ (c : Context). c.begun) x.context_is, more_by (count begins x.before) (begins k));
-        few_ended = omega (arith, x.few_ended, here.less, ap (λ (c : Context). c.ended) z, ap (λ (c : Context). c.ended) x.context_is, more_by (count ends x.before) (ends k));
-        few_opened = omega (arith, x.few_opened, here.less, ap (λ (c : Context). c.opened) z, ap (λ (c : Context). c.opened) x.context_is, more_by (count opens' x.before) (opens' k));
-        few_closed = omega (arith, x.few_closed, here.less, ap (λ (c : Context). c.closed) z, ap (λ (c : Context). c.closed) x.context_is, more_by (count closes x.before) (closes k));
+        few_begun = omega (
+          arith,
+          x.few_begun,
+          here.less,
+          ap (λ (c : Context). c.begun) z,
+          ap (λ (c : Context). c.begun) x.context_is,
+          more_by (count begins x.before) (begins k),
+        );
+        few_ended = omega (
+          arith,
+          x.few_ended,
+          here.less,
+          ap (λ (c : Context). c.ended) z,
+          ap (λ (c : Context). c.ended) x.context_is,
+          more_by (count ends x.before) (ends k),
+        );
+        few_opened = omega (
+          arith,
+          x.few_opened,
+          here.less,
+          ap (λ (c : Context). c.opened) z,
+          ap (λ (c : Context). c.opened) x.context_is,
+          more_by (count opens' x.before) (opens' k),
+        );
+        few_closed = omega (
+          arith,
+          x.few_closed,
+          here.less,
+          ap (λ (c : Context). c.closed) z,
+          ap (λ (c : Context). c.closed) x.context_is,
+          more_by (count closes x.before) (closes k),
+        );
       }
 
   pub lay_less : length after < length rest
   lay_less = here.less
 
-  pub lay_long : (o : List ℕ) (r : Refusal) → o ≡ out ++ (gap context k ++ spelled k (front rest after)) → 1048576 ≤ length o → r ≡ record { rule = rule.L1; at = start } → IsLong text r
+  pub lay_long : (o : List ℕ) (r : Refusal) → o ≡ out ++ (gap context k ++ spelled k (front rest after))
+      → 1048576 ≤ length o → r ≡ record { rule = rule.L1; at = start } → IsLong text r
   lay_long o r q h w = record {
     items = x.all;
     has = x.has_all;
-    long = omega (arith, length-append (laid [] x.all) (10 ∷ []), ap length (laid_by q), length-append o (laid (item_from k rest after ∷ x.before) here.next.others));
+    long = omega (
+      arith,
+      length-append (laid [] x.all) (10 ∷ []),
+      ap length (laid_by q),
+      length-append o (laid (item_from k rest after ∷ x.before) here.next.others),
+    );
     is = w;
   }
 
@@ -241,17 +312,20 @@ none_left e (blank b h x) = absurd cc
 none_left e (comment c x) = absurd (let l = comment_length c in omega (arith, ap length e))
 none_left e (token k o l x) = absurd (let m = lexeme_length l.spelled in omega (arith, ap length e))
 
-pub lay_done : {text rest out : List ℕ} {context : Context} (o : List ℕ) → rest ≡ [] → length out < 1048576 → o ≡ out ++ 10 ∷ [] → LaidSoFar text rest out context → IsCanonical text o
+pub lay_done : {text rest out : List ℕ} {context : Context} (o : List ℕ) → rest ≡ [] → length out < 1048576
+    → o ≡ out ++ 10 ∷ [] → LaidSoFar text rest out context → IsCanonical text o
 lay_done {out = out} o e h q x = record {
   items = x.all;
   has = x.has_all;
-  is = q ∙ ap (λ l. l ++ 10 ∷ []) (back_of (append-nil out) ∙ ap (λ l. out ++ laid x.before l) (back_of (none_left e x.has)) ∙ x.out_is);
+  is = q ∙ ap (λ l. l ++ 10 ∷ []) (back_of (append-nil out)
+      ∙ ap (λ l. out ++ laid x.before l) (back_of (none_left e x.has)) ∙ x.out_is);
   short = omega (arith, ap length q, length-append out (10 ∷ []));
 }
 
 -- ---- one canonical text
 
-pub same_text : {text other a b : List ℕ} {is : List Item} → HasItems text is → HasItems other is → IsCanonical text a → IsCanonical other b → a ≡ b
+pub same_text : {text other a b : List ℕ} {is : List Item} → HasItems text is → HasItems other is → IsCanonical text a
+    → IsCanonical other b → a ≡ b
 same_text x y p q = p.is ∙ ap canonical (one_items p.has x ∙ one_items y q.has) ∙ back_of q.is
 
 pub one_text : {text a b : List ℕ} → IsCanonical text a → IsCanonical text b → a ≡ b

@@ -1,3 +1,4 @@
+-- All of this belongs to what the program promises (docs/promise.txt).
 -- The items of a text: its tokens and its comments, in their order. The canonical text is made of them, and the law
 -- that it spells the same tree goes by them.
 use Rattle.std.specs.Prelude.{◌≡◌, ℕ, ◌-◌, true, false, List, [], ◌∷◌, length, map, take, Option, Some, None}
@@ -34,4 +35,5 @@ pub data HasItems : List ℕ → List Item → Type 0 where
   no_item : HasItems [] []
   blank : {bs : List ℕ} {is : List Item} → (b : ℕ) → is_blank b ≡ true → HasItems bs is → HasItems (b ∷ bs) is
   comment : {bs u : List ℕ} {is : List Item} → Comment bs u → HasItems u is → HasItems bs (item_from None bs u ∷ is)
-  token : {bs u : List ℕ} {is : List Item} → (k : Kind) → opens_comment bs ≡ false → Longest k bs u → HasItems u is → HasItems bs (item_from (Some k) bs u ∷ is)
+  token : {bs u : List ℕ} {is : List Item} → (k : Kind) → opens_comment bs ≡ false → Longest k bs u → HasItems u is
+      → HasItems bs (item_from (Some k) bs u ∷ is)

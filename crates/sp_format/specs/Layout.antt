@@ -1,6 +1,8 @@
+-- All of this belongs to what the program promises (docs/promise.txt).
 -- The canonical layout of items: what stands between an item and the one before it, by the items before it. The
 -- contracts of the writing follow it, item by item; it knows no tree, so that comments keep their places.
-use Rattle.std.specs.Prelude.{ℕ, zero, suc, ◌+◌, ◌-◌, nat_le, Bool, true, false, ◌||◌, ◌&&◌, ◌==◌, cond, List, [], ◌∷◌, ◌++◌, Option, Some, None}
+use Rattle.std.specs.Prelude.{ℕ, zero, suc, ◌+◌, ◌-◌, nat_le, Bool, true, false, ◌||◌, ◌&&◌, ◌==◌, cond, List, [], ◌∷◌}
+use Rattle.std.specs.Prelude.{◌++◌, Option, Some, None}
 use Rattle.sp_tree.specs.declared.token.Kind.{Kind}
 use Rattle.sp_tree.specs.declared.token.Kind.TheVariants as kind
 use Rattle.sp_format.specs.declared.context.Context.{Context}
@@ -88,7 +90,15 @@ chooses (i ∷ before) = cond (is_case i.kind) true (cond (is_array i.kind) fals
 
 -- what the layout of an item takes from the items before it
 abbrev pub context_of : List Item → Context
-context_of before = record { first = is_first before; previous = previous before; begun = count begins before; ended = count ends before; opened = count opens before; closed = count closes before; chooses = chooses before }
+context_of before = record {
+  first = is_first before;
+  previous = previous before;
+  begun = count begins before;
+  ended = count ends before;
+  opened = count opens before;
+  closed = count closes before;
+  chooses = chooses before;
+}
 
 -- ---- between two items
 
@@ -100,7 +110,8 @@ depth c k = (c.begun - c.ended) - cond (stands_out k) 1 0
 abbrev pub outside : Context → Bool
 outside c = nat_le c.opened c.closed
 
--- A new line starts behind begin, parallel, record, repeat, a comment, a semicolon outside parentheses, and the of of a case.
+-- A new line starts behind begin, parallel, record, repeat, a comment, a semicolon outside parentheses, and the of of a
+-- case.
 abbrev pub breaks_behind : Option Kind → Context → Bool
 breaks_behind None c = true
 breaks_behind (Some (kind.Word n)) c = n == 3 || (n == 19 || (n == 22 || (n == 23 || (n == 17 && c.chooses))))

@@ -1,3 +1,4 @@
+-- None of this belongs to what the program promises: it is for contracts between crates.
 -- When two texts spell one tree but for places: the law that a canonical text means what its text means is said by it.
 use Rattle.std.specs.Prelude.{◌≡◌, ℕ, List, [], ◌∷◌, length}
 use Rattle.sp_tree.specs.declared.token.Token.{Token}

@@ -61,8 +61,8 @@ fn lay(alloc: Global, text: &[u8], tokens: &[Token]) -> Result<Vec<u8>, Halt>
 /// The canonical text of a text that breaks no rule of its characters and its grammar: its tokens and its comments, one
 /// layout for every program, as `docs/FORMATS.md` says. Names and words are in lower case.
 ///
-/// `Refused` is the first rule of the characters and the grammar that the text breaks, or L1 at 1:1 where it breaks none
-/// and the canonical text has more than 1,048,576 bytes.
+/// `Refused` is the first rule of the characters and the grammar that the text breaks, or L1 at 1:1 where it breaks
+/// none and the canonical text has more than 1,048,576 bytes.
 pub fn format(alloc: Global, text: &[u8]) -> Result<Vec<u8>, Halt>
     ensures { Formats text.now result }
 {

@@ -66,7 +66,8 @@ pub fn behind(context: Context, kind: Option<Kind>) -> Context
     requires ended { context.ended + 1 < 2 ^ 32 }
     requires opened { context.opened + 1 < 2 ^ 32 }
     requires closed { context.closed + 1 < 2 ^ 32 }
-    ensures { (before : List Item) (bytes : List ℕ) → context ≡ layout.context_of before → result ≡ layout.context_of (item kind bytes ∷ before) }
+    ensures { (before : List Item) (bytes : List ℕ) → context ≡ layout.context_of before
+        → result ≡ layout.context_of (item kind bytes ∷ before) }
 {
     Context {
         first: false,

@@ -13,16 +13,18 @@ ghost use Rattle.sp_tree.specs.PlainSyntax.{Program};
 pub fn one_canonical_text()
     ensures items { (text : List ℕ) (is js : List AnItem) → HasItems text is → HasItems text js → is ≡ js }
     ensures text { (text a b : List ℕ) → IsCanonical text a → IsCanonical text b → a ≡ b }
-    ensures same { (text other a b : List ℕ) (is : List AnItem) → HasItems text is → HasItems other is → IsCanonical text a → IsCanonical other b → a ≡ b }
+    ensures same { (text other a b : List ℕ) (is : List AnItem) → HasItems text is → HasItems other is
+        → IsCanonical text a → IsCanonical other b → a ≡ b }
 {}
 
-/// The canonical text of a program has the items of the program, breaks no rule of its characters and its grammar either,
-/// and is its own canonical text: laid out again it is itself, and no rule is named.
+/// The canonical text of a program has the items of the program, breaks no rule of its characters and its grammar
+/// either, and is its own canonical text: laid out again it is itself, and no rule is named.
 pub fn items_kept()
     ensures items { (text : List ℕ) (is : List AnItem) → HasTree text → HasItems text is → HasItems (canonical is) is }
     ensures accepted { (text out : List ℕ) → HasTree text → IsCanonical text out → HasTree out }
     ensures again { (text out : List ℕ) → HasTree text → IsCanonical text out → IsCanonical out out }
-    ensures not_refused { (text out : List ℕ) (r : Refusal) → HasTree text → IsCanonical text out → HasNoLayout out r → ⊥ }
+    ensures not_refused { (text out : List ℕ) (r : Refusal) → HasTree text → IsCanonical text out → HasNoLayout out r
+        → ⊥ }
 {}
 
 /// A text has at most one canonical text and at most one rule for which it has none, and never both.

@@ -48,38 +48,47 @@ numbers text p h = own_numbers p (text_numbers_differ text p h)
 abbrev pub OneTree : Type 0
 OneTree = (text : List ℕ) (p q : c.Program) → IsChecked text p → IsChecked text q → p ≡ q
 
-pub keeps_all : OneTree → Apart → (text : List ℕ) (result : Result Accepted Halt) → Compiles text result → IfOk result (λ a. KeepsAllRules text)
+pub keeps_all : OneTree → Apart → (text : List ℕ) (result : Result Accepted Halt) → Compiles text result
+    → IfOk result (λ a. KeepsAllRules text)
 keeps_all one apart text (Err e) h = tt
 keeps_all one apart text (Ok a) ((h, calm), are) = none
   where
     none : (r : Refusal) → BreaksAnyFirst text r → ⊥
     none r (inl b) = apart text (checked.program_of a.checked) r h b
-    none r (inr (q, k, first)) = calm r.rule r.at (subst (λ z. Interferes z r.rule r.at) (one text q (checked.program_of a.checked) k h) first.breaks)
+    none r (inr (q, k, first)) = calm r.rule r.at
+        (subst (λ z. Interferes z r.rule r.at) (one text q (checked.program_of a.checked) k h) first.breaks)
 
-pub programs_of : (text : List ℕ) (result : Result Accepted Halt) → Compiles text result → IfOk result (λ a. IsProgramOf text (meant.program_of a.checked))
+pub programs_of : (text : List ℕ) (result : Result Accepted Halt) → Compiles text result
+    → IfOk result (λ a. IsProgramOf text (meant.program_of a.checked))
 programs_of text (Err e) h = tt
 programs_of text (Ok a) ((h, calm), are) = (checked.program_of a.checked, h, refl)
 
 -- the first rule of all phases is one, and none where the tree is accepted
 module _ (one : OneTree) (apart : Apart) (text : List ℕ) where
-  pub first_once : ((a b : Refusal) → BreaksFirst text a → BreaksFirst text b → a ≡ b) → (a b : Refusal) → BreaksAnyFirst text a → BreaksAnyFirst text b → a ≡ b
+  pub first_once : ((a b : Refusal) → BreaksFirst text a → BreaksFirst text b → a ≡ b) → (a b : Refusal)
+      → BreaksAnyFirst text a → BreaksAnyFirst text b → a ≡ b
   first_once once a b (inl x) (inl y) = once a b x y
   first_once once a b (inl x) (inr (q, k, y)) = absurd (apart text q a k x)
   first_once once a b (inr (p, h, x)) (inl y) = absurd (apart text p b h y)
-  first_once once a b (inr (p, h, x)) (inr (q, k, y)) = one_first (Interferes q) a b (subst (λ z. IsFirst (Interferes z) a) (one text p q h k) x) y
+  first_once once a b (inr (p, h, x)) (inr (q, k, y)) =
+      one_first (Interferes q) a b (subst (λ z. IsFirst (Interferes z) a) (one text p q h k) x) y
 
   pub accepted_apart : (p : c.Program) (r : Refusal) → IsAccepted text p → BreaksAnyFirst text r → ⊥
   accepted_apart p r (h, calm) (inl b) = apart text p r h b
-  accepted_apart p r (h, calm) (inr (q, k, first)) = calm r.rule r.at (subst (λ z. Interferes z r.rule r.at) (one text q p k h) first.breaks)
+  accepted_apart p r (h, calm) (inr (q, k, first)) =
+      calm r.rule r.at (subst (λ z. Interferes z r.rule r.at) (one text q p k h) first.breaks)
 
 abbrev pub Free : Type 0
 Free = (text : List ℕ) (p : c.Program) → IsAccepted text p → IsFreeOfInterference (bare p)
 
-pub free_of : Free → (text : List ℕ) (result : Result Accepted Halt) → Compiles text result → IfOk result (λ a. IsFreeOfInterference (meant.program_of a.checked))
+pub free_of : Free → (text : List ℕ) (result : Result Accepted Halt) → Compiles text result
+    → IfOk result (λ a. IsFreeOfInterference (meant.program_of a.checked))
 free_of free text (Err e) h = tt
 free_of free text (Ok a) (h, are) = free text (checked.program_of a.checked) h
 
-pub disjoint_of : Free → ((g : Setting) → IsFreeOfInterference g.program → IsDisjointRun g) → (text : List ℕ) (result : Result Accepted Halt) → Compiles text result
+pub disjoint_of : Free → ((g : Setting) → IsFreeOfInterference g.program → IsDisjointRun g)
+    → (text : List ℕ) (result : Result Accepted Halt) → Compiles text result
     → IfOk result (λ a. (g : Setting) → g.program ≡ meant.program_of a.checked → IsDisjointRun g)
 disjoint_of free keepers text (Err e) h = tt
-disjoint_of free keepers text (Ok a) (h, are) = λ g e. keepers g (subst IsFreeOfInterference (back_of e) (free text (checked.program_of a.checked) h))
+disjoint_of free keepers text (Ok a) (h, are) =
+    λ g e. keepers g (subst IsFreeOfInterference (back_of e) (free text (checked.program_of a.checked) h))

@@ -1,6 +1,7 @@
--- The statement parts of the blocks of a text stand at different places. Each stands at its own `begin`, and the tokens of a
--- text rise.
-use Rattle.std.proofs.Common.{◌≡◌, ◌≢◌, ℕ, zero, suc, ◌<◌, ◌≤◌, List, [], ◌∷◌, ◌++◌, length, map, Option, Some, None, inl, inr, ◌⊎◌, refl, sym as back_of, ap, ap₂, ◌∙◌, subst, arith}
+-- The statement parts of the blocks of a text stand at different places. Each stands at its own `begin`, and the tokens
+-- of a text rise.
+use Rattle.std.proofs.Common.{◌≡◌, ◌≢◌, ℕ, zero, suc, ◌<◌, ◌≤◌, List, [], ◌∷◌, ◌++◌, length, map, Option, Some, None}
+use Rattle.std.proofs.Common.{inl, inr, ◌⊎◌, refl, sym as back_of, ap, ap₂, ◌∙◌, subst, arith}
 use Rattle.std.proofs.lemmas.Option.{none-some}
 use Rattle.sp_base.specs.declared.place.Place.{Place}
 use Rattle.sp_base.proofs.Facts.{less_same_or_more}
@@ -59,7 +60,8 @@ module _ (text : List ℕ) (Ok : ℕ → List Token → Type 0) where
     all_tail (and x y) = far (derived_tail x) (all_tail y)
 
   -- parts take their first token
-  parts_take : {d : ℕ} {t : Token} {ts r : List Token} {v : Value (sym.Parts d)} → Derives text Ok (sym.Parts d) (t ∷ ts) r v → Tail ts r
+  parts_take : {d : ℕ} {t : Token} {ts r : List Token} {v : Value (sym.Parts d)}
+      → Derives text Ok (sym.Parts d) (t ∷ ts) r v → Tail ts r
   parts_take (takes t e l b x) = all_tail x
   parts_take (skips t l e) = absurd (none-some _ e)
 
@@ -96,10 +98,12 @@ module _ (text : List ℕ) (Ok : ℕ → List Token → Type 0) where
     none_in : part_places p ≡ []
 
   constant_plain : {ts r : List Token} {p : tree.Part} → g.IsConstantPart text ts r p → Plain ts r p
-  constant_plain (g.constant_part (g.name t p) (g.it_is e q) c (g.it_is s k)) = record { tail = behind (behind (far (derived_tail (to.constant text Ok c)) (behind same))); none_in = refl }
+  constant_plain (g.constant_part (g.name t p) (g.it_is e q) c (g.it_is s k)) =
+      record { tail = behind (behind (far (derived_tail (to.constant text Ok c)) (behind same))); none_in = refl }
 
   type_plain : {ts r : List Token} {p : tree.Part} → g.IsTypePart text ts r p → Plain ts r p
-  type_plain (g.type_part (g.name t p) (g.it_is e q) c (g.it_is s k)) = record { tail = behind (behind (far (derived_tail (to.type_of text Ok c)) (behind same))); none_in = refl }
+  type_plain (g.type_part (g.name t p) (g.it_is e q) c (g.it_is s k)) =
+      record { tail = behind (behind (far (derived_tail (to.type_of text Ok c)) (behind same))); none_in = refl }
 
   variable_plain : {ts r : List Token} {p : tree.Part} → g.IsVariablePart text ts r p → Plain ts r p
   variable_plain (g.variable_part x (g.it_is s k)) = record { tail = far (group_tail x) (behind same); none_in = refl }
@@ -130,7 +134,8 @@ module _ (text : List ℕ) (Ok : ℕ → List Token → Type 0) where
 
   tail_begins : {ts r : List Token} → Tail ts r → Rises ts → begins ts ≤ begins r
   tail_begins same h = omega arith
-  tail_begins (behind {t = t} {ts = ts} x) h = let l = after_first t ts h in let m = tail_begins x (rest_rises t ts h) in omega arith
+  tail_begins (behind {t = t} {ts = ts} x) h = let l = after_first t ts h in
+      let m = tail_begins x (rest_rises t ts h) in omega arith
 
   begins_in : (ts : List Token) → Rises ts → begins ts ≤ length text
   begins_in [] h = omega arith
@@ -144,7 +149,8 @@ module _ (text : List ℕ) (Ok : ℕ → List Token → Type 0) where
 
   wider : (lo hi low high : ℕ) (is : List ℕ) → low ≤ lo → hi ≤ high → AllIn lo hi is → AllIn low high is
   wider lo hi low high [] l h a = tt
-  wider lo hi low high (i ∷ is) l h a = let b = a.0 in let c = a.1 in (omega arith, omega arith, wider lo hi low high is l h a.2)
+  wider lo hi low high (i ∷ is) l h a = let b = a.0 in let c = a.1 in
+      (omega arith, omega arith, wider lo hi low high is l h a.2)
 
   both_in : (lo hi : ℕ) (is js : List ℕ) → AllIn lo hi is → AllIn lo hi js → AllIn lo hi (is ++ js)
   both_in lo hi [] js a b = b
@@ -159,9 +165,11 @@ module _ (text : List ℕ) (Ok : ℕ → List Token → Type 0) where
   differs_both i [] js a b = b
   differs_both i (j ∷ is) js a b = (a.0, differs_both i is js a.1 b)
 
-  all_both : (lo mid hi high : ℕ) (is js : List ℕ) → mid ≤ hi → AllIn lo mid is → AllIn hi high js → AllDiffer is → AllDiffer js → AllDiffer (is ++ js)
+  all_both : (lo mid hi high : ℕ) (is js : List ℕ) → mid ≤ hi → AllIn lo mid is → AllIn hi high js → AllDiffer is
+      → AllDiffer js → AllDiffer (is ++ js)
   all_both lo mid hi high [] js l a b x y = y
-  all_both lo mid hi high (i ∷ is) js l a b x y = let c = a.1 in (differs_both i is js x.0 (in_front i hi high js (omega arith) b), all_both lo mid hi high is js l a.2 b x.1 y)
+  all_both lo mid hi high (i ∷ is) js l a b x y = let c = a.1 in
+      (differs_both i is js x.0 (in_front i hi high js (omega arith) b), all_both lo mid hi high is js l a.2 b x.1 y)
 
   -- The statement part of a block begins within these bounds, and those of the blocks inside it in front of it.
   record Bodies (lo hi : ℕ) (b : tree.Block) : Type 0 where
@@ -187,7 +195,8 @@ module _ (text : List ℕ) (Ok : ℕ → List Token → Type 0) where
   }
 
   -- behind a part in which no block stands
-  behind_plain : {ts u : List Token} {p : tree.Part} {b : tree.Block} {hi : ℕ} → Plain ts u p → Rises ts → Bodies (begins u) hi b → Bodies (begins ts) hi (declared p b)
+  behind_plain : {ts u : List Token} {p : tree.Part} {b : tree.Block} {hi : ℕ} → Plain ts u p → Rises ts
+      → Bodies (begins u) hi b → Bodies (begins ts) hi (declared p b)
   behind_plain {b = b} k h x = let y = lower (tail_begins k.tail h) x in record {
     at = y.at;
     inner = y.inner;
@@ -204,17 +213,24 @@ module _ (text : List ℕ) (Ok : ℕ → List Token → Type 0) where
   map_both (i ∷ is) js = ap (λ l. place_at text i ∷ l) (map_both is js)
 
   -- behind a block
-  behind_block : {lo mid next hi : ℕ} {n : Name} {fs : List SynFormal} {answer : Option Name} {k m : tree.Block} → mid ≤ next → Bodies lo mid k → Bodies next hi m → Bodies lo hi (declared (tree.Proc n fs answer k.parts k.body) m)
+  behind_block : {lo mid next hi : ℕ} {n : Name} {fs : List SynFormal} {answer : Option Name} {k m : tree.Block}
+      → mid ≤ next → Bodies lo mid k → Bodies next hi m
+      → Bodies lo hi (declared (tree.Proc n fs answer k.parts k.body) m)
   behind_block {lo} {mid} {next} {hi} {k = k} {m = m} l x y =
       let xl = x.low in let xh = x.high in let yl = y.low in record {
         at = y.at;
         inner = (x.at ∷ x.inner) ++ y.inner;
         at_is = y.at_is;
-        inner_are = ap₂ (λ p q. p ++ q) (ap₂ (λ p (q : List Place). p ∷ q) x.at_is x.inner_are) y.inner_are ∙ back_of (map_both (x.at ∷ x.inner) y.inner);
+        inner_are = ap₂ (λ p q. p ++ q) (ap₂ (λ p (q : List Place). p ∷ q) x.at_is x.inner_are) y.inner_are
+            ∙ back_of (map_both (x.at ∷ x.inner) y.inner);
         low = omega arith;
         high = y.high;
-        between = both_in lo y.at (x.at ∷ x.inner) y.inner (xl, omega arith, wider lo x.at lo y.at x.inner (omega arith) (omega arith) x.between) (wider next y.at lo y.at y.inner (omega arith) (omega arith) y.between);
-        differ = all_both lo mid next y.at (x.at ∷ x.inner) y.inner l (xl, xh, wider lo x.at lo mid x.inner (omega arith) (omega arith) x.between) y.between (turned x.inner x.between, x.differ) y.differ;
+        between = both_in lo y.at (x.at ∷ x.inner) y.inner
+            (xl, omega arith, wider lo x.at lo y.at x.inner (omega arith) (omega arith) x.between)
+            (wider next y.at lo y.at y.inner (omega arith) (omega arith) y.between);
+        differ = all_both lo mid next y.at (x.at ∷ x.inner) y.inner l
+            (xl, xh, wider lo x.at lo mid x.inner (omega arith) (omega arith) x.between) y.between
+            (turned x.inner x.between, x.differ) y.differ;
       }
     where
       turned : (is : List ℕ) → AllIn lo x.at is → DiffersFrom x.at is
@@ -222,47 +238,65 @@ module _ (text : List ℕ) (Ok : ℕ → List Token → Type 0) where
       turned (i ∷ is) a = (λ e. let b = a.1 in absurd (omega (arith, e)), turned is a.2)
 
   mutual
-    block_bodies : {d : ℕ} {ts r : List Token} {b : tree.Block} → g.IsBlock text Ok d ts r b → Rises ts → Bodies (begins ts) (begins r) b
+    block_bodies : {d : ℕ} {ts r : List Token} {b : tree.Block} → g.IsBlock text Ok d ts r b → Rises ts
+        → Bodies (begins ts) (begins r) b
     block_bodies (g.block ok x) h = parts_bodies x h
 
-    parts_bodies : {d : ℕ} {ts r : List Token} {b : tree.Block} → g.IsParts text Ok d ts r b → Rises ts → Bodies (begins ts) (begins r) b
+    parts_bodies : {d : ℕ} {ts r : List Token} {b : tree.Block} → g.IsParts text Ok d ts r b → Rises ts
+        → Bodies (begins ts) (begins r) b
     parts_bodies (g.body {t = t} {ts = ts} x) h = record {
       at = t.from;
       inner = [];
       at_is = h.2;
       inner_are = refl;
       low = omega arith;
-      high = let k = parts_take (to.as_parts text Ok (to.parts text Ok (g.body x))) in let l = after_first t ts h in let m = tail_begins k (rest_rises t ts h) in omega arith;
+      high = let k = parts_take (to.as_parts text Ok (to.parts text Ok (g.body x))) in let l = after_first t ts h in
+          let m = tail_begins k (rest_rises t ts h) in omega arith;
       between = tt;
       differ = tt;
     }
-    parts_bodies (g.constants {u = u} (g.it_is t p) c x) h = let k = constant_plain c in let i = rest_rises t u h in let l = after_first t u h in lower (omega arith) (behind_plain k i (more_constants_bodies x (tail_rises k.tail i)))
-    parts_bodies (g.types {u = u} (g.it_is t p) c x) h = let k = type_plain c in let i = rest_rises t u h in let l = after_first t u h in lower (omega arith) (behind_plain k i (more_types_bodies x (tail_rises k.tail i)))
-    parts_bodies (g.variables {u = u} (g.it_is t p) c x) h = let k = variable_plain c in let i = rest_rises t u h in let l = after_first t u h in lower (omega arith) (behind_plain k i (more_variables_bodies x (tail_rises k.tail i)))
+    parts_bodies (g.constants {u = u} (g.it_is t p) c x) h = let k = constant_plain c in let i = rest_rises t u h in
+        let l = after_first t u h in lower (omega arith)
+        (behind_plain k i (more_constants_bodies x (tail_rises k.tail i)))
+    parts_bodies (g.types {u = u} (g.it_is t p) c x) h = let k = type_plain c in let i = rest_rises t u h in
+        let l = after_first t u h in lower (omega arith) (behind_plain k i (more_types_bodies x (tail_rises k.tail i)))
+    parts_bodies (g.variables {u = u} (g.it_is t p) c x) h = let k = variable_plain c in let i = rest_rises t u h in
+        let l = after_first t u h in lower (omega arith)
+        (behind_plain k i (more_variables_bodies x (tail_rises k.tail i)))
     parts_bodies (g.procedure {g = w} (g.it_is t p) (g.name n q) fs (g.it_is s i) k (g.it_is e j) m) h =
         let before : Tail _ _ = behind {t = t} (behind {t = n} (far (formals_tail fs) (behind {t = s} same))) in
         let at_block = tail_rises before h in
         let end = tail_rises (derived_tail (to.block text Ok k)) at_block in
         let l = after_first e w end in
-        lower (tail_begins before h) (behind_block (omega arith) (block_bodies k at_block) (parts_bodies m (rest_rises e w end)))
-    parts_bodies (g.function {i = w} (g.it_is t p) (g.name n q) fs (g.it_is c o) (g.name a z) (g.it_is s y) k (g.it_is e j) m) h =
-        let before : Tail _ _ = behind {t = t} (behind {t = n} (far (formals_tail fs) (behind {t = c} (behind {t = a} (behind {t = s} same))))) in
+        lower (tail_begins before h) (behind_block (omega arith) (block_bodies k at_block)
+        (parts_bodies m (rest_rises e w end)))
+    parts_bodies (g.function {i = w} (g.it_is t p) (g.name n q) fs (g.it_is c o) (g.name a z) (g.it_is s y) k
+        (g.it_is e j) m) h =
+        let before : Tail _ _ = behind {t = t}
+        (behind {t = n} (far (formals_tail fs) (behind {t = c} (behind {t = a} (behind {t = s} same))))) in
         let at_block = tail_rises before h in
         let end = tail_rises (derived_tail (to.block text Ok k)) at_block in
         let l = after_first e w end in
-        lower (tail_begins before h) (behind_block (omega arith) (block_bodies k at_block) (parts_bodies m (rest_rises e w end)))
+        lower (tail_begins before h) (behind_block (omega arith) (block_bodies k at_block)
+        (parts_bodies m (rest_rises e w end)))
 
-    more_constants_bodies : {d : ℕ} {ts r : List Token} {b : tree.Block} → g.IsMoreConstants text Ok d ts r b → Rises ts → Bodies (begins ts) (begins r) b
+    more_constants_bodies : {d : ℕ} {ts r : List Token} {b : tree.Block} → g.IsMoreConstants text Ok d ts r b → Rises ts
+        → Bodies (begins ts) (begins r) b
     more_constants_bodies (g.constants_end x) h = parts_bodies x h
-    more_constants_bodies (g.constants_go_on c x) h = let k = constant_plain c in behind_plain k h (more_constants_bodies x (tail_rises k.tail h))
+    more_constants_bodies (g.constants_go_on c x) h = let k = constant_plain c in
+        behind_plain k h (more_constants_bodies x (tail_rises k.tail h))
 
-    more_types_bodies : {d : ℕ} {ts r : List Token} {b : tree.Block} → g.IsMoreTypes text Ok d ts r b → Rises ts → Bodies (begins ts) (begins r) b
+    more_types_bodies : {d : ℕ} {ts r : List Token} {b : tree.Block} → g.IsMoreTypes text Ok d ts r b → Rises ts
+        → Bodies (begins ts) (begins r) b
     more_types_bodies (g.types_end x) h = parts_bodies x h
-    more_types_bodies (g.types_go_on c x) h = let k = type_plain c in behind_plain k h (more_types_bodies x (tail_rises k.tail h))
+    more_types_bodies (g.types_go_on c x) h = let k = type_plain c in
+        behind_plain k h (more_types_bodies x (tail_rises k.tail h))
 
-    more_variables_bodies : {d : ℕ} {ts r : List Token} {b : tree.Block} → g.IsMoreVariables text Ok d ts r b → Rises ts → Bodies (begins ts) (begins r) b
+    more_variables_bodies : {d : ℕ} {ts r : List Token} {b : tree.Block} → g.IsMoreVariables text Ok d ts r b → Rises ts
+        → Bodies (begins ts) (begins r) b
     more_variables_bodies (g.variables_end x) h = parts_bodies x h
-    more_variables_bodies (g.variables_go_on c x) h = let k = variable_plain c in behind_plain k h (more_variables_bodies x (tail_rises k.tail h))
+    more_variables_bodies (g.variables_go_on c x) h = let k = variable_plain c in
+        behind_plain k h (more_variables_bodies x (tail_rises k.tail h))
 
   -- ---- places of different tokens differ
 
@@ -274,11 +308,14 @@ module _ (text : List ℕ) (Ok : ℕ → List Token → Type 0) where
   places_differ i j n h k e = go (less_same_or_more i j)
     where
       go : (i < j) ⊎ ((i ≡ j) ⊎ (j < i)) → ⊥
-      go (inl l) = not_earlier (place_at text j) (subst (λ p. Earlier p (place_at text j)) e (rises text start i j l (omega arith)))
+      go (inl l) = not_earlier (place_at text j)
+          (subst (λ p. Earlier p (place_at text j)) e (rises text start i j l (omega arith)))
       go (inr (inl l)) = n l
-      go (inr (inr l)) = not_earlier (place_at text i) (subst (λ p. Earlier p (place_at text i)) (back_of e) (rises text start j i l (omega arith)))
+      go (inr (inr l)) = not_earlier (place_at text i)
+          (subst (λ p. Earlier p (place_at text i)) (back_of e) (rises text start j i l (omega arith)))
 
-  one_differs : (i : ℕ) (is : List ℕ) → i < length text → AllIn 0 (length text) is → DiffersFrom i is → DiffersFrom (place_at text i) (map (place_at text) is)
+  one_differs : (i : ℕ) (is : List ℕ) → i < length text → AllIn 0 (length text) is → DiffersFrom i is
+      → DiffersFrom (place_at text i) (map (place_at text) is)
   one_differs i [] h a d = tt
   one_differs i (j ∷ js) h a d = (places_differ i j d.0 h a.1, one_differs i js h a.2 d.1)
 
@@ -286,22 +323,33 @@ module _ (text : List ℕ) (Ok : ℕ → List Token → Type 0) where
   all_differ [] a d = tt
   all_differ (i ∷ is) a d = (one_differs i is a.1 a.2 d.0, all_differ is a.2 d.1)
 
-  bodies_differ : {lo hi : ℕ} {b : tree.Block} → hi ≤ length text → Bodies lo hi b → AllDiffer (place_of b.body ∷ parts_places b.parts)
+  bodies_differ : {lo hi : ℕ} {b : tree.Block} → hi ≤ length text → Bodies lo hi b
+      → AllDiffer (place_of b.body ∷ parts_places b.parts)
   bodies_differ {lo} {hi} l x =
       let h = x.high in
-      let a = all_differ (x.at ∷ x.inner) (omega arith, omega arith, wider lo x.at 0 (length text) x.inner (omega arith) (omega arith) x.between) (turned x.inner x.between, x.differ) in
+      let a = all_differ (x.at ∷ x.inner) (
+        omega arith,
+        omega arith,
+        wider lo x.at 0 (length text) x.inner (omega arith) (omega arith) x.between,
+      )
+      (turned x.inner x.between, x.differ) in
       subst AllDiffer (ap₂ (λ p (q : List Place). p ∷ q) (back_of x.at_is) (back_of x.inner_are)) a
     where
       turned : (is : List ℕ) → AllIn lo x.at is → DiffersFrom x.at is
       turned [] a = tt
       turned (i ∷ is) a = (λ e. let b = a.1 in absurd (omega (arith, e)), turned is a.2)
 
-  program_bodies : {ts r : List Token} {p : tree.Program} → g.IsProgram text Ok ts r p → Rises ts → AllDiffer (place_of p.block.body ∷ parts_places p.block.parts)
+  program_bodies : {ts r : List Token} {p : tree.Program} → g.IsProgram text Ok ts r p → Rises ts
+      → AllDiffer (place_of p.block.body ∷ parts_places p.block.parts)
   program_bodies (g.program (g.it_is t p) (g.name n q) x (g.it_is s i) k (g.it_is {r = w} e j)) h =
       let before : Tail _ _ = behind {t = t} (behind {t = n} (far (heading_tail x) (behind {t = s} same))) in
       let at_block = tail_rises before h in
       let end = tail_rises (derived_tail (to.block text Ok k)) at_block in
       bodies_differ (begins_in (e ∷ w) end) (block_bodies k at_block)
 
-pub places_of_bodies : (text : List ℕ) (p : tree.Program) → IsTree text p → AllDiffer (place_of p.block.body ∷ parts_places p.block.parts)
-places_of_bodies text p x = program_bodies text Any x.spells (from_rising text Any 0 x.tokens (subst (λ n. Rising text n x.tokens) (let z : Rattle.sp_tree.specs.Scans.offset text text ≡ 0 = omega arith in z) (rising text x.are_tokens.scans (omega arith))))
+pub places_of_bodies : (text : List ℕ) (p : tree.Program) → IsTree text p
+    → AllDiffer (place_of p.block.body ∷ parts_places p.block.parts)
+places_of_bodies text p x = program_bodies text Any x.spells
+    (from_rising text Any 0 x.tokens (subst (λ n. Rising text n x.tokens)
+    (let z : Rattle.sp_tree.specs.Scans.offset text text ≡ 0 = omega arith in z)
+    (rising text x.are_tokens.scans (omega arith))))

@@ -34,7 +34,8 @@ module _ (text : List ℕ) where
   by_grammar (inl (tree, h)) = by_names tree h (resolved tree) refl
   by_grammar (inr (r, h)) = inr (r, inl h)
 
-  pub answered : ((text : List ℕ) (ts : List Token) → IsTokens text ts → Begun text) → (found : Option Refusal) → Passed text found → Answered
+  pub answered : ((text : List ℕ) (ts : List Token) → IsTokens text ts → Begun text) → (found : Option Refusal)
+      → Passed text found → Answered
   answered some None (ts, h) = by_grammar (some text ts h)
   answered some (Some r) h = inr (r, inl (inl h))
 

@@ -13,10 +13,13 @@ scan_fails : (text : List ℕ) (e : Halt) → Scanned text (Err e) → ParsesTo 
 scan_fails text halt.Memory h = tt
 scan_fails text (halt.Refused r) h = inl h
 
-pub no_tokens : (text : List ℕ) (result : Result Syntax Halt) (e : Halt) → (y : Halt) × (result ≡ Err y) × (y ≡ e) → Scanned text (Err e) → ParsesTo text result
-no_tokens text result e p h = let q : result ≡ Err e = p.1 ∙ ap Err p.2 in subst (ParsesTo text) (back_of q) (scan_fails text e h)
+pub no_tokens : (text : List ℕ) (result : Result Syntax Halt) (e : Halt) → (y : Halt) × (result ≡ Err y) × (y ≡ e)
+    → Scanned text (Err e) → ParsesTo text result
+no_tokens text result e p h = let q : result ≡ Err e = p.1 ∙ ap Err p.2 in
+    subst (ParsesTo text) (back_of q) (scan_fails text e h)
 
-pub by_tokens : (text : List ℕ) (ts : List Token) → IsTokens text ts → (result : Result Syntax Halt) → Parsed text ts result → ParsesTo text result
+pub by_tokens : (text : List ℕ) (ts : List Token) → IsTokens text ts → (result : Result Syntax Halt)
+    → Parsed text ts result → ParsesTo text result
 by_tokens text ts h (Ok tree) x = record { tokens = ts; are_tokens = h; spells = x.spells; kept = x.kept }
 by_tokens text ts h (Err halt.Memory) x = tt
 by_tokens text ts h (Err (halt.Refused r)) x = inr (ts, h, x)

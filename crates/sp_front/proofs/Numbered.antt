@@ -1,5 +1,6 @@
 -- No two statements of the checked tree of a text have one number.
-use Rattle.std.proofs.Common.{◌≡◌, ℕ, List, [], ◌∷◌, ◌++◌, Some, None, Result, Ok, Err, refl, sym as back_of, ap, ap₂, ◌∙◌, subst}
+use Rattle.std.proofs.Common.{◌≡◌, ℕ, List, [], ◌∷◌, ◌++◌, Some, None, Result, Ok, Err, refl, sym as back_of, ap, ap₂}
+use Rattle.std.proofs.Common.{◌∙◌, subst}
 use Rattle.sp_base.specs.declared.place.Place.{Place}
 use Rattle.sp_base.specs.declared.halt.Refusal.{Refusal}
 use Rattle.sp_tree.specs.Found.{Found, outcome}
@@ -22,23 +23,30 @@ places_both [] cs = refl
 places_both (b ∷ bs) cs = ap (λ (l : List Place). statement_place b.body ∷ l) (places_both bs cs)
 
 -- a statement with numbers for names stands where it stood
-same_place : (around : List Scope) (l : Local) (a : s.Statement) → statement_place (named_statement around l a) ≡ place_of a
+same_place : (around : List Scope) (l : Local) (a : s.Statement)
+    → statement_place (named_statement around l a) ≡ place_of a
 same_place around l (s.Does at form) = refl
 
 mutual
-  parts_same : (around : List Scope) (l : Local) (ps : s.Parts) → body_places (parts_named around l ps).blocks ≡ parts_places ps
+  parts_same : (around : List Scope) (l : Local) (ps : s.Parts)
+      → body_places (parts_named around l ps).blocks ≡ parts_places ps
   parts_same around l s.NoPart = refl
   parts_same around l (s.Declare p rest) =
-      places_both (part_named around l p).blocks _ ∙ ap₂ (λ (x y : List Place). x ++ y) (part_same around l p) (parts_same around _ rest)
+      places_both (part_named around l p).blocks _
+      ∙ ap₂ (λ (x y : List Place). x ++ y) (part_same around l p) (parts_same around _ rest)
 
-  part_same : (around : List Scope) (l : Local) (p : s.Part) → body_places (part_named around l p).blocks ≡ part_places p
+  part_same : (around : List Scope) (l : Local) (p : s.Part)
+      → body_places (part_named around l p).blocks ≡ part_places p
   part_same around l (s.Const x v) = refl
   part_same around l (s.Kind x k) = refl
   part_same around l (s.Var xs t) = refl
-  part_same around l (s.Proc x fs answer parts body) = ap₂ (λ (p : Place) (q : List Place). p ∷ q) (same_place _ _ body) (parts_same _ _ parts)
+  part_same around l (s.Proc x fs answer parts body) =
+      ap₂ (λ (p : Place) (q : List Place). p ∷ q) (same_place _ _ body) (parts_same _ _ parts)
 
-program_same : (p : s.Program) → body_places (program_named p).blocks ≡ place_of p.block.body ∷ parts_places p.block.parts
-program_same p = ap₂ (λ (x : Place) (y : List Place). x ∷ y) (same_place _ _ p.block.body) (parts_same _ _ p.block.parts)
+program_same : (p : s.Program) → body_places (program_named p).blocks ≡ place_of p.block.body
+    ∷ parts_places p.block.parts
+program_same p = ap₂ (λ (x : Place) (y : List Place). x ∷ y) (same_place _ _ p.block.body)
+    (parts_same _ _ p.block.parts)
 
 -- what a phase gives is its tree
 given : {A : Type 0} (f : Found) (x y : A) → outcome f x ≡ Ok y → x ≡ y
@@ -53,4 +61,5 @@ text_numbers_differ text p (named, (tree, t, e), f) =
     let is_named : program_named tree ≡ named = given (names_first tree) (program_named tree) named e in
     let is_checked : program_checked named ≡ p = given (types_first named) (program_checked named) p f in
     let places = subst AllDiffer (back_of (program_same tree)) (places_of_bodies text tree t) in
-    subst (λ (q : c.Program). AllDiffer (blocks_numbers q.blocks)) is_checked (numbers_differ named (subst (λ (q : n.Program). AllDiffer (body_places q.blocks)) is_named places))
+    subst (λ (q : c.Program). AllDiffer (blocks_numbers q.blocks)) is_checked
+    (numbers_differ named (subst (λ (q : n.Program). AllDiffer (body_places q.blocks)) is_named places))

@@ -43,7 +43,8 @@ never_both : {A : Type 0} (x : A) (r : Refusal) → ◌≡◌ {A = Result A Refu
 never_both x r e = subst IsOk e tt
 
 -- a phase gives one answer to one tree
-onward : {A B : Type 0} (phase : A → Result B Refusal) (p q : A) (x y : Result B Refusal) → p ≡ q → phase p ≡ x → phase q ≡ y → x ≡ y
+onward : {A B : Type 0} (phase : A → Result B Refusal) (p q : A) (x y : Result B Refusal) → p ≡ q → phase p ≡ x
+    → phase q ≡ y → x ≡ y
 onward phase p q x y e h k = back_of h ∙ (ap phase e ∙ k)
 
 module _ (one : OneTree) (text : List ℕ) where

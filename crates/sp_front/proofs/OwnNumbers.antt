@@ -1,8 +1,12 @@
 -- Where no two statements of a tree have one number, two with one number are one statement.
-use Rattle.std.proofs.Common.{◌≡◌, ◌≢◌, ◌⊎◌, inl, inr, ℕ, zero, suc, List, [], ◌∷◌, ◌++◌, map, Some, slice_get, refl, sym, ap, ◌∙◌, subst}
+use Rattle.std.proofs.Common.{◌≡◌, ◌≢◌, ◌⊎◌, inl, inr, ℕ, zero, suc, List, [], ◌∷◌, ◌++◌, map, Some, slice_get, refl}
+use Rattle.std.proofs.Common.{sym, ap, ◌∙◌, subst}
 use Rattle.std.proofs.lemmas.List.{map-append}
-use Rattle.sp_tree.specs.PlainChecked.{Statement, Does, Form, Sequence, If, While, Repeat, For, Case, Parallel, Forall, Other, NoElse, Else, Statements, NoStatement, AndThen, On, Arms, NoArm, Or, Block, Program}
-use Rattle.sp_types.specs.StatementNumbers.{statement_numbers, form_numbers, other_numbers, statements_numbers, arms_numbers, blocks_numbers, DiffersFrom, AllDiffer}
+use Rattle.sp_tree.specs.PlainChecked.{Statement, Does, Form, Sequence, If, While, Repeat, For, Case, Parallel, Forall}
+use Rattle.sp_tree.specs.PlainChecked.{Other, NoElse, Else, Statements, NoStatement, AndThen, On, Arms, NoArm, Or}
+use Rattle.sp_tree.specs.PlainChecked.{Block, Program}
+use Rattle.sp_types.specs.StatementNumbers.{statement_numbers, form_numbers, other_numbers, statements_numbers}
+use Rattle.sp_types.specs.StatementNumbers.{arms_numbers, blocks_numbers, DiffersFrom, AllDiffer}
 use Rattle.sp_varsets.specs.Parts.{number_of, IsPart, IsInForm, IsInOther, IsAmong, IsInArms}
 use Rattle.sp_varsets.specs.AreSets.{HaveOwnNumbers}
 
@@ -34,7 +38,8 @@ abbrev mutual
   arms_parts NoArm = []
   arms_parts (Or (On cs s) rest) = parts s ++ arms_parts rest
 
-two : (xs ys : List Statement) (ns ms : List ℕ) → map number_of xs ≡ ns → map number_of ys ≡ ms → map number_of (xs ++ ys) ≡ ns ++ ms
+two : (xs ys : List Statement) (ns ms : List ℕ) → map number_of xs ≡ ns → map number_of ys ≡ ms
+    → map number_of (xs ++ ys) ≡ ns ++ ms
 two xs ys ns ms p q = map-append number_of xs ys ∙ (ap (λ ns. ns ++ map number_of ys) p ∙ ap (λ ms. ns ++ ms) q)
 
 mutual
@@ -43,7 +48,8 @@ mutual
 
   form_numbered : (f : Form) → map number_of (form_parts f) ≡ form_numbers f
   form_numbered (Sequence ss) = statements_numbered ss
-  form_numbered (If e s o) = two (parts s) (other_parts o) (statement_numbers s) (other_numbers o) (numbered s) (other_numbered o)
+  form_numbered (If e s o) = two (parts s) (other_parts o) (statement_numbers s) (other_numbers o) (numbered s)
+      (other_numbered o)
   form_numbered (While e s) = numbered s
   form_numbered (Repeat s e) = numbered s
   form_numbered (For x at from down to s) = numbered s
@@ -58,11 +64,13 @@ mutual
 
   statements_numbered : (ss : Statements) → map number_of (statements_parts ss) ≡ statements_numbers ss
   statements_numbered NoStatement = refl
-  statements_numbered (AndThen s rest) = two (parts s) (statements_parts rest) (statement_numbers s) (statements_numbers rest) (numbered s) (statements_numbered rest)
+  statements_numbered (AndThen s rest) = two (parts s) (statements_parts rest) (statement_numbers s)
+      (statements_numbers rest) (numbered s) (statements_numbered rest)
 
   arms_numbered : (xs : Arms) → map number_of (arms_parts xs) ≡ arms_numbers xs
   arms_numbered NoArm = refl
-  arms_numbered (Or (On cs s) rest) = two (parts s) (arms_parts rest) (statement_numbers s) (arms_numbers rest) (numbered s) (arms_numbered rest)
+  arms_numbered (Or (On cs s) rest) = two (parts s) (arms_parts rest) (statement_numbers s) (arms_numbers rest)
+      (numbered s) (arms_numbered rest)
 
 abbrev In : Statement → List Statement → Type 0
 In t [] = ⊥
@@ -116,11 +124,14 @@ all_parts (b ∷ bs) = parts b.body ++ all_parts bs
 
 all_numbered : (bs : List Block) → map number_of (all_parts bs) ≡ blocks_numbers bs
 all_numbered [] = refl
-all_numbered (b ∷ bs) = two (parts b.body) (all_parts bs) (statement_numbers b.body) (blocks_numbers bs) (numbered b.body) (all_numbered bs)
+all_numbered (b ∷ bs) = two (parts b.body) (all_parts bs) (statement_numbers b.body) (blocks_numbers bs)
+    (numbered b.body) (all_numbered bs)
 
-in_all : (t : Statement) (bs : List Block) (b : ℕ) (k : Block) → slice_get bs b ≡ Some k → IsPart t k.body → In t (all_parts bs)
+in_all : (t : Statement) (bs : List Block) (b : ℕ) (k : Block) → slice_get bs b ≡ Some k → IsPart t k.body
+    → In t (all_parts bs)
 in_all t [] b k e h = absurd (cc e)
-in_all t (x ∷ xs) zero k e h = in_first t (parts x.body) (all_parts xs) (part_in t x.body (subst (λ (z : Block). IsPart t z.body) (let same : k ≡ x = cc e in same) h))
+in_all t (x ∷ xs) zero k e h = in_first t (parts x.body) (all_parts xs)
+    (part_in t x.body (subst (λ (z : Block). IsPart t z.body) (let same : k ≡ x = cc e in same) h))
 in_all t (x ∷ xs) (suc b) k e h = in_second t (parts x.body) (all_parts xs) (in_all t xs b k e h)
 
 differs : (n : ℕ) (xs : List Statement) (t : Statement) → DiffersFrom n (map number_of xs) → In t xs → n ≢ number_of t
@@ -128,7 +139,8 @@ differs n [] t d h = absurd h
 differs n (x ∷ xs) t d (inl e) = λ same. d.0 (same ∙ ap number_of e)
 differs n (x ∷ xs) t d (inr h) = differs n xs t d.1 h
 
-one : (xs : List Statement) (s t : Statement) → AllDiffer (map number_of xs) → In s xs → In t xs → number_of s ≡ number_of t → s ≡ t
+one : (xs : List Statement) (s t : Statement) → AllDiffer (map number_of xs) → In s xs → In t xs
+    → number_of s ≡ number_of t → s ≡ t
 one [] s t d h k e = absurd h
 one (x ∷ xs) s t d (inl p) (inl q) e = p ∙ sym q
 one (x ∷ xs) s t d (inl p) (inr k) e = absurd (differs (number_of x) xs t d.0 k (sym (ap number_of p) ∙ e))
@@ -136,4 +148,5 @@ one (x ∷ xs) s t d (inr h) (inl q) e = absurd (differs (number_of x) xs s d.0 
 one (x ∷ xs) s t d (inr h) (inr k) e = one xs s t d.1 h k e
 
 pub own_numbers : (c : Program) → AllDiffer (blocks_numbers c.blocks) → HaveOwnNumbers c
-own_numbers c d b e k m p q s t h i same = one (all_parts c.blocks) s t (subst AllDiffer (sym (all_numbered c.blocks)) d) (in_all s c.blocks b k p h) (in_all t c.blocks e m q i) same
+own_numbers c d b e k m p q s t h i same = one (all_parts c.blocks) s t
+    (subst AllDiffer (sym (all_numbered c.blocks)) d) (in_all s c.blocks b k p h) (in_all t c.blocks e m q i) same

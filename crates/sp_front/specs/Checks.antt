@@ -1,3 +1,4 @@
+-- Some of this belongs to what the program promises (docs/promise.txt).
 -- What a text is by the phases up to types: its checked tree, or the first rule that it breaks. The contract of the
 -- check promises it, and the top call's causes cite it; a phase's rules count only where the phases before it have
 -- none.

@@ -1,3 +1,4 @@
+-- Some of this belongs to what the program promises (docs/promise.txt).
 -- What a text is by all phases, the rules of interference among them. The contract of `compile` promises it, with the
 -- sets that code needs; the top call's causes cite it.
 use Rattle.std.specs.Prelude.{◌⊎◌, ℕ, List, Result, Ok, Err}

@@ -1,3 +1,4 @@
+-- None of this belongs to what the program promises: it is for contracts between crates.
 -- What a text is by its characters and its grammar: its tree, or the first of their rules that it breaks. The contract
 -- of the reader promises it, over the scanner and the parser together.
 use Rattle.std.specs.Prelude.{ℕ, List, Result, Ok, Err}

@@ -64,7 +64,8 @@ pub fn analyse(alloc: Global, text: &[u8]) -> Result<(Checked, Sets), Halt>
 /// characters and its grammar, then of its names, of its types, and of interference. On no input, with no limits and in
 /// no lawful schedule does a process of an accepted text write what a parallel one reads or writes.
 ///
-/// It recurses as deep as the longest chain of operators is long, and wants a stack for that, as `analyse_apart` has one.
+/// It recurses as deep as the longest chain of operators is long, and wants a stack for that, as `analyse_apart` has
+/// one.
 pub fn compile(alloc: Global, text: &[u8]) -> Result<Accepted, Halt>
     ensures compiles { Compiles text.now result }
     ensures keeps { IfOk result (λ a. KeepsAllRules text.now) }

@@ -29,8 +29,8 @@ pub fn one_answer()
     one_verdict();
 }
 
-/// The first rule of all phases that a text breaks is one rule at one place, and a text that has an accepted tree breaks
-/// none.
+/// The first rule of all phases that a text breaks is one rule at one place, and a text that has an accepted tree
+/// breaks none.
 pub fn one_compilation()
     ensures refusal { (text : List ℕ) (a b : Refusal) → BreaksAnyFirst text a → BreaksAnyFirst text b → a ≡ b }
     ensures not_both { (text : List ℕ) (p : Program) (r : Refusal) → IsAccepted text p → BreaksAnyFirst text r → ⊥ }

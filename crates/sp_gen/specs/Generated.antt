@@ -1,3 +1,4 @@
+-- Some of this belongs to what the program promises (docs/promise.txt).
 -- The text of the generated program, line by line. The contract of `generated` cites it, and so do the top call's
 -- causes for `gen`: the program is a fact of the text, so that `run` and `code` may be asked for it as for any other
 -- text.

@@ -1,6 +1,8 @@
 -- Tests that tell the targets and the expression variables of any statement, from the sets of a tree's blocks; and
 -- lists of those that pass.
-use Rattle.std.proofs.Common.{◌≡◌, inl, inr, ℕ, zero, suc, ◌+◌, ◌*◌, ◌<◌, ◌≤◌, Bool, true, false, cond, ◌&&◌, ◌||◌, ◌==◌, if◌then◌else◌, List, [], ◌∷◌, length, slice_get, Option, Some, None, refl, sym, ap, ◌∙◌, subst, arith, true≢false, eq-eqb, ne_eqb, eqb-true}
+use Rattle.std.proofs.Common.{◌≡◌, inl, inr, ℕ, zero, suc, ◌+◌, ◌*◌, ◌<◌, ◌≤◌, Bool, true, false, cond, ◌&&◌, ◌||◌}
+use Rattle.std.proofs.Common.{◌==◌, if◌then◌else◌, List, [], ◌∷◌, length, slice_get, Option, Some, None, refl, sym, ap}
+use Rattle.std.proofs.Common.{◌∙◌, subst, arith, true≢false, eq-eqb, ne_eqb, eqb-true}
 use Rattle.std.specs.Prelude.{option_map}
 use Rattle.std.specs.List.{filter}
 use Rattle.std.proofs.lemmas.Option.{slice_get-map}
@@ -32,7 +34,8 @@ unfolding some_use
 use_found f [] h = absurd (true≢false (sym h))
 use_found f (u ∷ us) h = go (f u) refl h (λ k. use_found f us k)
   where
-    go : (b : Bool) → f u ≡ b → b || some_use f us ≡ true → (some_use f us ≡ true → (v : Use) × Among v us × (f v ≡ true)) → (v : Use) × Among v (u ∷ us) × (f v ≡ true)
+    go : (b : Bool) → f u ≡ b → b || some_use f us ≡ true
+        → (some_use f us ≡ true → (v : Use) × Among v us × (f v ≡ true)) → (v : Use) × Among v (u ∷ us) × (f v ≡ true)
     go true e k later = (u, inl refl, e)
     go false e k later = let r = later k in (r.0, inr r.1, r.2)
 
@@ -60,18 +63,21 @@ above_each n (v ∷ vs) u (inr a) = omega (arith, above_each n vs u a)
 
 -- ---- the tests of a tree with its sets
 
-block_given : (tree : c.Program) (b : ℕ) → is_given (slice_get tree.blocks b) ≡ true → (k : c.Block) × (slice_get tree.blocks b ≡ Some k)
+block_given : (tree : c.Program) (b : ℕ) → is_given (slice_get tree.blocks b) ≡ true → (k : c.Block)
+    × (slice_get tree.blocks b ≡ Some k)
 block_given tree b h = go (slice_get tree.blocks b) refl
   where
     go : (o : Option c.Block) → slice_get tree.blocks b ≡ o → (k : c.Block) × (slice_get tree.blocks b ≡ Some k)
     go None e = absurd (true≢false (sym h ∙ ap is_given e))
     go (Some k) e = (k, e)
 
-given_block : (tree : c.Program) (b : ℕ) (k : Block) → slice_get (bare tree).blocks b ≡ Some k → (m : c.Block) × (slice_get tree.blocks b ≡ Some m)
+given_block : (tree : c.Program) (b : ℕ) (k : Block) → slice_get (bare tree).blocks b ≡ Some k → (m : c.Block)
+    × (slice_get tree.blocks b ≡ Some m)
 given_block tree b k h = go (slice_get tree.blocks b) refl
   where
     go : (o : Option c.Block) → slice_get tree.blocks b ≡ o → (m : c.Block) × (slice_get tree.blocks b ≡ Some m)
-    go None e = let n : None ≡ Some k = sym (slice_get-map bare_block tree.blocks b ∙ ap (option_map bare_block) e) ∙ h in absurd (cc n)
+    go None e = let n : None ≡ Some k = sym (slice_get-map bare_block tree.blocks b ∙ ap (option_map bare_block) e)
+        ∙ h in absurd (cc n)
     go (Some m) e = (m, e)
 
 module _ (tree : c.Program) (sets : Sets) where
@@ -102,7 +108,8 @@ module _ (tree : c.Program) (sets : Sets) where
   limit : Use → ℕ
   limit (Target y) = y + 1
   limit (Seen y) = y + 1
-  limit (CallOf b args) = 64 * length (implicit_targets_of sets b).words + 64 * length (implicit_expressions_of sets b).words
+  limit (CallOf b args) = 64 * length (implicit_targets_of sets b).words
+      + 64 * length (implicit_expressions_of sets b).words
   limit (ParallelOf ss) = 0
   limit (ForallOf y s) = 0
   limit Stop = 0
@@ -115,7 +122,9 @@ module _ (tree : c.Program) (sets : Sets) where
   aims_below x (Target y) h = ne_eqb x y (λ e. omega (arith, e, h))
   aims_below x (Seen y) h = refl
   aims_below x (CallOf b args) h =
-      false_from_ne_true _ (λ k. let low = below_words (implicit_targets_of sets b).words x (and_parts (is_given (slice_get tree.blocks b)) (has (implicit_targets_of sets b) x) k).1 in omega (arith, low, h))
+      false_from_ne_true _ (λ k. let low = below_words (implicit_targets_of sets b).words x
+      (and_parts (is_given (slice_get tree.blocks b)) (has (implicit_targets_of sets b) x) k).1 in
+      omega (arith, low, h))
   aims_below x (ParallelOf ss) h = refl
   aims_below x (ForallOf y s) h = refl
   aims_below x Stop h = refl
@@ -125,7 +134,9 @@ module _ (tree : c.Program) (sets : Sets) where
   sees_below x (Target y) h = refl
   sees_below x (Seen y) h = ne_eqb x y (λ e. omega (arith, e, h))
   sees_below x (CallOf b args) h =
-      false_from_ne_true _ (λ k. let low = below_words (implicit_expressions_of sets b).words x (and_parts (is_given (slice_get tree.blocks b)) (has (implicit_expressions_of sets b) x) k).1 in omega (arith, low, h))
+      false_from_ne_true _ (λ k. let low = below_words (implicit_expressions_of sets b).words x
+      (and_parts (is_given (slice_get tree.blocks b)) (has (implicit_expressions_of sets b) x) k).1 in
+      omega (arith, low, h))
   sees_below x (ParallelOf ss) h = refl
   sees_below x (ForallOf y s) h = refl
   sees_below x Stop h = refl
@@ -166,7 +177,8 @@ module _ (tree : c.Program) (sets : Sets) where
     target_tells s x (b ∷ bs, (args, h, k, e, free, reach)) =
         let m = given_block tree b k e in
         use_finds (aims x) (stmt_uses s) (CallOf b args) (stmt_among s (CallOf b args) h)
-        (ap (λ (g : Bool). g && has (implicit_targets_of sets b) x) (ap is_given m.1) ∙ ((are.blocks b m.0 m.1).targets x).1 (k, e, free, (bs, reach)))
+        (ap (λ (g : Bool). g && has (implicit_targets_of sets b) x) (ap is_given m.1)
+        ∙ ((are.blocks b m.0 m.1).targets x).1 (k, e, free, (bs, reach)))
 
     sees_is : (s : Stmt) (x : ℕ) (u : Use) → In_stmt s u → sees x u ≡ true → IsSeen (bare tree) (In_stmt s) x
     unfolding sees
@@ -191,7 +203,8 @@ module _ (tree : c.Program) (sets : Sets) where
     seen_tells s x (b ∷ bs, (args, h, k, e, free, reach)) =
         let m = given_block tree b k e in
         use_finds (sees x) (stmt_uses s) (CallOf b args) (stmt_among s (CallOf b args) h)
-        (ap (λ (g : Bool). g && has (implicit_expressions_of sets b) x) (ap is_given m.1) ∙ ((are.blocks b m.0 m.1).expressions x).1 (k, e, free, (bs, reach)))
+        (ap (λ (g : Bool). g && has (implicit_expressions_of sets b) x) (ap is_given m.1)
+        ∙ ((are.blocks b m.0 m.1).expressions x).1 (k, e, free, (bs, reach)))
 
 -- ---- lists of the numbers that fit
 
@@ -203,7 +216,8 @@ has_fitting f x (suc n) y low h e = go (x == y) refl (λ up. has_fitting f (suc 
     here true i same = inl (sym same)
     here false i same = absurd (true≢false (sym e ∙ ap f (sym same) ∙ i))
 
-    later : (b : Bool) → IsMember y (fitting f (suc x) n) → IsMember y (if b then x ∷ fitting f (suc x) n else fitting f (suc x) n)
+    later : (b : Bool) → IsMember y (fitting f (suc x) n)
+        → IsMember y (if b then x ∷ fitting f (suc x) n else fitting f (suc x) n)
     later true m = inr m
     later false m = m
 
@@ -218,7 +232,8 @@ pub of_fitting : (f : ℕ → Bool) (x n y : ℕ) → IsMember y (fitting f x n)
 of_fitting f x zero y m = absurd m
 of_fitting f x (suc n) y m = go (f x) refl (λ k. of_fitting f (suc x) n y k) m
   where
-    go : (b : Bool) → f x ≡ b → (IsMember y (fitting f (suc x) n) → (suc x ≤ y) × (f y ≡ true)) → IsMember y (if b then x ∷ fitting f (suc x) n else fitting f (suc x) n) → (x ≤ y) × (f y ≡ true)
+    go : (b : Bool) → f x ≡ b → (IsMember y (fitting f (suc x) n) → (suc x ≤ y) × (f y ≡ true))
+        → IsMember y (if b then x ∷ fitting f (suc x) n else fitting f (suc x) n) → (x ≤ y) × (f y ≡ true)
     go true e later (inl same) = (omega (arith, same), ap f same ∙ e)
     go true e later (inr k) = let r = later k in (omega (arith, r.0), r.1)
     go false e later k = let r = later k in (omega (arith, r.0), r.1)
@@ -227,12 +242,14 @@ pub fitting_in_order : (f : ℕ → Bool) (x n : ℕ) → IsInOrder (fitting f x
 fitting_in_order f x zero = tt
 fitting_in_order f x (suc n) = go (f x) (fitting_in_order f (suc x) n)
   where
-    go : (b : Bool) → IsInOrder (fitting f (suc x) n) → IsInOrder (if b then x ∷ fitting f (suc x) n else fitting f (suc x) n)
+    go : (b : Bool) → IsInOrder (fitting f (suc x) n)
+        → IsInOrder (if b then x ∷ fitting f (suc x) n else fitting f (suc x) n)
     go true rest = ((λ y m. let r = of_fitting f (suc x) n y m in omega (arith, r.0)), rest)
     go false rest = rest
 
 -- none fits beyond both
-pub same_fitting : (f : ℕ → Bool) (x n m : ℕ) → ((y : ℕ) → x + n ≤ y → f y ≡ false) → ((y : ℕ) → x + m ≤ y → f y ≡ false) → fitting f x n ≡ fitting f x m
+pub same_fitting : (f : ℕ → Bool) (x n m : ℕ) → ((y : ℕ) → x + n ≤ y → f y ≡ false)
+    → ((y : ℕ) → x + m ≤ y → f y ≡ false) → fitting f x n ≡ fitting f x m
 same_fitting f x zero zero a b = refl
 same_fitting f x zero (suc m) a b =
     same_fitting f (suc x) zero m (λ y h. a y (omega (arith, h))) (λ y h. b y (omega (arith, h)))
@@ -241,7 +258,8 @@ same_fitting f x (suc n) zero a b =
     ap (λ (t : Bool). if t then x ∷ fitting f (suc x) n else fitting f (suc x) n) (b x (omega arith))
     ∙ same_fitting f (suc x) n zero (λ y h. a y (omega (arith, h))) (λ y h. b y (omega (arith, h)))
 same_fitting f x (suc n) (suc m) a b =
-    ap (λ (ys : List ℕ). if f x then x ∷ ys else ys) (same_fitting f (suc x) n m (λ y h. a y (omega (arith, h))) (λ y h. b y (omega (arith, h))))
+    ap (λ (ys : List ℕ). if f x then x ∷ ys else ys)
+    (same_fitting f (suc x) n m (λ y h. a y (omega (arith, h))) (λ y h. b y (omega (arith, h))))
 
 -- ---- lists without some numbers
 
@@ -262,7 +280,8 @@ pub of_filter : (f : ℕ → Bool) (xs : List ℕ) (y : ℕ) → IsMember y (fil
 of_filter f [] y m = absurd m
 of_filter f (x ∷ xs) y m = go (f x) refl (λ k. of_filter f xs y k) m
   where
-    go : (b : Bool) → f x ≡ b → (IsMember y (filter f xs) → IsMember y xs × (f y ≡ true)) → IsMember y (cond b (x ∷ filter f xs) (filter f xs)) → IsMember y (x ∷ xs) × (f y ≡ true)
+    go : (b : Bool) → f x ≡ b → (IsMember y (filter f xs) → IsMember y xs × (f y ≡ true))
+        → IsMember y (cond b (x ∷ filter f xs) (filter f xs)) → IsMember y (x ∷ xs) × (f y ≡ true)
     go true e later (inl same) = (inl same, ap f same ∙ e)
     go true e later (inr k) = let r = later k in (inr r.0, r.1)
     go false e later k = let r = later k in (inr r.0, r.1)

@@ -12,7 +12,8 @@ abbrev Within : List ℕ → List ℕ → Type 0
 Within xs ys = (z : ℕ) → IsMember z xs → IsMember z ys
 
 -- the first of two lists in order, with the same numbers
-first_same : (x y : ℕ) (xs ys : List ℕ) → IsInOrder (x ∷ xs) → IsInOrder (y ∷ ys) → Within (x ∷ xs) (y ∷ ys) → Within (y ∷ ys) (x ∷ xs) → x ≡ y
+first_same : (x y : ℕ) (xs ys : List ℕ) → IsInOrder (x ∷ xs) → IsInOrder (y ∷ ys) → Within (x ∷ xs) (y ∷ ys)
+    → Within (y ∷ ys) (x ∷ xs) → x ≡ y
 first_same x y xs ys ox oy f g = go (f x (inl refl)) (g y (inl refl))
   where
     go : IsMember x (y ∷ ys) → IsMember y (x ∷ xs) → x ≡ y
@@ -50,6 +51,8 @@ module _ (p : Program) where
 
   pub one_code : (a b : Parts) → IsCodeOf p a → IsCodeOf p b → a ≡ b
   one_code a b (h, e) (k, o) =
-      let moves = λ (s : Stmt). in_order_same (h.moves s) (k.moves s) (h.moves_in_order s) (k.moves_in_order s) (one_moved h k s) (one_moved k h s) in
-      let shares = λ (s : Stmt). in_order_same (h.shares s) (k.shares s) (h.shares_in_order s) (k.shares_in_order s) (one_shared h k s) (one_shared k h s) in
+      let moves = λ (s : Stmt). in_order_same (h.moves s) (k.moves s) (h.moves_in_order s) (k.moves_in_order s)
+      (one_moved h k s) (one_moved k h s) in
+      let shares = λ (s : Stmt). in_order_same (h.shares s) (k.shares s) (h.shares_in_order s) (k.shares_in_order s)
+      (one_shared h k s) (one_shared k h s) in
       e ∙ (λ i. program_code p (λ s. moves s i) (λ s. shares s i)) ∙ sym o

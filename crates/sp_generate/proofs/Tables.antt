@@ -1,5 +1,6 @@
 -- What is looked up in the generator's tables.
-use Rattle.std.proofs.Common.{◌≡◌, ℕ, zero, suc, ◌+◌, List, [], ◌∷◌, Option, Some, None, slice_get, map, refl, sym, ap, ◌∙◌, arith}
+use Rattle.std.proofs.Common.{◌≡◌, ℕ, zero, suc, ◌+◌, List, [], ◌∷◌, Option, Some, None, slice_get, map, refl, sym, ap}
+use Rattle.std.proofs.Common.{◌∙◌, arith}
 use Rattle.std.specs.Prelude.{option_map, sum, take}
 use Rattle.std.proofs.lemmas.List.Sums.{sum-map, sum_by-cons}
 use Rattle.std.proofs.lemmas.Option.{slice_get-map, same_Some}
@@ -19,7 +20,8 @@ first_is xs k n e = ap (first_or 0) (sym e)
 pub none_is : (xs : List ℕ) (k : ℕ) → slice_get xs k ≡ None → 0 ≡ first_or 0 (slice_get xs k)
 none_is xs k e = ap (first_or 0) (sym e)
 
-slots_at : (p : Program) (x : ℕ) (vs : List Variable) (k : ℕ) → first_or 0 (slice_get (slots_from p x vs) k) ≡ slot_by p (x + k) (slice_get vs k)
+slots_at : (p : Program) (x : ℕ) (vs : List Variable) (k : ℕ)
+    → first_or 0 (slice_get (slots_from p x vs) k) ≡ slot_by p (x + k) (slice_get vs k)
 slots_at p x [] k = refl
 slots_at p x (v ∷ vs) zero = ap (λ (y : ℕ). slot_in p v.block y) (omega arith)
 slots_at p x (v ∷ vs) (suc k) = slots_at p (suc x) vs k ∙ ap (λ (y : ℕ). slot_by p y (slice_get vs k)) (omega arith)
@@ -36,24 +38,38 @@ more_on n (Some m) = ap Some (omega arith)
 sum_on : (f : List ℕ × ℕ → ℕ) (x : List ℕ × ℕ) (xs : List (List ℕ × ℕ)) → sum (map f (x ∷ xs)) ≡ f x + sum (map f xs)
 sum_on f x xs = sum-map f (x ∷ xs) ∙ sum_by-cons f x xs ∙ ap (λ (s : ℕ). f x + s) (sym (sum-map f xs))
 
-offset_at : (p : Program) (n : ℕ) (fs : List (List ℕ × ℕ)) (f o : ℕ) → slice_get (offsets_from (sizes p.kinds) n fs) f ≡ Some o → o ≡ n + field_offset p fs f
+offset_at : (p : Program) (n : ℕ) (fs : List (List ℕ × ℕ)) (f o : ℕ)
+    → slice_get (offsets_from (sizes p.kinds) n fs) f ≡ Some o → o ≡ n + field_offset p fs f
 offset_at p n [] f o e = absurd (cc e)
 offset_at p n (x ∷ fs) zero o e = let q : n ≡ o = cc e in omega (arith, q)
-offset_at p n (x ∷ fs) (suc f) o e = omega (arith, offset_at p (n + size p x.1) fs f o e, sum_on (λ y. size p y.1) x (take f fs))
+offset_at p n (x ∷ fs) (suc f) o e = omega (
+  arith,
+  offset_at p (n + size p x.1) fs f o e,
+  sum_on (λ y. size p y.1) x (take f fs),
+)
 
-offset_is : (p : Program) (fs : List (List ℕ × ℕ)) (f o : ℕ) → slice_get (offsets_from (sizes p.kinds) 0 fs) f ≡ Some o → o ≡ field_offset p fs f
+offset_is : (p : Program) (fs : List (List ℕ × ℕ)) (f o : ℕ) → slice_get (offsets_from (sizes p.kinds) 0 fs) f ≡ Some o
+    → o ≡ field_offset p fs f
 offset_is p fs f o e = offset_at p 0 fs f o e ∙ omega arith
 
-pub offset_found : (p : Program) (k f o : ℕ) (os : List ℕ) (fs : List (List ℕ × ℕ)) → slice_get (offsets_of p) k ≡ Some os → slice_get os f ≡ Some o → slice_get p.kinds k ≡ Some (kind.Fields fs) → o ≡ field_offset p fs f
+pub offset_found : (p : Program) (k f o : ℕ) (os : List ℕ) (fs : List (List ℕ × ℕ))
+    → slice_get (offsets_of p) k ≡ Some os → slice_get os f ≡ Some o → slice_get p.kinds k ≡ Some (kind.Fields fs)
+    → o ≡ field_offset p fs f
 offset_found p k f o os fs i j e =
-    let there : Some (offsets_from (sizes p.kinds) 0 fs) ≡ Some os = ap (option_map (offsets_by (sizes p.kinds))) (sym e) ∙ sym (slice_get-map (offsets_by (sizes p.kinds)) p.kinds k) ∙ i in
+    let there : Some (offsets_from (sizes p.kinds) 0 fs) ≡ Some os =
+    ap (option_map (offsets_by (sizes p.kinds))) (sym e)
+    ∙ sym (slice_get-map (offsets_by (sizes p.kinds)) p.kinds k) ∙ i in
     offset_is p fs f o (ap (λ (xs : List ℕ). slice_get xs f) (same_Some _ _ there) ∙ j)
 
 -- the plain block of a number
-pub block_at : (blocks : List ast_b.Block) (f : ℕ) (b : ast_b.Block) → slice_get blocks f ≡ Some b → slice_get (map bare_block (map block_of blocks)) f ≡ Some (bare_block (block_of b))
+pub block_at : (blocks : List ast_b.Block) (f : ℕ) (b : ast_b.Block) → slice_get blocks f ≡ Some b
+    → slice_get (map bare_block (map block_of blocks)) f ≡ Some (bare_block (block_of b))
 block_at blocks f b e =
-    slice_get-map bare_block (map block_of blocks) f ∙ ap (option_map bare_block) (slice_get-map block_of blocks f) ∙ ap (λ (o : Option ast_b.Block). option_map bare_block (option_map block_of o)) e
+    slice_get-map bare_block (map block_of blocks) f ∙ ap (option_map bare_block) (slice_get-map block_of blocks f)
+    ∙ ap (λ (o : Option ast_b.Block). option_map bare_block (option_map block_of o)) e
 
-pub no_block : (blocks : List ast_b.Block) (f : ℕ) → slice_get blocks f ≡ None → slice_get (map bare_block (map block_of blocks)) f ≡ None
+pub no_block : (blocks : List ast_b.Block) (f : ℕ) → slice_get blocks f ≡ None
+    → slice_get (map bare_block (map block_of blocks)) f ≡ None
 no_block blocks f e =
-    slice_get-map bare_block (map block_of blocks) f ∙ ap (option_map bare_block) (slice_get-map block_of blocks f) ∙ ap (λ (o : Option ast_b.Block). option_map bare_block (option_map block_of o)) e
+    slice_get-map bare_block (map block_of blocks) f ∙ ap (option_map bare_block) (slice_get-map block_of blocks f)
+    ∙ ap (λ (o : Option ast_b.Block). option_map bare_block (option_map block_of o)) e

@@ -1,3 +1,4 @@
+-- Some of this belongs to what the program promises (docs/promise.txt).
 -- The answer of the generator: exactly the code of the tree, or that it would be too long. The contract of the
 -- generator promises it, with the sets that the process statements are handed in order of their numbers.
 use Rattle.std.specs.Prelude.{◌≡◌, ◌<◌, ◌≤◌, ℕ, List, Result, Ok, Err}
@@ -25,8 +26,8 @@ pub record Handing (p : Program) : Type 0 where
 abbrev pub IsCodeOf : Program → Parts → Type 0
 IsCodeOf p code = (h : Handing p) × (code ≡ program_code p h.moves h.shares)
 
--- code exactly of this program; its length where it is above the limit, and only there; no word of when memory is refused
--- but that it is not above the limit
+-- code exactly of this program; its length where it is above the limit, and only there; no word of when memory is
+-- refused but that it is not above the limit
 abbrev pub Answered : c.Program → Result Parts GenError → Type 0
 Answered tree (Ok code) = (tree_length (bare tree) ≤ 1048576) × IsCodeOf (bare tree) code
 Answered tree (Err (TooLong n)) = (1048576 < tree_length (bare tree)) × (n ≡ told (tree_length (bare tree)))

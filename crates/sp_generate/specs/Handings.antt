@@ -1,3 +1,4 @@
+-- Some of this belongs to what the program promises (docs/promise.txt).
 -- What process statements are handed: the variables of their sets, in order of their numbers. The contracts of
 -- `handed` promise it; an order is fixed, so that the code of a text is one.
 use Rattle.std.specs.Prelude.{ℕ, zero, suc, ◌<◌, ◌*◌, List, [], ◌∷◌, Bool, not, if◌then◌else◌, length}

@@ -1,3 +1,4 @@
+-- None of this belongs to what the program promises: it is for contracts between crates.
 -- The code of a program as it is written: its fork tables have what the sets tell by the numbers of process statements.
 -- The parts of the generator promise it, and a law leads it to the code of `sp_code`.
 use Rattle.sp_tree.specs.PlainChecked as c

@@ -1,3 +1,4 @@
+-- None of this belongs to what the program promises: it is for contracts between crates.
 -- What is written by the functions over trees in memory: the words of their contracts, which name the draft before and
 -- the part, and no more.
 use Rattle.std.specs.Prelude.{ℕ, List, map, Some, None}

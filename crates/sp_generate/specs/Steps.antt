@@ -1,3 +1,4 @@
+-- None of this belongs to what the program promises: it is for contracts between crates.
 -- The first and the last instruction of a `for` loop, up and down: for the contracts that write loops.
 use Rattle.std.specs.Prelude.{ℕ, Bool, if◌then◌else◌}
 use Rattle.sp_code.specs.declared.instr.Instr.{Instr}

@@ -1,3 +1,4 @@
+-- None of this belongs to what the program promises: it is for contracts between crates.
 -- What the generator keeps in tables of a tree: where variables stand in their frames, and where fields begin. The
 -- contracts of `cells`, `frames` and `ground` cite it, so that no place is worked out twice.
 use Rattle.std.specs.Prelude.{ℕ, suc, ◌+◌, List, [], ◌∷◌, map, slice_get, Option, Some, None}

@@ -1,7 +1,11 @@
+-- None of this belongs to what the program promises: it is for contracts between crates.
 -- The fork tables of a tree with numbers, where the variables of a process statement are told by its number. Written
 -- code is said by it, since the tree in memory has numbers and no sets.
 use Rattle.std.specs.Prelude.{ℕ, ◌+◌, List, [], ◌∷◌, ◌++◌, Option, Some, None}
-use Rattle.sp_tree.specs.PlainChecked.{Statement, Does, Form, Empty, Assign, Call, Sequence, If, While, Repeat, For, Case, Parallel, Forall, Assume, ReadValue, ReadLine, WriteValue, WriteText, WriteLine, Open, Send, Receive, NoElse, Else, Statements, NoStatement, AndThen, On, Arms, NoArm, Or, Block}
+use Rattle.sp_tree.specs.PlainChecked.{Statement, Does, Form, Empty, Assign, Call, Sequence, If, While, Repeat, For}
+use Rattle.sp_tree.specs.PlainChecked.{Case, Parallel, Forall, Assume, ReadValue, ReadLine, WriteValue, WriteText}
+use Rattle.sp_tree.specs.PlainChecked.{WriteLine, Open, Send, Receive, NoElse, Else, Statements, NoStatement, AndThen}
+use Rattle.sp_tree.specs.PlainChecked.{On, Arms, NoArm, Or, Block}
 use Rattle.sp_tree.specs.Bare.{bare_expression, bare_statement, bare_arms, bare_block}
 use Rattle.sp_tree.specs.Plain.{Program}
 use Rattle.sp_code.specs.declared.code.ChildTable.{ChildTable}
@@ -11,7 +15,12 @@ use Rattle.sp_code.specs.Places.{after_value, after_tests, after, after_block}
 
 module _ (p : Program) (moved shared : ℕ → List ℕ) where
   abbrev pub child : ℕ → Option ℕ → Statement → ChildTable
-  child q index (Does n at form) = record { entry = q; moved = moved n; shared = but_index index (shared n); index = index }
+  child q index (Does n at form) = record {
+    entry = q;
+    moved = moved n;
+    shared = but_index index (shared n);
+    index = index;
+  }
 
   abbrev pub children : ℕ → Statements → List ChildTable
   children q NoStatement = []
@@ -29,11 +38,14 @@ module _ (p : Program) (moved shared : ℕ → List ℕ) where
     form_tables q (Sequence ss) = tables_all q ss
     form_tables q (If e s NoElse) = tables (after_value q (bare_expression e) + 1) s
     form_tables q (If e s (Else t)) =
-        tables (after_value q (bare_expression e) + 1) s ++ tables (after p (after_value q (bare_expression e) + 1) (bare_statement s) + 1) t
+        tables (after_value q (bare_expression e) + 1) s
+        ++ tables (after p (after_value q (bare_expression e) + 1) (bare_statement s) + 1) t
     form_tables q (While e s) = tables (after_value q (bare_expression e) + 1 + 1) s
     form_tables q (Repeat s e) = tables (q + 1) s
-    form_tables q (For x at from down to s) = tables (after_value (after_value q (bare_expression from)) (bare_expression to) + 1 + 1) s
-    form_tables q (Case e arms) = tables_arms (after_tests (after_value q (bare_expression e)) (bare_arms arms) + 1) arms
+    form_tables q (For x at from down to s) =
+        tables (after_value (after_value q (bare_expression from)) (bare_expression to) + 1 + 1) s
+    form_tables q (Case e arms) = tables_arms (after_tests (after_value q (bare_expression e)) (bare_arms arms) + 1)
+        arms
     form_tables q (Parallel ss) = record { children = children (q + 1 + 1) ss } ∷ tables_children (q + 1 + 1) ss
     form_tables q (Forall x from to s) =
         let b = after_value (after_value q (bare_expression from)) (bare_expression to) in

@@ -1,3 +1,4 @@
+-- None of this belongs to what the program promises: it is for contracts between crates.
 -- How the generator's data is seen: the plain program, and the scopes. All contracts of the generator's walks cite it.
 use Rattle.std.specs.Prelude.{ℕ, List, [], ◌∷◌, ◌++◌, map, slice_get}
 use Rattle.sp_tree.specs.Plain.{Program, Actuals}

@@ -1,8 +1,10 @@
+-- None of this belongs to what the program promises: it is for contracts between crates.
 -- Code as far as it is written: what it is once the code of a part was put behind it. The contracts of statements and
 -- choices say what they add, so that no code is moved after it was written.
 use Rattle.std.specs.Prelude.{ℕ, ◌+◌, ℤ, List, [], ◌∷◌, ◌++◌, Some, length, map, slice_set}
 use Rattle.sp_tree.specs.PlainChecked as c
-use Rattle.sp_tree.specs.Bare.{bare_expression, bare_statement, bare_statement_form, bare_statements, bare_arms, bare_variable, bare_block}
+use Rattle.sp_tree.specs.Bare.{bare_expression, bare_statement, bare_statement_form, bare_statements, bare_arms}
+use Rattle.sp_tree.specs.Bare.{bare_variable, bare_block}
 use Rattle.sp_tree.specs.Around.{Scope, OfIndex, scopes_of}
 use Rattle.sp_tree.specs.Plain as b
 use Rattle.sp_code.specs.declared.instr.Instr.{Instr}
@@ -10,13 +12,17 @@ use Rattle.sp_code.specs.declared.instr.Instr.TheVariants as i
 use Rattle.sp_code.specs.declared.code.ForkTable.{ForkTable}
 use Rattle.sp_code.specs.Scopes.{sort, size, kind_of, type_of}
 use Rattle.sp_code.specs.Places.{after, after_tests, after_arms}
-use Rattle.sp_code.specs.Emitted.{value_code, var_code, right_code, assign_instr, code, code_all, code_children, code_arms, test_code, tests_code, texts_of, texts_of_all, texts_of_arms, end_instr, blocks_code, blocks_texts}
+use Rattle.sp_code.specs.Emitted.{value_code, var_code, right_code, assign_instr, code, code_all, code_children}
+use Rattle.sp_code.specs.Emitted.{code_arms, test_code, tests_code, texts_of, texts_of_all, texts_of_arms, end_instr}
+use Rattle.sp_code.specs.Emitted.{blocks_code, blocks_texts}
 use Rattle.sp_generate.specs.declared.draft.Draft.{Draft}
-use Rattle.sp_generate.specs.Tables.{child, tables, form_tables, tables_all, tables_children, tables_arms, tables_blocks}
+use Rattle.sp_generate.specs.Tables.{child, tables, form_tables, tables_all, tables_children, tables_arms}
+use Rattle.sp_generate.specs.Tables.{tables_blocks}
 
 -- an assignment
 abbrev pub assign_code : b.Program → List Scope → b.Var → b.Expr → List Instr
-assign_code p sc v (b.Typed k form) = var_code p sc v ++ (right_code p sc k (sort p k) form ++ assign_instr (sort p k) (size p k) ∷ [])
+assign_code p sc v (b.Typed k form) = var_code p sc v
+    ++ (right_code p sc k (sort p k) form ++ assign_instr (sort p k) (size p k) ∷ [])
 
 abbrev pub right_side : b.Program → List Scope → b.Expr → List Instr
 right_side p sc (b.Typed k form) = right_code p sc k (sort p k) form
@@ -72,7 +78,8 @@ module _ (p : b.Program) (moved shared : ℕ → List ℕ) where
   branched d sc s beyond =
       let q = length d.instrs in
       record {
-        instrs = d.instrs ++ (i.Jumpf (after p (q + 1) (bare_statement s) + beyond) ∷ code p sc (length d.forks) (length d.texts) (q + 1) (bare_statement s));
+        instrs = d.instrs ++ (i.Jumpf (after p (q + 1) (bare_statement s) + beyond)
+            ∷ code p sc (length d.forks) (length d.texts) (q + 1) (bare_statement s));
         forks = d.forks ++ tables p moved shared (q + 1) s;
         texts = d.texts ++ texts_of (bare_statement s);
       }
@@ -82,17 +89,20 @@ module _ (p : b.Program) (moved shared : ℕ → List ℕ) where
   passed_over d sc s =
       let q = length d.instrs in
       record {
-        instrs = d.instrs ++ (i.Jump (after p (q + 1) (bare_statement s)) ∷ code p sc (length d.forks) (length d.texts) (q + 1) (bare_statement s));
+        instrs = d.instrs ++ (i.Jump (after p (q + 1) (bare_statement s))
+            ∷ code p sc (length d.forks) (length d.texts) (q + 1) (bare_statement s));
         forks = d.forks ++ tables p moved shared (q + 1) s;
         texts = d.texts ++ texts_of (bare_statement s);
       }
 
-  -- a loop's first instruction, which leaves to behind the last, then a tick and the statement, then the loop's last instruction
+  -- a loop's first instruction, which leaves to behind the last, then a tick and the statement, then the loop's last
+  -- instruction
   unfoldable pub looped : Draft → List Scope → c.Statement → (ℕ → Instr) → Instr → Draft
   looped d sc s leave again =
       let q = length d.instrs in
       record {
-        instrs = d.instrs ++ (leave (after p (q + 1 + 1) (bare_statement s) + 1) ∷ i.Tick ∷ (code p sc (length d.forks) (length d.texts) (q + 1 + 1) (bare_statement s) ++ again ∷ []));
+        instrs = d.instrs ++ (leave (after p (q + 1 + 1) (bare_statement s) + 1) ∷ i.Tick
+            ∷ (code p sc (length d.forks) (length d.texts) (q + 1 + 1) (bare_statement s) ++ again ∷ []));
         forks = d.forks ++ tables p moved shared (q + 1 + 1) s;
         texts = d.texts ++ texts_of (bare_statement s);
       }
@@ -103,8 +113,10 @@ module _ (p : b.Program) (moved shared : ℕ → List ℕ) where
       let q = length d.instrs in
       let t = length d.forks in
       record {
-        instrs = d.instrs ++ (i.Forall t ∷ i.Jump (after p (q + 1 + 1) (bare_statement s) + 1) ∷ (code p (OfIndex x ∷ sc) (t + 1) (length d.texts) (q + 1 + 1) (bare_statement s) ++ i.End ∷ []));
-        forks = d.forks ++ (record { children = child p moved shared (q + 1 + 1) (Some x) s ∷ [] } ∷ tables p moved shared (q + 1 + 1) s);
+        instrs = d.instrs ++ (i.Forall t ∷ i.Jump (after p (q + 1 + 1) (bare_statement s) + 1)
+            ∷ (code p (OfIndex x ∷ sc) (t + 1) (length d.texts) (q + 1 + 1) (bare_statement s) ++ i.End ∷ []));
+        forks = d.forks ++ (record { children = child p moved shared (q + 1 + 1) (Some x) s ∷ [] }
+            ∷ tables p moved shared (q + 1 + 1) s);
         texts = d.texts ++ texts_of (bare_statement s);
       }
 
@@ -113,7 +125,9 @@ module _ (p : b.Program) (moved shared : ℕ → List ℕ) where
   chosen d sc arms =
       let b = after_tests (length d.instrs) (bare_arms arms) in
       record {
-        instrs = d.instrs ++ (tests_code p (bare_arms arms) (b + 1) ++ (i.Nocase ∷ code_arms p sc (length d.forks) (length d.texts) (b + 1) (bare_arms arms) (after_arms p (b + 1) (bare_arms arms))));
+        instrs = d.instrs ++ (tests_code p (bare_arms arms) (b + 1)
+            ++ (i.Nocase ∷ code_arms p sc (length d.forks) (length d.texts) (b + 1) (bare_arms arms)
+            (after_arms p (b + 1) (bare_arms arms))));
         forks = d.forks ++ tables_arms p moved shared (b + 1) arms;
         texts = d.texts ++ texts_of_arms (bare_arms arms);
       }
@@ -121,7 +135,8 @@ module _ (p : b.Program) (moved shared : ℕ → List ℕ) where
   -- a block in its own scopes, with its end behind it
   unfoldable pub written_block : Draft → ℕ → c.Block → Draft
   written_block d b k = record {
-    instrs = d.instrs ++ (code p (scopes_of p b) (length d.forks) (length d.texts) (length d.instrs) (bare_statement k.body) ++ end_instr b ∷ []);
+    instrs = d.instrs ++ (code p (scopes_of p b) (length d.forks) (length d.texts) (length d.instrs)
+        (bare_statement k.body) ++ end_instr b ∷ []);
     forks = d.forks ++ tables p moved shared (length d.instrs) k.body;
     texts = d.texts ++ texts_of (bare_statement k.body);
   }
@@ -162,13 +177,17 @@ filled_test xs k (m ∷ ms) to = filled_test (slice_set xs k (i.Casej m to)) (k 
 abbrev pub filled_tests : List Instr → (k : ℕ) → b.Arms → List ℕ → List Instr
 filled_tests xs k b.NoArm starts = xs
 filled_tests xs k (b.Or a rest) [] = xs
-filled_tests xs k (b.Or (b.On ms s) rest) (to ∷ starts) = filled_tests (filled_test xs k ms to) (k + length ms) rest starts
+filled_tests xs k (b.Or (b.On ms s) rest) (to ∷ starts) =
+    filled_tests (filled_test xs k ms to) (k + length ms) rest starts
 
 -- several values, or variables, on one channel
 abbrev pub sends_code : b.Program → List Scope → b.Expr → List c.Expression → List Instr
 sends_code p sc channel [] = []
-sends_code p sc channel (e ∷ es) = (value_code p sc channel ++ (value_code p sc (bare_expression e) ++ i.Send (kind_of (bare_expression e)) ∷ [])) ++ sends_code p sc channel es
+sends_code p sc channel (e ∷ es) = (value_code p sc channel
+    ++ (value_code p sc (bare_expression e) ++ i.Send (kind_of (bare_expression e)) ∷ [])) ++ sends_code p sc channel es
 
 abbrev pub receives_code : b.Program → List Scope → b.Expr → List c.Variable → List Instr
 receives_code p sc channel [] = []
-receives_code p sc channel (v ∷ vs) = (value_code p sc channel ++ (var_code p sc (bare_variable v) ++ i.Receive (type_of p (bare_variable v)) ∷ [])) ++ receives_code p sc channel vs
+receives_code p sc channel (v ∷ vs) = (value_code p sc channel
+    ++ (var_code p sc (bare_variable v) ++ i.Receive (type_of p (bare_variable v)) ∷ []))
+    ++ receives_code p sc channel vs

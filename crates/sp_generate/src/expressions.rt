@@ -1,11 +1,14 @@
 //! The code of expressions: each function puts the code of a part behind what stands there.
 
 ghost use Rattle.std.specs.Prelude.{◌≡◌, ◌++◌, ◌∷◌, [], map, option_map, IfOk, OnOk};
-ghost use Rattle.sp_tree.specs.CheckedOf.{expression_of, expression_form_of, variable_of, selectors, selector_of, actuals, actual_of, expressions, width_of};
+ghost use Rattle.sp_tree.specs.CheckedOf.{expression_of, expression_form_of, variable_of, selectors, selector_of};
+ghost use Rattle.sp_tree.specs.CheckedOf.{actuals, actual_of, expressions, width_of};
 ghost use Rattle.sp_tree.specs.PlainChecked as c;
-ghost use Rattle.sp_tree.specs.Bare.{bare_expression, bare_form, bare_variable, bare_selectors, bare_actuals, bare_width};
+ghost use Rattle.sp_tree.specs.Bare.{bare_expression, bare_form, bare_variable, bare_selectors, bare_actuals};
+ghost use Rattle.sp_tree.specs.Bare.{bare_width};
 ghost use Rattle.sp_code.specs.Scopes.{kind_at, selected_type, type_of};
-ghost use Rattle.sp_code.specs.Emitted.{unary_code, standard_code, value_code, form_code, var_code, selectors_code, actuals_code, width_code};
+ghost use Rattle.sp_code.specs.Emitted.{unary_code, standard_code, value_code, form_code, var_code, selectors_code};
+ghost use Rattle.sp_code.specs.Emitted.{actuals_code, width_code};
 ghost use Rattle.sp_generate.specs.Views.{whole, scopes, call_code};
 
 use crate::ground::Ground;
@@ -55,7 +58,8 @@ fn put_standard(g: &Ground, code: &mut List<Instr>, k: u32, f: StandardFn) -> Re
 /// An expression: its operands in order, and then its operator.
 #[cycle(value)]
 pub fn put_value(g: &Ground, sc: &[Scope], code: &mut List<Instr>, e: &Expr) -> Result<(), Memory>
-    ensures { OnOk result (code.new ≡ code.old ++ value_code (whole g.now) (scopes sc.now) (bare_expression (expression_of e.now))) }
+    ensures { OnOk result (code.new ≡ code.old
+        ++ value_code (whole g.now) (scopes sc.now) (bare_expression (expression_of e.now))) }
 {
     put_form(g, sc, code, e.kind, &e.form)
 }
@@ -67,7 +71,8 @@ fn put_boxed(
     code: &mut List<Instr>,
     e: &Boxed<Expr>,
 ) -> Result<(), Memory>
-    ensures { OnOk result (code.new ≡ code.old ++ value_code (whole g.now) (scopes sc.now) (bare_expression (expression_of e.now))) }
+    ensures { OnOk result (code.new ≡ code.old
+        ++ value_code (whole g.now) (scopes sc.now) (bare_expression (expression_of e.now))) }
 {
     put_value(g, sc, code, e.get())
 }
@@ -81,7 +86,8 @@ pub fn put_form(
     k: u32,
     form: &ExprForm,
 ) -> Result<(), Memory>
-    ensures { OnOk result (code.new ≡ code.old ++ form_code (whole g.now) (scopes sc.now) k (bare_form (expression_form_of form.now))) }
+    ensures { OnOk result (code.new ≡ code.old
+        ++ form_code (whole g.now) (scopes sc.now) k (bare_form (expression_form_of form.now))) }
 {
     match form {
         ExprForm::Number(n) => put(code, Instr::Const(*n)),
@@ -112,7 +118,8 @@ pub fn put_call(
     f: u32,
     args: &List<Actual>,
 ) -> Result<(), Memory>
-    ensures { OnOk result (code.new ≡ code.old ++ call_code (whole g.now) (scopes sc.now) f (bare_actuals (actuals (map actual_of args.now)))) }
+    ensures { OnOk result (code.new ≡ code.old
+        ++ call_code (whole g.now) (scopes sc.now) f (bare_actuals (actuals (map actual_of args.now)))) }
 {
     put_actuals(g, sc, code, args)?;
     let call = call_instr(g, sc, f)?;
@@ -130,7 +137,8 @@ fn put_applied(
     args: &List<Expr>,
 ) -> Result<(), Memory>
     ensures { OnOk result (code.new
-        ≡ code.old ++ form_code (whole g.now) (scopes sc.now) k (bare_form (c.Standard f (expressions (map expression_of args.now))))) }
+        ≡ code.old ++ form_code (whole g.now) (scopes sc.now) k
+        (bare_form (c.Standard f (expressions (map expression_of args.now))))) }
 {
     match args.items() {
         [] => put(code, input_instr(f)),
@@ -144,7 +152,8 @@ fn put_applied(
 /// The address of a variable with its selectors. The answer is its type.
 #[cycle(value)]
 pub fn put_var(g: &Ground, sc: &[Scope], code: &mut List<Instr>, v: &Var) -> Result<u32, Memory>
-    ensures code { OnOk result (code.new ≡ code.old ++ var_code (whole g.now) (scopes sc.now) (bare_variable (variable_of v.now))) }
+    ensures code { OnOk result (code.new ≡ code.old
+        ++ var_code (whole g.now) (scopes sc.now) (bare_variable (variable_of v.now))) }
     ensures kind { IfOk result (λ k. k ≡ type_of (whole g.now) (bare_variable (variable_of v.now))) }
 {
     let first = address(g, sc, v.variable)?;
@@ -161,8 +170,10 @@ fn put_selectors(
     k: u32,
     ss: &List<Selector>,
 ) -> Result<u32, Memory>
-    ensures code { OnOk result (code.new ≡ code.old ++ selectors_code (whole g.now) (scopes sc.now) k (bare_selectors (selectors (map selector_of ss.now)))) }
-    ensures kind { IfOk result (λ m. m ≡ selected_type (whole g.now) k (bare_selectors (selectors (map selector_of ss.now)))) }
+    ensures code { OnOk result (code.new ≡ code.old
+        ++ selectors_code (whole g.now) (scopes sc.now) k (bare_selectors (selectors (map selector_of ss.now)))) }
+    ensures kind { IfOk result (λ m. m ≡ selected_type (whole g.now) k
+        (bare_selectors (selectors (map selector_of ss.now)))) }
 {
     let mut k = k;
     for s in ss.items() {
@@ -179,8 +190,10 @@ fn put_selector(
     k: u32,
     s: &Selector,
 ) -> Result<u32, Memory>
-    ensures code { OnOk result (code.new ≡ code.old ++ selectors_code (whole g.now) (scopes sc.now) k (bare_selectors (c.Select (selector_of s.now) c.Whole))) }
-    ensures kind { IfOk result (λ m. m ≡ selected_type (whole g.now) k (bare_selectors (c.Select (selector_of s.now) c.Whole))) }
+    ensures code { OnOk result (code.new ≡ code.old
+        ++ selectors_code (whole g.now) (scopes sc.now) k (bare_selectors (c.Select (selector_of s.now) c.Whole))) }
+    ensures kind { IfOk result (λ m. m ≡ selected_type (whole g.now) k
+        (bare_selectors (c.Select (selector_of s.now) c.Whole))) }
 {
     match s {
         Selector::Index(e) => {
@@ -204,7 +217,8 @@ fn put_actuals(
     code: &mut List<Instr>,
     args: &List<Actual>,
 ) -> Result<(), Memory>
-    ensures { OnOk result (code.new ≡ code.old ++ actuals_code (whole g.now) (scopes sc.now) (bare_actuals (actuals (map actual_of args.now)))) }
+    ensures { OnOk result (code.new ≡ code.old
+        ++ actuals_code (whole g.now) (scopes sc.now) (bare_actuals (actuals (map actual_of args.now)))) }
 {
     for a in args.items() {
         put_actual(g, sc, code, a)?;
@@ -214,7 +228,8 @@ fn put_actuals(
 
 #[cycle(value)]
 fn put_actual(g: &Ground, sc: &[Scope], code: &mut List<Instr>, a: &Actual) -> Result<(), Memory>
-    ensures { OnOk result (code.new ≡ code.old ++ actuals_code (whole g.now) (scopes sc.now) (bare_actuals (c.Pass (actual_of a.now) c.Nothing))) }
+    ensures { OnOk result (code.new ≡ code.old
+        ++ actuals_code (whole g.now) (scopes sc.now) (bare_actuals (c.Pass (actual_of a.now) c.Nothing))) }
 {
     match a {
         Actual::Value(e) => put_value(g, sc, code, e),
@@ -232,7 +247,8 @@ pub fn put_width(
     code: &mut List<Instr>,
     w: &Option<Expr>,
 ) -> Result<(), Memory>
-    ensures { OnOk result (code.new ≡ code.old ++ width_code (whole g.now) (scopes sc.now) (bare_width (width_of w.now))) }
+    ensures { OnOk result (code.new ≡ code.old
+        ++ width_code (whole g.now) (scopes sc.now) (bare_width (width_of w.now))) }
 {
     match w {
         None => Ok(()),

@@ -53,7 +53,8 @@ fn is_own(b: u32, v: &Variable) -> bool
 /// The local variables of a block, behind its parameters.
 #[tactic(auto, using(crate::proofs::Locals::own_step, crate::proofs::Locals::other_step))]
 fn put_locals(out: &mut Vec<u32>, variables: &[Variable], b: u32) -> Result<(), Memory>
-    ensures { OnOk result (out.new.items ≡ out.old.items ++ locals_among (variables_of b 0 (map variable_of variables.now))) }
+    ensures { OnOk result (out.new.items ≡ out.old.items
+        ++ locals_among (variables_of b 0 (map variable_of variables.now))) }
 {
     for (x, v) in variables.iter().enumerate() {
         if is_own(b, v) {

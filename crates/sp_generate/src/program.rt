@@ -43,7 +43,8 @@ impl From<Memory> for GenError {
 /// All blocks, in order, and their layouts.
 fn put_blocks(g: &Ground, sets: &Sets, d: &mut Draft) -> Result<List<Layout>, Memory>
     ensures code { OnOk result (d.new ≡ with_blocks g.now sets.now d.old 0 (map block_of g.now.checked.now.blocks)) }
-    ensures layouts { IfOk result (λ xs. xs ≡ layouts_in g.now 0 (length d.old.instrs) (map block_of g.now.checked.now.blocks)) }
+    ensures layouts { IfOk result (λ xs. xs ≡ layouts_in g.now 0 (length d.old.instrs)
+        (map block_of g.now.checked.now.blocks)) }
 {
     let mut out = Vec::new(g.alloc);
     for (b, k) in g.checked.blocks.items().iter().enumerate() {

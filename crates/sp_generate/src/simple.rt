@@ -5,7 +5,8 @@ ghost use Rattle.sp_tree.specs.CheckedOf.{expression_of, expression_form_of, var
 ghost use Rattle.sp_tree.specs.Bare.{bare_expression, bare_form, bare_variable, bare_width};
 ghost use Rattle.sp_code.specs.declared.instr.Instr.TheVariants as i;
 ghost use Rattle.sp_code.specs.Scopes.{Many, kind_at, kind_of, type_of, is_given};
-ghost use Rattle.sp_code.specs.Emitted.{value_code, form_code, var_code, width_code, right_code, write_instr, reading_instr};
+ghost use Rattle.sp_code.specs.Emitted.{value_code, form_code, var_code, width_code, right_code, write_instr};
+ghost use Rattle.sp_code.specs.Emitted.{reading_instr};
 ghost use Rattle.sp_generate.specs.Views.{whole, scopes};
 ghost use Rattle.sp_generate.specs.Written.{assign_code, right_side, sends_code, receives_code};
 
@@ -25,7 +26,8 @@ fn put_many(
     k: u32,
     form: &ExprForm,
 ) -> Result<(), Memory>
-    ensures { OnOk result (code.new ≡ code.old ++ right_code (whole g.now) (scopes sc.now) k Many (bare_form (expression_form_of form.now))) }
+    ensures { OnOk result (code.new ≡ code.old
+        ++ right_code (whole g.now) (scopes sc.now) k Many (bare_form (expression_form_of form.now))) }
 {
     match form {
         ExprForm::Read(v) => {
@@ -39,7 +41,8 @@ fn put_many(
 /// The right side of an assignment.
 #[tactic(auto, using(crate::proofs::Emitting::one_cell, crate::proofs::Emitting::many_cells))]
 fn put_right(g: &Ground, sc: &[Scope], code: &mut List<Instr>, e: &Expr) -> Result<(), Memory>
-    ensures { OnOk result (code.new ≡ code.old ++ right_side (whole g.now) (scopes sc.now) (bare_expression (expression_of e.now))) }
+    ensures { OnOk result (code.new ≡ code.old
+        ++ right_side (whole g.now) (scopes sc.now) (bare_expression (expression_of e.now))) }
 {
     if is_many(g, e.kind) {
         put_many(g, sc, code, e.kind, &e.form)
@@ -56,7 +59,8 @@ pub fn put_assign(
     e: &Expr,
 ) -> Result<(), Memory>
     ensures { OnOk result (code.new
-        ≡ code.old ++ assign_code (whole g.now) (scopes sc.now) (bare_variable (variable_of v.now)) (bare_expression (expression_of e.now))) }
+        ≡ code.old ++ assign_code (whole g.now) (scopes sc.now) (bare_variable (variable_of v.now))
+        (bare_expression (expression_of e.now))) }
 {
     put_var(g, sc, code, v)?;
     put_right(g, sc, code, e)?;
@@ -64,7 +68,8 @@ pub fn put_assign(
 }
 
 pub fn put_assume(g: &Ground, sc: &[Scope], code: &mut List<Instr>, e: &Expr) -> Result<(), Memory>
-    ensures { OnOk result (code.new ≡ code.old ++ (value_code (whole g.now) (scopes sc.now) (bare_expression (expression_of e.now)) ++ i.Assume ∷ [])) }
+    ensures { OnOk result (code.new ≡ code.old
+        ++ (value_code (whole g.now) (scopes sc.now) (bare_expression (expression_of e.now)) ++ i.Assume ∷ [])) }
 {
     put_value(g, sc, code, e)?;
     put(code, Instr::Assume)
@@ -89,7 +94,8 @@ pub fn put_write(
     ensures { OnOk result (code.new
         ≡ code.old ++ (value_code (whole g.now) (scopes sc.now) (bare_expression (expression_of e.now))
         ++ (width_code (whole g.now) (scopes sc.now) (bare_width (width_of w.now)) ++ write_instr
-        (kind_at (whole g.now) (kind_of (bare_expression (expression_of e.now)))) (is_given (bare_width (width_of w.now))) ∷ []))) }
+        (kind_at (whole g.now) (kind_of (bare_expression (expression_of e.now))))
+        (is_given (bare_width (width_of w.now))) ∷ []))) }
 {
     put_value(g, sc, code, e)?;
     put_width(g, sc, code, w)?;
@@ -117,7 +123,8 @@ pub fn put_text(
 }
 
 pub fn put_open(g: &Ground, sc: &[Scope], code: &mut List<Instr>, v: &Var) -> Result<(), Memory>
-    ensures { OnOk result (code.new ≡ code.old ++ (var_code (whole g.now) (scopes sc.now) (bare_variable (variable_of v.now)) ++ i.Open ∷ [])) }
+    ensures { OnOk result (code.new ≡ code.old
+        ++ (var_code (whole g.now) (scopes sc.now) (bare_variable (variable_of v.now)) ++ i.Open ∷ [])) }
 {
     put_var(g, sc, code, v)?;
     put(code, Instr::Open)
@@ -166,7 +173,8 @@ pub fn put_sends(
     values: &List<Expr>,
 ) -> Result<(), Memory>
     ensures { OnOk result (code.new
-        ≡ code.old ++ sends_code (whole g.now) (scopes sc.now) (bare_expression (expression_of channel.now)) (map expression_of values.now)) }
+        ≡ code.old ++ sends_code (whole g.now) (scopes sc.now) (bare_expression (expression_of channel.now))
+        (map expression_of values.now)) }
 {
     for e in values.items() {
         put_send(g, sc, code, channel, e)?;
@@ -183,7 +191,8 @@ pub fn put_receives(
     variables: &List<Var>,
 ) -> Result<(), Memory>
     ensures { OnOk result (code.new
-        ≡ code.old ++ receives_code (whole g.now) (scopes sc.now) (bare_expression (expression_of channel.now)) (map variable_of variables.now)) }
+        ≡ code.old ++ receives_code (whole g.now) (scopes sc.now) (bare_expression (expression_of channel.now))
+        (map variable_of variables.now)) }
 {
     for v in variables.items() {
         put_receive(g, sc, code, channel, v)?;

@@ -6,7 +6,9 @@ ghost use Rattle.sp_tree.specs.Bare.{variable_of};
 ghost use Rattle.sp_tree.specs.declared.checked.KindOf.TheVariants.{Fields};
 ghost use Rattle.sp_code.specs.declared.instr.Instr.TheVariants.{Call};
 ghost use Rattle.sp_code.specs.Scopes.{size, sort, slot, kind_at, type_by, element_type, field_type, field_offset};
-ghost use Rattle.sp_code.specs.Emitted.{binary_instr, input_instr, read_instr, index_instr, field_instr, write_instr, reading_instr, assign_instr, addr_by, addr_code, call_up, call_instr, least_of, greatest_of};
+ghost use Rattle.sp_code.specs.Emitted.{binary_instr, input_instr, read_instr, index_instr, field_instr, write_instr};
+ghost use Rattle.sp_code.specs.Emitted.{reading_instr, assign_instr, addr_by, addr_code, call_up, call_instr, least_of};
+ghost use Rattle.sp_code.specs.Emitted.{greatest_of};
 ghost use Rattle.sp_generate.specs.Sorts.{is_many};
 ghost use Rattle.sp_generate.specs.Views.{whole, scopes};
 
@@ -151,7 +153,8 @@ pub fn element_type(g: &Ground, k: u32) -> u32
 
 /// The selection of an element.
 pub fn index_instr(g: &Ground, k: u32) -> Instr
-    ensures { result ≡ index_instr (kind_at (whole g.now) k) (size (whole g.now) (element_type k (kind_at (whole g.now) k))) }
+    ensures { result ≡ index_instr (kind_at (whole g.now) k)
+        (size (whole g.now) (element_type k (kind_at (whole g.now) k))) }
 {
     match g.checked.kinds.get(k as usize) {
         Some(
@@ -185,7 +188,8 @@ pub fn field_type(g: &Ground, k: u32, f: u32) -> u32
 
 /// How many cells of a record stand before a field.
 fn offset(g: &Ground, k: u32, f: u32) -> Result<u32, Memory>
-    ensures { IfOk result (λ n. (fs : List (List ℕ × ℕ)) → kind_at (whole g.now) k ≡ Some (Fields fs) → n ≡ field_offset (whole g.now) fs f) }
+    ensures { IfOk result (λ n. (fs : List (List ℕ × ℕ)) → kind_at (whole g.now) k ≡ Some (Fields fs)
+        → n ≡ field_offset (whole g.now) fs f) }
 {
     match g.offsets.get(k as usize) {
         None => Err(Memory),

@@ -1,7 +1,8 @@
 //! The code of statements: each function writes a part behind what is written.
 
 ghost use Rattle.std.specs.Prelude.{◌≡◌, ◌+◌, ◌++◌, ◌∷◌, [], map, option_map, length, IfOk, OnOk};
-ghost use Rattle.sp_tree.specs.CheckedOf.{expression_of, variable_of, width_of, statement_of, statement_form_of, statements, sends, receives, arms, arm_of, other};
+ghost use Rattle.sp_tree.specs.CheckedOf.{expression_of, variable_of, width_of, statement_of, statement_form_of};
+ghost use Rattle.sp_tree.specs.CheckedOf.{statements, sends, receives, arms, arm_of, other};
 ghost use Rattle.sp_tree.specs.PlainChecked as c;
 ghost use Rattle.sp_tree.specs.Bare.{bare_arms, bare_expression, bare_statement};
 ghost use Rattle.sp_code.specs.Emitted.{value_code};
@@ -12,7 +13,9 @@ ghost use Rattle.sp_generate.specs.declared.levels.Scope.TheVariants as scope;
 ghost use Rattle.sp_generate.specs.Steps.{for_instr, next_instr};
 ghost use Rattle.sp_generate.specs.Views.{whole, scopes};
 ghost use Rattle.sp_generate.specs.Written.{with_code, starts_of, ends_of};
-ghost use Rattle.sp_generate.specs.Puts.{with_statement, with_form, with_all, with_children, with_arms, with_branch, with_passed, with_loop, with_spread, with_choices, child_of, index_child, children_of};
+ghost use Rattle.sp_generate.specs.Puts.{with_statement, with_form, with_all, with_children, with_arms, with_branch};
+ghost use Rattle.sp_generate.specs.Puts.{with_passed, with_loop, with_spread, with_choices, child_of, index_child};
+ghost use Rattle.sp_generate.specs.Puts.{children_of};
 
 use crate::choices::{fill_ends, fill_tests, put_blanks};
 use crate::draft::{Draft, mend, mend_table};
@@ -170,7 +173,8 @@ fn put_written(
 #[cycle(statement)]
 fn put_next(g: &Ground, sets: &Sets, sc: &[Scope], d: &mut Draft, s: &Stmt) -> Result<(), Memory>
     ensures { (rest : c.Statements)
-        → OnOk result (with_all g.now sets.now sc.now d.new rest ≡ with_all g.now sets.now sc.now d.old (c.AndThen (statement_of s.now) rest)) }
+        → OnOk result (with_all g.now sets.now sc.now d.new rest
+        ≡ with_all g.now sets.now sc.now d.old (c.AndThen (statement_of s.now) rest)) }
 {
     put_statement(g, sets, sc, d, s)?;
     Ok(())
@@ -184,7 +188,8 @@ fn put_sequence(
     d: &mut Draft,
     ss: &List<Stmt>,
 ) -> Result<(), Memory>
-    ensures { OnOk result (d.new ≡ with_form g.now sets.now sc.now d.old (c.Sequence (statements (map statement_of ss.now)))) }
+    ensures { OnOk result (d.new ≡ with_form g.now sets.now sc.now d.old
+        (c.Sequence (statements (map statement_of ss.now)))) }
 {
     put_all(g, sets, sc, d, ss)?;
     Ok(())
@@ -198,7 +203,8 @@ fn put_all(
     d: &mut Draft,
     ss: &List<Stmt>,
 ) -> Result<(), Memory>
-    ensures { OnOk result (with_all g.now sets.now sc.now d.new c.NoStatement ≡ with_all g.now sets.now sc.now d.old (statements (map statement_of ss.now))) }
+    ensures { OnOk result (with_all g.now sets.now sc.now d.new c.NoStatement
+        ≡ with_all g.now sets.now sc.now d.old (statements (map statement_of ss.now))) }
 {
     for s in ss.items() {
         put_next(g, sets, sc, d, s)?;
@@ -253,7 +259,8 @@ fn put_else(
 ) -> Result<(), Memory>
     ensures { (start : ADraft) → d.old
         ≡ with_branch g.now sets.now sc.now
-        (with_code start (value_code (whole g.now) (scopes sc.now) (bare_expression (expression_of e.now)))) (statement_of a.now) 1
+        (with_code start (value_code (whole g.now) (scopes sc.now) (bare_expression (expression_of e.now))))
+        (statement_of a.now) 1
         → OnOk result (d.new ≡ with_form g.now sets.now sc.now start
         (c.If (expression_of e.now) (statement_of a.now) (c.Else (statement_of b.now)))) }
 {
@@ -270,7 +277,8 @@ fn put_if(
     a: &Stmt,
     e: &Expr,
 ) -> Result<(), Memory>
-    ensures { OnOk result (d.new ≡ with_form g.now sets.now sc.now d.old (c.If (expression_of e.now) (statement_of a.now) c.NoElse)) }
+    ensures { OnOk result (d.new ≡ with_form g.now sets.now sc.now d.old
+        (c.If (expression_of e.now) (statement_of a.now) c.NoElse)) }
 {
     put_value(g, sc, &mut d.instrs, e)?;
     put_branch(g, sets, sc, d, a, 0)
@@ -307,7 +315,8 @@ fn put_while(
     s: &Stmt,
     e: &Expr,
 ) -> Result<(), Memory>
-    ensures { OnOk result (d.new ≡ with_form g.now sets.now sc.now d.old (c.While (expression_of e.now) (statement_of s.now))) }
+    ensures { OnOk result (d.new ≡ with_form g.now sets.now sc.now d.old
+        (c.While (expression_of e.now) (statement_of s.now))) }
 {
     let start = narrow(d.instrs.len())?;
     put_value(g, sc, &mut d.instrs, e)?;
@@ -323,7 +332,8 @@ fn put_repeat(
     s: &Stmt,
     e: &Expr,
 ) -> Result<(), Memory>
-    ensures { OnOk result (d.new ≡ with_form g.now sets.now sc.now d.old (c.Repeat (statement_of s.now) (expression_of e.now))) }
+    ensures { OnOk result (d.new ≡ with_form g.now sets.now sc.now d.old
+        (c.Repeat (statement_of s.now) (expression_of e.now))) }
 {
     let start = narrow(d.instrs.len())?;
     put(&mut d.instrs, Instr::Tick)?;
@@ -409,7 +419,8 @@ fn put_children(
 ) -> Result<List<ChildTable>, Memory>
     ensures code { OnOk result (with_children g.now sets.now sc.now d.new c.NoStatement
         ≡ with_children g.now sets.now sc.now d.old (statements (map statement_of ss.now))) }
-    ensures lines { IfOk result (λ xs. xs ≡ children_of g.now sets.now (length d.old.instrs) (statements (map statement_of ss.now))) }
+    ensures lines { IfOk result (λ xs. xs ≡ children_of g.now sets.now (length d.old.instrs)
+        (statements (map statement_of ss.now))) }
 {
     let mut out = Vec::new(g.alloc);
     for s in ss.items() {
@@ -441,7 +452,8 @@ fn put_child(g: &Ground, sets: &Sets, sc: &[Scope], d: &mut Draft, s: &Stmt) -> 
     ensures code { (rest : c.Statements)
         → OnOk result (with_children g.now sets.now sc.now d.new rest
         ≡ with_children g.now sets.now sc.now d.old (c.AndThen (statement_of s.now) rest)) }
-    ensures place { OnOk result (length d.new.instrs ≡ after (whole g.now) (length d.old.instrs) (bare_statement (statement_of s.now)) + 1) }
+    ensures place { OnOk result (length d.new.instrs
+        ≡ after (whole g.now) (length d.old.instrs) (bare_statement (statement_of s.now)) + 1) }
 {
     put_statement(g, sets, sc, d, s)?;
     put(&mut d.instrs, Instr::End)?;
@@ -456,7 +468,8 @@ fn put_parallel(
     d: &mut Draft,
     ss: &List<Stmt>,
 ) -> Result<(), Memory>
-    ensures { OnOk result (d.new ≡ with_form g.now sets.now sc.now d.old (c.Parallel (statements (map statement_of ss.now)))) }
+    ensures { OnOk result (d.new ≡ with_form g.now sets.now sc.now d.old
+        (c.Parallel (statements (map statement_of ss.now)))) }
 {
     let table = d.forks.len();
     let number = narrow(table)?;
@@ -539,7 +552,8 @@ fn put_forall(
     from: &Expr,
     to: &Expr,
 ) -> Result<(), Memory>
-    ensures { OnOk result (d.new ≡ with_form g.now sets.now sc.now d.old (c.Forall x (expression_of from.now) (expression_of to.now) (statement_of s.now))) }
+    ensures { OnOk result (d.new ≡ with_form g.now sets.now sc.now d.old
+        (c.Forall x (expression_of from.now) (expression_of to.now) (statement_of s.now))) }
 {
     put_value(g, sc, &mut d.instrs, from)?;
     put_value(g, sc, &mut d.instrs, to)?;
@@ -553,8 +567,10 @@ fn put_arm(g: &Ground, sets: &Sets, sc: &[Scope], d: &mut Draft, a: &Arm) -> Res
     ensures code { (rest : c.Arms) → OnOk result
         (with_arms g.now sets.now sc.now d.new rest 0
         ≡ with_arms g.now sets.now sc.now d.old (c.Or (c.On a.now.constants (statement_of a.now.body)) rest) 0) }
-    ensures place { OnOk result (length d.new.instrs ≡ after (whole g.now) (length d.old.instrs) (bare_statement (statement_of a.now.body)) + 1) }
-    ensures end { IfOk result (λ n. n ≡ after (whole g.now) (length d.old.instrs) (bare_statement (statement_of a.now.body))) }
+    ensures place { OnOk result (length d.new.instrs
+        ≡ after (whole g.now) (length d.old.instrs) (bare_statement (statement_of a.now.body)) + 1) }
+    ensures end { IfOk result (λ n. n ≡ after (whole g.now) (length d.old.instrs)
+        (bare_statement (statement_of a.now.body))) }
 {
     put_statement(g, sets, sc, d, &a.body)?;
     let end = narrow(d.instrs.len())?;
@@ -571,9 +587,12 @@ fn put_arms(
     d: &mut Draft,
     xs: &List<Arm>,
 ) -> Result<(Vec<u32>, Vec<u32>), Memory>
-    ensures code { OnOk result (with_arms g.now sets.now sc.now d.new c.NoArm 0 ≡ with_arms g.now sets.now sc.now d.old (arms (map arm_of xs.now)) 0) }
-    ensures starts { IfOk result (λ y. y.0.items ≡ starts_of (whole g.now) (length d.old.instrs) (bare_arms (arms (map arm_of xs.now)))) }
-    ensures ends { IfOk result (λ y. y.1.items ≡ ends_of (whole g.now) (length d.old.instrs) (bare_arms (arms (map arm_of xs.now)))) }
+    ensures code { OnOk result (with_arms g.now sets.now sc.now d.new c.NoArm 0
+        ≡ with_arms g.now sets.now sc.now d.old (arms (map arm_of xs.now)) 0) }
+    ensures starts { IfOk result (λ y. y.0.items
+        ≡ starts_of (whole g.now) (length d.old.instrs) (bare_arms (arms (map arm_of xs.now)))) }
+    ensures ends { IfOk result (λ y. y.1.items
+        ≡ ends_of (whole g.now) (length d.old.instrs) (bare_arms (arms (map arm_of xs.now)))) }
 {
     let mut starts = Vec::new(g.alloc);
     let mut ends = Vec::new(g.alloc);
@@ -616,7 +635,8 @@ fn put_case(
     xs: &List<Arm>,
     e: &Expr,
 ) -> Result<(), Memory>
-    ensures { OnOk result (d.new ≡ with_form g.now sets.now sc.now d.old (c.Case (expression_of e.now) (arms (map arm_of xs.now)))) }
+    ensures { OnOk result (d.new ≡ with_form g.now sets.now sc.now d.old
+        (c.Case (expression_of e.now) (arms (map arm_of xs.now)))) }
 {
     put_value(g, sc, &mut d.instrs, e)?;
     put_choices(g, sets, sc, d, xs)

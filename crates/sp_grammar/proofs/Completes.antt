@@ -1,5 +1,6 @@
 -- What the machine takes is in the grammar, and each stack can be completed.
-use Rattle.std.proofs.Common.{◌≡◌, ℕ, suc, ◌≤◌, Bool, true, false, List, [], ◌∷◌, ◌++◌, length, Option, Some, None, refl, sym as back_of, subst, length-append, arith}
+use Rattle.std.proofs.Common.{◌≡◌, ℕ, suc, ◌≤◌, Bool, true, false, List, [], ◌∷◌, ◌++◌, length, Option, Some, None}
+use Rattle.std.proofs.Common.{refl, sym as back_of, subst, length-append, arith}
 use Rattle.sp_tree.specs.declared.token.Token.{Token}
 use Rattle.sp_tree.specs.declared.token.Kind.{Kind}
 use Rattle.sp_tree.specs.declared.token.Kind.TheVariants as kind
@@ -8,7 +9,12 @@ use Rattle.sp_tree.specs.Places.{start}
 use Rattle.sp_tree.specs.Spelling.{name_of}
 use Rattle.sp_tree.specs.PlainSyntax as tree
 use Rattle.sp_tree.specs.Grammar as g
-use Rattle.sp_grammar.specs.Symbols.{Symbol, AToken, AName, AProgram, AHeading, MoreNames, AConstant, AValue, AType, MoreFields, FieldOrEnd, AFormal, MoreFormals, Formals, ABlock, Parts, MoreConstants, MoreTypes, MoreVariables, AStatement, AfterName, AnElse, MoreStatements, MoreBranches, MoreLabels, MoreArms, ArmOrEnd, ADirection, AnExpression, ARelation, ASimple, MoreTerms, ATerm, MoreFactors, AFactor, ANegated, AReference, Selectors, MoreIndices, MoreArguments, AWidth, Value, Values, part}
+use Rattle.sp_grammar.specs.Symbols.{Symbol, AToken, AName, AProgram, AHeading, MoreNames, AConstant, AValue, AType}
+use Rattle.sp_grammar.specs.Symbols.{MoreFields, FieldOrEnd, AFormal, MoreFormals, Formals, ABlock, Parts}
+use Rattle.sp_grammar.specs.Symbols.{MoreConstants, MoreTypes, MoreVariables, AStatement, AfterName, AnElse}
+use Rattle.sp_grammar.specs.Symbols.{MoreStatements, MoreBranches, MoreLabels, MoreArms, ArmOrEnd, ADirection}
+use Rattle.sp_grammar.specs.Symbols.{AnExpression, ARelation, ASimple, MoreTerms, ATerm, MoreFactors, AFactor, ANegated}
+use Rattle.sp_grammar.specs.Symbols.{AReference, Selectors, MoreIndices, MoreArguments, AWidth, Value, Values, part}
 use Rattle.sp_grammar.specs.Table.{Entry, Row, rows, look, gap}
 use Rattle.sp_grammar.specs.Machine.{allows, acts, acted, Next, On, after}
 use Rattle.sp_grammar.specs.Derives.{Begins}
@@ -23,11 +29,14 @@ Goes text Ok s ts r = (v : Value s) × Means text Ok s ts r v
 -- the tokens of several, in order
 pub data All (text : List ℕ) (Ok : ℕ → List Token → Type 0) : List Symbol → List Token → List Token → Type 0 where
   none : {r : List Token} → All text Ok [] r r
-  and : {s : Symbol} {l : List Symbol} {ts u r : List Token} → Goes text Ok s ts u → All text Ok l u r → All text Ok (s ∷ l) ts r
+  and : {s : Symbol} {l : List Symbol} {ts u r : List Token} → Goes text Ok s ts u → All text Ok l u r
+      → All text Ok (s ∷ l) ts r
 
 -- where Ok holds of each part that the machine lets begin
-module _ (text : List ℕ) (Ok : ℕ → List Token → Type 0) (reach : Option ℕ) (fits : (d : ℕ) (t : Token) (ts : List Token) → allows reach (Some d) ≡ true → Ok d (t ∷ ts)) where
-  split_goes : (l l' : List Symbol) (ts r : List Token) → All text Ok (l ++ l') ts r → (u : List Token) × All text Ok l ts u × All text Ok l' u r
+module _ (text : List ℕ) (Ok : ℕ → List Token → Type 0) (reach : Option ℕ)
+    (fits : (d : ℕ) (t : Token) (ts : List Token) → allows reach (Some d) ≡ true → Ok d (t ∷ ts)) where
+  split_goes : (l l' : List Symbol) (ts r : List Token) → All text Ok (l ++ l') ts r → (u : List Token)
+      × All text Ok l ts u × All text Ok l' u r
   split_goes [] l' ts r h = (_, none, h)
   split_goes (s ∷ l) l' ts r (and x h) = let i = split_goes l l' _ r h in (i.0, and x i.1, i.2)
 
@@ -39,10 +48,14 @@ module _ (text : List ℕ) (Ok : ℕ → List Token → Type 0) (reach : Option 
   begins None t ts h = tt
   begins (Some d) t ts h = fits d t ts h
 
-  gap_goes : (s : Symbol) (t : Token) (r : List Token) (v : Value s) → look (rows s) t.kind ≡ None → gap s t ≡ Some v → Goes text Ok s (t ∷ r) (t ∷ r)
+  gap_goes : (s : Symbol) (t : Token) (r : List Token) (v : Value s) → look (rows s) t.kind ≡ None → gap s t ≡ Some v
+      → Goes text Ok s (t ∷ r) (t ∷ r)
   gap_goes s t r v q e = (v, subst (AtGap text Ok (Means text Ok s (t ∷ r) (t ∷ r))) e (passed text Ok s t r q))
 
-  back_by : (s : Symbol) (stack : List Symbol) (t : Token) (stack' : List Symbol) (ts r : List Token) (o : Option (Entry (Row s))) (b : Bool) (v : Option (Value s)) (n : Next) → look (rows s) t.kind ≡ o → allows reach (part s) ≡ b → gap s t ≡ v → acted (acts b o v) stack n ≡ On stack' → (n ≡ On stack' → All text Ok stack (t ∷ ts) r) → All text Ok stack' ts r → All text Ok (s ∷ stack) (t ∷ ts) r
+  back_by : (s : Symbol) (stack : List Symbol) (t : Token) (stack' : List Symbol) (ts r : List Token)
+      (o : Option (Entry (Row s))) (b : Bool) (v : Option (Value s)) (n : Next) → look (rows s) t.kind ≡ o
+      → allows reach (part s) ≡ b → gap s t ≡ v → acted (acts b o v) stack n ≡ On stack'
+      → (n ≡ On stack' → All text Ok stack (t ∷ ts) r) → All text Ok stack' ts r → All text Ok (s ∷ stack) (t ∷ ts) r
   back_by s stack t stack' ts r (Some e) true v n q p i h go a =
       let same : e.left ++ stack ≡ stack' = cc in
       let x = split_goes e.left stack ts r (subst (λ k. All text Ok k ts r) (back_of same) a) in
@@ -53,9 +66,11 @@ module _ (text : List ℕ) (Ok : ℕ → List Token → Type 0) (reach : Option 
   back_by s stack t stack' ts r None b None n q p i h go a = absurd cc
 
   -- a token that the machine takes
-  pub back : (stack : List Symbol) (t : Token) (stack' : List Symbol) → after reach stack t ≡ On stack' → (ts r : List Token) → All text Ok stack' ts r → All text Ok stack (t ∷ ts) r
+  pub back : (stack : List Symbol) (t : Token) (stack' : List Symbol) → after reach stack t ≡ On stack'
+      → (ts r : List Token) → All text Ok stack' ts r → All text Ok stack (t ∷ ts) r
   back [] t stack' e ts r h = absurd cc
-  back (s ∷ stack) t stack' e ts r h = back_by s stack t stack' ts r (look (rows s) t.kind) (allows reach (part s)) (gap s t) (after reach stack t) refl refl refl e (λ q. back stack t stack' q ts r h) h
+  back (s ∷ stack) t stack' e ts r h = back_by s stack t stack' ts r (look (rows s) t.kind) (allows reach (part s))
+      (gap s t) (after reach stack t) refl refl refl e (λ q. back stack t stack' q ts r h) h
 
 -- each stack can be completed
 abbrev tok : Kind → Token
@@ -111,14 +126,24 @@ module _ (text : List ℕ) (Ok : ℕ → List Token → Type 0) where
   body : (d : ℕ) (r : List Token) → (b : tree.Block) × g.IsParts text Ok d (tok w.Begin ∷ tok w.End ∷ r) r b
   body d r = (_, g.body (g.compound (is w.Begin) (g.sequence (g.empty (tok w.End)) g.statements_end) (is w.End)))
 
-  statement : (d : ℕ) (r : List Token) → Ok d (tok w.Begin ∷ tok w.End ∷ r) → Goes text Ok (AStatement d) (tok w.Begin ∷ tok w.End ∷ r) r
-  statement d r ok = (_, g.statement (tok w.Begin) ok (g.compound_form (g.compound (is w.Begin) (g.sequence (g.empty (tok w.End)) g.statements_end) (is w.End))))
+  statement : (d : ℕ) (r : List Token) → Ok d (tok w.Begin ∷ tok w.End ∷ r)
+      → Goes text Ok (AStatement d) (tok w.Begin ∷ tok w.End ∷ r) r
+  statement d r ok = (
+    _,
+    g.statement (tok w.Begin) ok
+        (g.compound_form (g.compound (is w.Begin) (g.sequence (g.empty (tok w.End)) g.statements_end) (is w.End))),
+  )
 
   -- where Ok holds of each part that begins in the completion
-  completed : (s : Symbol) (r : List Token) → ((d : ℕ) (us : List Token) → length us ≤ length (finish s ++ r) → Ok d us) → Goes text Ok s (finish s ++ r) r
+  completed : (s : Symbol) (r : List Token) → ((d : ℕ) (us : List Token) → length us ≤ length (finish s ++ r) → Ok d us)
+      → Goes text Ok s (finish s ++ r) r
   completed (AToken k) r ok = (tt, is k)
   completed AName r ok = (_, named)
-  completed AProgram r ok = (_, g.program (is w.Program) named g.no_heading (is w.Semicolon) (g.block (ok 0 _ (omega arith)) (body 1 _).1) (is w.Dot))
+  completed AProgram r ok = (
+    _,
+    g.program (is w.Program) named g.no_heading (is w.Semicolon)
+        (g.block (ok 0 _ (omega arith)) (body 1 _).1) (is w.Dot),
+  )
   completed AHeading r ok = (_, g.no_heading)
   completed MoreNames r ok = (_, g.names_end)
   completed AConstant r ok = (_, g.unsigned (g.number_value (tok kind.Number) refl))
@@ -143,7 +168,11 @@ module _ (text : List ℕ) (Ok : ℕ → List Token → Type 0) where
   completed (MoreArms d) r ok = (_, g.arms_end (is w.End))
   completed (ArmOrEnd d) r ok = (_, λ us i. g.last_arm i (is w.End))
   completed ADirection r ok = (_, g.upward (is w.To))
-  completed (AnExpression d) r ok = (_, g.expression (ok d _ (omega arith)) (g.simple (g.term (g.number (tok kind.Number) refl) g.factors_end) g.terms_end) g.no_relation)
+  completed (AnExpression d) r ok = (
+    _,
+    g.expression (ok d _ (omega arith))
+        (g.simple (g.term (g.number (tok kind.Number) refl) g.factors_end) g.terms_end) g.no_relation,
+  )
   completed (ARelation d) r ok = (λ a. a, λ a. g.no_relation)
   completed (ASimple d) r ok = (_, g.simple (g.term (g.number (tok kind.Number) refl) g.factors_end) g.terms_end)
   completed (MoreTerms d) r ok = (λ a. a, λ a. g.terms_end)
@@ -151,13 +180,17 @@ module _ (text : List ℕ) (Ok : ℕ → List Token → Type 0) where
   completed (MoreFactors d) r ok = (λ a. a, λ a. g.factors_end)
   completed (AFactor d) r ok = (_, g.number (tok kind.Number) refl)
   completed (ANegated d) r ok = (_, (ok d _ (omega arith), g.number (tok kind.Number) refl))
-  completed (AReference d) r ok = (λ n. tree.Read (tree.Entire n tree.Whole), λ t us n i. g.variable_factor (g.variable i g.selectors_end))
+  completed (AReference d) r ok = (
+    λ n. tree.Read (tree.Entire n tree.Whole),
+    λ t us n i. g.variable_factor (g.variable i g.selectors_end),
+  )
   completed (Selectors d) r ok = (_, g.selectors_end)
   completed (MoreIndices d) r ok = (_, g.indices_end (is w.CloseIndex) g.selectors_end)
   completed (MoreArguments d) r ok = (_, g.arguments_end (is w.Close))
   completed (AWidth d) r ok = (_, g.no_width)
 
-  pub complete : (stack : List Symbol) → ((d : ℕ) (us : List Token) → length us ≤ length (finish_all stack) → Ok d us) → All text Ok stack (finish_all stack) []
+  pub complete : (stack : List Symbol) → ((d : ℕ) (us : List Token) → length us ≤ length (finish_all stack) → Ok d us)
+      → All text Ok stack (finish_all stack) []
   complete [] ok = none
   complete (s ∷ stack) ok = and (completed s (finish_all stack) ok)
       (complete stack (λ d us h. ok d us (omega (arith, length-append (finish s) (finish_all stack)))))

@@ -17,8 +17,11 @@ use Rattle.sp_grammar.specs.Stops.{refusal_of}
 use Rattle.sp_grammar.proofs.Completes.{All, none, and, back}
 use Rattle.sp_grammar.proofs.Firsts.{spells, none_broken, first_broken}
 
-module _ (text : List ℕ) (Ok : ℕ → List Token → Type 0) (reach : Option ℕ) (fits : (d : ℕ) (t : Token) (ts : List Token) → allows reach (Some d) ≡ true → Ok d (t ∷ ts)) where
-  accepts_by : (t : Token) (ts : List Token) (stack : List Symbol) (n : Next) → after reach stack t ≡ n → going n (t ∷ ts) (run reach ts) ≡ Done → ((stack' : List Symbol) → run reach ts stack' ≡ Done → All text Ok stack' ts []) → All text Ok stack (t ∷ ts) []
+module _ (text : List ℕ) (Ok : ℕ → List Token → Type 0) (reach : Option ℕ)
+    (fits : (d : ℕ) (t : Token) (ts : List Token) → allows reach (Some d) ≡ true → Ok d (t ∷ ts)) where
+  accepts_by : (t : Token) (ts : List Token) (stack : List Symbol) (n : Next) → after reach stack t ≡ n
+      → going n (t ∷ ts) (run reach ts) ≡ Done
+      → ((stack' : List Symbol) → run reach ts stack' ≡ Done → All text Ok stack' ts []) → All text Ok stack (t ∷ ts) []
   accepts_by t ts stack (On stack') e h go = back text Ok reach fits stack t stack' e ts [] (go stack' h)
   accepts_by t ts stack (No why) e h go = absurd cc
 
@@ -37,11 +40,28 @@ module _ (text : List ℕ) (ts : List Token) (are : IsTokens text ts) where
   fits : (d : ℕ) (t : Token) (us : List Token) → allows (Some nesting) (Some d) ≡ true → Shallow nesting 0 d (t ∷ us)
   fits d t us h = λ g. ltb-true d nesting h
 
-  by : (e : End) → run (Some nesting) ts (AProgram ∷ []) ≡ e → ((p : Program) × IsTree text p) ⊎ ((r : Refusal) × IsFirstBroken text r)
+  by : (e : End) → run (Some nesting) ts (AProgram ∷ []) ≡ e → ((p : Program) × IsTree text p)
+      ⊎ ((r : Refusal) × IsFirstBroken text r)
   by Done q =
       let x = spelled text (Shallow nesting 0) (Some nesting) fits ts q in
-      inl (x.0, record { tokens = ts; are_tokens = are; spells = spells text ts x.0 x.1; kept = none_broken text ts x.0 x.1 })
-  by (Stuck w rest) q = inr (refusal_of text w rest, inr (ts, are, first_broken text ts are.scans (refusal_of text w rest) (record { why = w; rest = rest; by = q; is = refl })))
+      inl (
+        x.0,
+        record {
+          tokens = ts;
+          are_tokens = are;
+          spells = spells text ts x.0 x.1;
+          kept = none_broken text ts x.0 x.1;
+        },
+      )
+  by (Stuck w rest) q = inr (
+    refusal_of text w rest,
+    inr (
+      ts,
+      are,
+      first_broken text ts are.scans (refusal_of text w rest)
+          (record { why = w; rest = rest; by = q; is = refl }),
+    ),
+  )
 
   pub tree_or_broken : ((p : Program) × IsTree text p) ⊎ ((r : Refusal) × IsFirstBroken text r)
   tree_or_broken = by (run (Some nesting) ts (AProgram ∷ [])) refl

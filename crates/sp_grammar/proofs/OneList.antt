@@ -1,12 +1,16 @@
 -- A text has at most one list of tokens.
-use Rattle.std.proofs.Common.{◌≡◌, ℕ, zero, suc, ◌≤◌, Bool, true, false, ◌||◌, ◌&&◌, ◌==◌, cond, not, List, [], ◌∷◌, ◌++◌, length, length-append, Some, refl, sym as back_of, ap, ◌∙◌, subst, arith, inl, inr}
+use Rattle.std.proofs.Common.{◌≡◌, ℕ, zero, suc, ◌≤◌, Bool, true, false, ◌||◌, ◌&&◌, ◌==◌, cond, not, List, [], ◌∷◌}
+use Rattle.std.proofs.Common.{◌++◌, length, length-append, Some, refl, sym as back_of, ap, ◌∙◌, subst, arith, inl, inr}
 use Rattle.std.specs.Prelude.{slice_get, T}
 use Rattle.std.proofs.lemmas.Bool.Decides.{nat_tests}
 use Rattle.sp_tree.specs.declared.token.Token.{Token}
 use Rattle.sp_tree.specs.declared.token.Kind.{Kind}
 use Rattle.sp_tree.specs.declared.token.Kind.TheVariants as kind
 use Rattle.sp_tree.specs.Characters.{is_blank, is_letter, is_digit}
-use Rattle.sp_tree.specs.Lexemes.{words, signs, Run, run_ends, run_goes_on, TextBody, text_ends, two_quotes, text_byte, BraceBody, brace_ends, brace_byte, StarBody, star_ends, star_byte, Comment, brace_comment, star_comment, opens_comment, Lexeme, name, word, number, text, sign, Longest}
+use Rattle.sp_tree.specs.Lexemes.{words, signs, Run, run_ends, run_goes_on, TextBody, text_ends, two_quotes, text_byte}
+use Rattle.sp_tree.specs.Lexemes.{BraceBody, brace_ends, brace_byte, StarBody, star_ends, star_byte, Comment}
+use Rattle.sp_tree.specs.Lexemes.{brace_comment, star_comment, opens_comment, Lexeme, name, word, number, text, sign}
+use Rattle.sp_tree.specs.Lexemes.{Longest}
 use Rattle.sp_base.specs.declared.halt.Refusal.{Refusal}
 use Rattle.sp_base.proofs.Facts.{equals_itself}
 use Rattle.sp_tree.specs.PlainSyntax.{Program}
@@ -62,7 +66,40 @@ PlainFirst [] = ⊥
 PlainFirst (c ∷ s) = is_plain c ≡ true
 
 signs_plain : Each PlainFirst signs
-signs_plain = (refl, (refl, (refl, (refl, (refl, (refl, (refl, (refl, (refl, (refl, (refl, (refl, (refl, (refl, (refl, (refl, (refl, (refl, (refl, (refl, tt))))))))))))))))))))
+signs_plain = (
+  refl,
+  (
+    refl,
+    (
+      refl,
+      (
+        refl,
+        (
+          refl,
+          (
+            refl,
+            (
+              refl,
+              (
+                refl,
+                (
+                  refl,
+                  (
+                    refl,
+                    (
+                      refl,
+                      (refl, (refl, (refl, (refl, (refl, (refl, (refl, (refl, (refl, tt))))))))),
+                    ),
+                  ),
+                ),
+              ),
+            ),
+          ),
+        ),
+      ),
+    ),
+  ),
+)
 
 plain_by : (b : ℕ) (bs s u : List ℕ) → PlainFirst s → b ∷ bs ≡ s ++ u → is_plain b ≡ true
 plain_by b bs [] u h e = absurd h
@@ -133,7 +170,8 @@ never_there w [] n h e = absurd cc
 never_there w (x ∷ xs) zero h e = absent_first w x xs (let same : x ≡ w = cc in same) h
 never_there w (x ∷ xs) (suc n) h e = never_there w xs n (absent_rest (same_bytes w x) (absent w xs) h) e
 
-one_position : (xs : List (List ℕ)) (n m : ℕ) (w : List ℕ) → Distinct xs → slice_get xs n ≡ Some w → slice_get xs m ≡ Some w → n ≡ m
+one_position : (xs : List (List ℕ)) (n m : ℕ) (w : List ℕ) → Distinct xs → slice_get xs n ≡ Some w
+    → slice_get xs m ≡ Some w → n ≡ m
 one_position [] n m w d e f = absurd cc
 one_position (x ∷ xs) zero zero w d e f = refl
 one_position (x ∷ xs) zero (suc m) w d e f = absurd (never_there x xs m d.0 (f ∙ back_of e))
@@ -141,10 +179,106 @@ one_position (x ∷ xs) (suc n) zero w d e f = absurd (never_there x xs n d.0 (e
 one_position (x ∷ xs) (suc n) (suc m) w d e f = ap suc (one_position xs n m w d.1 e f)
 
 words_distinct : Distinct words
-words_distinct = (refl, (refl, (refl, (refl, (refl, (refl, (refl, (refl, (refl, (refl, (refl, (refl, (refl, (refl, (refl, (refl, (refl, (refl, (refl, (refl, (refl, (refl, (refl, (refl, (refl, (refl, (refl, (refl, (refl, (refl, tt))))))))))))))))))))))))))))))
+words_distinct = (
+  refl,
+  (
+    refl,
+    (
+      refl,
+      (
+        refl,
+        (
+          refl,
+          (
+            refl,
+            (
+              refl,
+              (
+                refl,
+                (
+                  refl,
+                  (
+                    refl,
+                    (
+                      refl,
+                      (
+                        refl,
+                        (
+                          refl,
+                          (
+                            refl,
+                            (
+                              refl,
+                              (
+                                refl,
+                                (
+                                  refl,
+                                  (
+                                    refl,
+                                    (
+                                      refl,
+                                      (
+                                        refl,
+                                        (
+                                          refl,
+                                          (
+                                            refl,
+                                            (refl, (refl, (refl, (refl, (refl, (refl, (refl, (refl, tt)))))))),
+                                          ),
+                                        ),
+                                      ),
+                                    ),
+                                  ),
+                                ),
+                              ),
+                            ),
+                          ),
+                        ),
+                      ),
+                    ),
+                  ),
+                ),
+              ),
+            ),
+          ),
+        ),
+      ),
+    ),
+  ),
+)
 
 signs_distinct : Distinct signs
-signs_distinct = (refl, (refl, (refl, (refl, (refl, (refl, (refl, (refl, (refl, (refl, (refl, (refl, (refl, (refl, (refl, (refl, (refl, (refl, (refl, (refl, tt))))))))))))))))))))
+signs_distinct = (
+  refl,
+  (
+    refl,
+    (
+      refl,
+      (
+        refl,
+        (
+          refl,
+          (
+            refl,
+            (
+              refl,
+              (
+                refl,
+                (
+                  refl,
+                  (
+                    refl,
+                    (refl, (refl, (refl, (refl, (refl, (refl, (refl, (refl, (refl, (refl, tt)))))))))),
+                  ),
+                ),
+              ),
+            ),
+          ),
+        ),
+      ),
+    ),
+  ),
+)
 
 same_front : (s s' r r' : List ℕ) → length s ≡ length s' → s ++ r ≡ s' ++ r' → s ≡ s'
 same_front [] [] r r' l e = refl
@@ -154,7 +288,8 @@ same_front (b ∷ s) (c ∷ s') r r' l e =
     let first : b ≡ c = cc in
     let others = same_front s s' r r' (omega arith) (cc) in λ i. first i ∷ others i
 
-one_sign : (n m : ℕ) (s s' r : List ℕ) → slice_get signs n ≡ Some s → slice_get signs m ≡ Some s' → s ++ r ≡ s' ++ r → n ≡ m
+one_sign : (n m : ℕ) (s s' r : List ℕ) → slice_get signs n ≡ Some s → slice_get signs m ≡ Some s' → s ++ r ≡ s' ++ r
+    → n ≡ m
 one_sign n m s s' r h h' e =
     let l : length s ≡ length s' = let k = ap length e in omega (arith, length-append s r, length-append s' r) in
     one_position signs n m s signs_distinct h (h' ∙ ap Some (back_of (same_front s s' r r l e)))
@@ -232,9 +367,11 @@ differ p q = absurd (subst T (back_of p ∙ q) tt)
 
 module _ (bytes : List ℕ) where
   pub same_rest : {k j : Kind} {bs u v : List ℕ} → Longest k bs u → Longest j bs v → u ≡ v
-  same_rest {k} {j} {u = u} {v = v} l m = tail_same (lexeme_tail l.spelled) (lexeme_tail m.spelled) (let x = l.longest j v m.spelled in let y = m.longest k u l.spelled in omega arith)
+  same_rest {k} {j} {u = u} {v = v} l m = tail_same (lexeme_tail l.spelled) (lexeme_tail m.spelled)
+      (let x = l.longest j v m.spelled in let y = m.longest k u l.spelled in omega arith)
 
-  token_both : (bs : List ℕ) (k j : Kind) (u v : List ℕ) {ts us : List Token} → k ≡ j → u ≡ v → ts ≡ us → token_from bytes k bs u ∷ ts ≡ token_from bytes j bs v ∷ us
+  token_both : (bs : List ℕ) (k j : Kind) (u v : List ℕ) {ts us : List Token} → k ≡ j → u ≡ v → ts ≡ us
+      → token_from bytes k bs u ∷ ts ≡ token_from bytes j bs v ∷ us
   token_both bs k j u v p q e = λ i. token_from bytes (p i) bs (q i) ∷ e i
 
   pub one_list : {bs : List ℕ} {ts us : List Token} → Scans bytes bs [] ts → Scans bytes bs [] us → ts ≡ us
@@ -253,19 +390,24 @@ module _ (bytes : List ℕ) where
   one_list (token k o l x) (comment c x') = absurd (differ (opens c) o)
   one_list {bs} (token {u = u} k o l x) (token {u = v} {ts = us} j o' m x') =
       let same = same_rest l m in
-      token_both bs k j u v (one_kind l.spelled (subst (Lexeme j bs) (back_of same) m.spelled)) same (one_list x (subst (λ u. Scans bytes u [] us) (back_of same) x'))
+      token_both bs k j u v (one_kind l.spelled (subst (Lexeme j bs) (back_of same) m.spelled)) same
+      (one_list x (subst (λ u. Scans bytes u [] us) (back_of same) x'))
 
 -- the first broken rule of a text is one
 pub one_verdict : (bytes : List ℕ) (a b : Refusal) → IsFirstBroken bytes a → IsFirstBroken bytes b → a ≡ b
 one_verdict bytes a b (inl x) (inl y) = one_first (BreaksLexis bytes) a b x y
 one_verdict bytes a b (inl x) (inr (ts, k, y)) = absurd (k.kept a.rule a.at x.breaks)
 one_verdict bytes a b (inr (ts, k, x)) (inl y) = absurd (k.kept b.rule b.at y.breaks)
-one_verdict bytes a b (inr (ts, k, x)) (inr (us, l, y)) = one_first (BreaksGrammar bytes ts) a b x (subst (λ us. IsFirst (BreaksGrammar bytes us) b) (back_of (one_list bytes k.scans l.scans)) y)
+one_verdict bytes a b (inr (ts, k, x)) (inr (us, l, y)) =
+    one_first (BreaksGrammar bytes ts) a b x
+    (subst (λ us. IsFirst (BreaksGrammar bytes us) b) (back_of (one_list bytes k.scans l.scans)) y)
 
 -- a text has one tree, or a first broken rule, and not both
 pub one_meaning : (bytes : List ℕ) (p q : Program) → IsTree bytes p → IsTree bytes q → p ≡ q
-one_meaning bytes p q x y = one_program bytes x.tokens p q x.spells (subst (λ us. Spells bytes us q) (back_of (one_list bytes x.are_tokens.scans y.are_tokens.scans)) y.spells)
+one_meaning bytes p q x y = one_program bytes x.tokens p q x.spells
+    (subst (λ us. Spells bytes us q) (back_of (one_list bytes x.are_tokens.scans y.are_tokens.scans)) y.spells)
 
 pub not_both : (bytes : List ℕ) (p : Program) (r : Refusal) → IsTree bytes p → IsFirstBroken bytes r → ⊥
 not_both bytes p r x (inl y) = x.are_tokens.kept r.rule r.at y.breaks
-not_both bytes p r x (inr (ts, k, y)) = x.kept r.rule r.at (subst (λ us. BreaksGrammar bytes us r.rule r.at) (one_list bytes k.scans x.are_tokens.scans) y.breaks)
+not_both bytes p r x (inr (ts, k, y)) = x.kept r.rule r.at
+    (subst (λ us. BreaksGrammar bytes us r.rule r.at) (one_list bytes k.scans x.are_tokens.scans) y.breaks)

@@ -1,10 +1,13 @@
 -- The tokens of a text stand in it one behind the other.
-use Rattle.std.proofs.Common.{◌≡◌, ℕ, zero, suc, ◌<◌, ◌≤◌, Bool, List, [], ◌∷◌, length, length-append, Some, refl, ap, subst, arith}
+use Rattle.std.proofs.Common.{◌≡◌, ℕ, zero, suc, ◌<◌, ◌≤◌, Bool, List, [], ◌∷◌, length, length-append, Some, refl, ap}
+use Rattle.std.proofs.Common.{subst, arith}
 use Rattle.std.specs.Prelude.{slice_get}
 use Rattle.sp_tree.specs.declared.token.Token.{Token}
 use Rattle.sp_tree.specs.declared.token.Kind.{Kind}
 use Rattle.sp_tree.specs.Places.{place_at}
-use Rattle.sp_tree.specs.Lexemes.{signs, Run, run_ends, run_goes_on, TextBody, text_ends, two_quotes, text_byte, BraceBody, brace_ends, brace_byte, StarBody, star_ends, star_byte, Comment, brace_comment, star_comment, Lexeme, name, word, number, text, sign}
+use Rattle.sp_tree.specs.Lexemes.{signs, Run, run_ends, run_goes_on, TextBody, text_ends, two_quotes, text_byte}
+use Rattle.sp_tree.specs.Lexemes.{BraceBody, brace_ends, brace_byte, StarBody, star_ends, star_byte, Comment}
+use Rattle.sp_tree.specs.Lexemes.{brace_comment, star_comment, Lexeme, name, word, number, text, sign}
 use Rattle.sp_tree.specs.Scans.{offset, Scans, nothing, blank, comment, token}
 
 run_length : {p : ℕ → Bool} {bs r : List ℕ} → Run p bs r → length r ≤ length bs
@@ -48,31 +51,59 @@ some_length [] h = absurd h
 some_length (b ∷ bs) h = omega arith
 
 signs_some : Each IsSome signs
-signs_some = (tt, (tt, (tt, (tt, (tt, (tt, (tt, (tt, (tt, (tt, (tt, (tt, (tt, (tt, (tt, (tt, (tt, (tt, (tt, (tt, tt))))))))))))))))))))
+signs_some = (
+  tt,
+  (
+    tt,
+    (
+      tt,
+      (
+        tt,
+        (
+          tt,
+          (
+            tt,
+            (
+              tt,
+              (tt, (tt, (tt, (tt, (tt, (tt, (tt, (tt, (tt, (tt, (tt, (tt, (tt, tt))))))))))))),
+            ),
+          ),
+        ),
+      ),
+    ),
+  ),
+)
 
 pub lexeme_length : {k : Kind} {bs r : List ℕ} → Lexeme k bs r → length r < length bs
 lexeme_length (name b h x n) = omega (arith, run_length x)
 lexeme_length (word n b h x e) = omega (arith, run_length x)
 lexeme_length (number b h x) = omega (arith, run_length x)
 lexeme_length (text q h x) = omega (arith, text_length x)
-lexeme_length {r = r} (sign n s h e) = let l = ap length e in omega (arith, length-append s r, some_length s (each_at IsSome signs n s signs_some h))
+lexeme_length {r = r} (sign n s h e) = let l = ap length e in
+    omega (arith, length-append s r, some_length s (each_at IsSome signs n s signs_some h))
 
 -- each token begins at n or behind it, and where it says
 abbrev pub Rising : List ℕ → ℕ → List Token → Type 0
 Rising bytes n [] = Unit {0}
-Rising bytes n (t ∷ ts) = (n ≤ t.from) × (t.from < length bytes) × (t.at ≡ place_at bytes t.from) × Rising bytes (suc t.from) ts
+Rising bytes n (t ∷ ts) = (n ≤ t.from) × (t.from < length bytes) × (t.at ≡ place_at bytes t.from)
+    × Rising bytes (suc t.from) ts
 
 lower : (bytes : List ℕ) (m n : ℕ) (ts : List Token) → m ≤ n → Rising bytes n ts → Rising bytes m ts
 lower bytes m n [] h r = tt
 lower bytes m n (t ∷ ts) h r = (omega (arith, r.0), r.1, r.2, r.3)
 
-pub rising : (bytes : List ℕ) {bs r : List ℕ} {ts : List Token} → Scans bytes bs r ts → length bs ≤ length bytes → Rising bytes (offset bytes bs) ts
+pub rising : (bytes : List ℕ) {bs r : List ℕ} {ts : List Token} → Scans bytes bs r ts → length bs ≤ length bytes
+    → Rising bytes (offset bytes bs) ts
 rising bytes nothing h = tt
-rising bytes {bs = b ∷ bs} {ts = ts} (blank b' e x) h = lower bytes (offset bytes (b ∷ bs)) (offset bytes bs) ts (omega arith) (rising bytes x (omega arith))
-rising bytes {bs = bs} {ts = ts} (comment {u = u} c x) h = lower bytes (offset bytes bs) (offset bytes u) ts (omega (arith, comment_length c)) (rising bytes x (omega (arith, comment_length c)))
+rising bytes {bs = b ∷ bs} {ts = ts} (blank b' e x) h =
+    lower bytes (offset bytes (b ∷ bs)) (offset bytes bs) ts (omega arith) (rising bytes x (omega arith))
+rising bytes {bs = bs} {ts = ts} (comment {u = u} c x) h =
+    lower bytes (offset bytes bs) (offset bytes u) ts (omega (arith, comment_length c))
+    (rising bytes x (omega (arith, comment_length c)))
 rising bytes {bs = bs} (token {u = u} {ts = ts} k o l x) h = (
   omega arith,
   omega (arith, lexeme_length l.spelled),
   refl,
-  lower bytes (suc (offset bytes bs)) (offset bytes u) ts (omega (arith, lexeme_length l.spelled, h)) (rising bytes x (omega (arith, lexeme_length l.spelled))),
+  lower bytes (suc (offset bytes bs)) (offset bytes u) ts (omega (arith, lexeme_length l.spelled, h))
+      (rising bytes x (omega (arith, lexeme_length l.spelled))),
 )

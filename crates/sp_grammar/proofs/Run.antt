@@ -1,9 +1,11 @@
 -- The machine follows what each symbol derives by the table.
-use Rattle.std.proofs.Common.{◌≡◌, ℕ, ◌<◌, Bool, true, false, List, ◌∷◌, ◌++◌, length, Option, Some, None, ◌⊎◌, inl, inr, refl, ap, ◌∙◌}
+use Rattle.std.proofs.Common.{◌≡◌, ℕ, ◌<◌, Bool, true, false, List, ◌∷◌, ◌++◌, length, Option, Some, None, ◌⊎◌, inl}
+use Rattle.std.proofs.Common.{inr, refl, ap, ◌∙◌}
 use Rattle.sp_tree.specs.declared.token.Token.{Token}
 use Rattle.sp_grammar.specs.Symbols.{Symbol, Value, Values, part}
 use Rattle.sp_grammar.specs.Table.{Entry, Row, rows, look, gap}
-use Rattle.sp_grammar.specs.Machine.{Why, Deep, Act, Take, Skip, Fail, allows, takes_if, skips_if, acts, act, acted, after, going, End, Stuck, run, Leads}
+use Rattle.sp_grammar.specs.Machine.{Why, Deep, Act, Take, Skip, Fail, allows, takes_if, skips_if, acts, act, acted}
+use Rattle.sp_grammar.specs.Machine.{after, going, End, Stuck, run, Leads}
 use Rattle.sp_grammar.specs.Derives.{Begins, Derives, takes, skips, DerivesAll, none, and}
 
 -- what is no part may begin anywhere
@@ -12,20 +14,26 @@ allows_none None = refl
 allows_none (Some limit) = refl
 
 -- one step
-pub at_act : (reach : Option ℕ) (s : Symbol) (t : Token) (ts : List Token) (q : List Symbol) (a : Act) → act reach s t ≡ a → run reach (t ∷ ts) (s ∷ q) ≡ going (acted a q (after reach q t)) (t ∷ ts) (run reach ts)
+pub at_act : (reach : Option ℕ) (s : Symbol) (t : Token) (ts : List Token) (q : List Symbol) (a : Act)
+    → act reach s t ≡ a → run reach (t ∷ ts) (s ∷ q) ≡ going (acted a q (after reach q t)) (t ∷ ts) (run reach ts)
 at_act reach s t ts q a e = ap (λ a. going (acted a q (after reach q t)) (t ∷ ts) (run reach ts)) e
 
-pub act_takes : (reach : Option ℕ) (s : Symbol) (t : Token) (e : Entry (Row s)) (b : Bool) → look (rows s) t.kind ≡ Some e → allows reach (part s) ≡ b → act reach s t ≡ takes_if b e.left
+pub act_takes : (reach : Option ℕ) (s : Symbol) (t : Token) (e : Entry (Row s)) (b : Bool)
+    → look (rows s) t.kind ≡ Some e → allows reach (part s) ≡ b → act reach s t ≡ takes_if b e.left
 act_takes reach s t e b q p = ap (λ o. acts (allows reach (part s)) o (gap s t)) q ∙ ap (λ b. takes_if b e.left) p
 
-pub act_skips : (reach : Option ℕ) (s : Symbol) (t : Token) (v : Value s) → look (rows s) t.kind ≡ None → gap s t ≡ Some v → act reach s t ≡ Skip
+pub act_skips : (reach : Option ℕ) (s : Symbol) (t : Token) (v : Value s) → look (rows s) t.kind ≡ None
+    → gap s t ≡ Some v → act reach s t ≡ Skip
 act_skips reach s t v q p = ap (λ o. acts (allows reach (part s)) o (gap s t)) q ∙ ap skips_if p
 
-module _ (text : List ℕ) (Ok : ℕ → List Token → Type 0) (reach : Option ℕ) (k : ℕ) (reaches : (d : ℕ) (ts : List Token) → Ok d ts → (allows reach (Some d) ≡ true) ⊎ (length ts < k)) where
+module _ (text : List ℕ) (Ok : ℕ → List Token → Type 0) (reach : Option ℕ) (k : ℕ)
+    (reaches : (d : ℕ) (ts : List Token) → Ok d ts → (allows reach (Some d) ≡ true) ⊎ (length ts < k)) where
   abbrev L : List Token → List Symbol → List Token → List Symbol → Type 0
   L ts j r l = Leads reach k ts j r l
 
-  join : (x y z : End) → (x ≡ y) ⊎ ((w : Why) × (us : List Token) × (length us < k) × (x ≡ Stuck w us)) → (y ≡ z) ⊎ ((w : Why) × (us : List Token) × (length us < k) × (y ≡ Stuck w us)) → (x ≡ z) ⊎ ((w : Why) × (us : List Token) × (length us < k) × (x ≡ Stuck w us))
+  join : (x y z : End) → (x ≡ y) ⊎ ((w : Why) × (us : List Token) × (length us < k) × (x ≡ Stuck w us)) → (y ≡ z)
+      ⊎ ((w : Why) × (us : List Token) × (length us < k) × (y ≡ Stuck w us)) → (x ≡ z)
+      ⊎ ((w : Why) × (us : List Token) × (length us < k) × (x ≡ Stuck w us))
   join x y z (inl p) (inl q) = inl (p ∙ q)
   join x y z (inl p) (inr (w, n, h, q)) = inr (w, n, h, p ∙ q)
   join x y z (inr p) q = inr p
@@ -38,16 +46,27 @@ module _ (text : List ℕ) (Ok : ℕ → List Token → Type 0) (reach : Option 
   may_begin None ts h = inl (allows_none reach)
   may_begin (Some d) ts h = reaches d ts h
 
-  step : (s : Symbol) (t : Token) (ts : List Token) (q : List Symbol) (e : Entry (Row s)) → look (rows s) t.kind ≡ Some e → (b : Bool) → allows reach (part s) ≡ b → (allows reach (part s) ≡ true) ⊎ (length (t ∷ ts) < k) → L (t ∷ ts) (s ∷ q) ts (e.left ++ q)
-  step s t ts q e h true p o = record { by = inl (at_act reach s t ts q (Take e.left) (act_takes reach s t e true h p)) }
+  step : (s : Symbol) (t : Token) (ts : List Token) (q : List Symbol) (e : Entry (Row s))
+      → look (rows s) t.kind ≡ Some e → (b : Bool) → allows reach (part s) ≡ b → (allows reach (part s) ≡ true)
+      ⊎ (length (t ∷ ts) < k) → L (t ∷ ts) (s ∷ q) ts (e.left ++ q)
+  step s t ts q e h true p o = record {
+    by =
+        inl (at_act reach s t ts q (Take e.left) (act_takes reach s t e true h p));
+  }
   step s t ts q e h false p (inl o) = absurd cc
-  step s t ts q e h false p (inr o) = record { by = inr (Deep, t ∷ ts, o, at_act reach s t ts q (Fail Deep) (act_takes reach s t e false h p)) }
+  step s t ts q e h false p (inr o) = record {
+    by =
+        inr (Deep, t ∷ ts, o, at_act reach s t ts q (Fail Deep) (act_takes reach s t e false h p));
+  }
 
   mutual
-    pub leads : {s : Symbol} {ts r : List Token} {v : Value s} → Derives text Ok s ts r v → (q : List Symbol) → L ts (s ∷ q) r q
-    leads {s} (takes t e h g x) q = step s t _ q e h (allows reach (part s)) refl (may_begin (part s) _ g) ⨾ leads_all x q
+    pub leads : {s : Symbol} {ts r : List Token} {v : Value s} → Derives text Ok s ts r v → (q : List Symbol)
+        → L ts (s ∷ q) r q
+    leads {s} (takes t e h g x) q = step s t _ q e h (allows reach (part s)) refl (may_begin (part s) _ g) ⨾ leads_all x
+        q
     leads {s} (skips t {v} h g) q = record { by = inl (at_act reach s t _ q Skip (act_skips reach s t v h g)) }
 
-    pub leads_all : {l : List Symbol} {ts r : List Token} {vs : Values l} → DerivesAll text Ok l ts r vs → (q : List Symbol) → L ts (l ++ q) r q
+    pub leads_all : {l : List Symbol} {ts r : List Token} {vs : Values l} → DerivesAll text Ok l ts r vs
+        → (q : List Symbol) → L ts (l ++ q) r q
     leads_all none q = record { by = inl refl }
     leads_all {l = s ∷ l} (and x xs) q = leads x (l ++ q) ⨾ leads_all xs q

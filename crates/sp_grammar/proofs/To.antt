@@ -1,5 +1,6 @@
 -- What is in the grammar is derived by the table, where what is behind it does not go on with it.
-use Rattle.std.proofs.Common.{◌≡◌, ◌≢◌, ℕ, suc, Bool, true, false, cond, ◌==◌, List, [], ◌∷◌, ◌++◌, Some, None, refl, sym as back_of, subst, ap, ◌∙◌}
+use Rattle.std.proofs.Common.{◌≡◌, ◌≢◌, ℕ, suc, Bool, true, false, cond, ◌==◌, List, [], ◌∷◌, ◌++◌, Some, None, refl}
+use Rattle.std.proofs.Common.{sym as back_of, subst, ap, ◌∙◌}
 use borrow.Author.Tests.{eqb-true}
 use Rattle.sp_tree.specs.declared.token.Token.{Token}
 use Rattle.sp_tree.specs.declared.token.Kind.{Kind}
@@ -17,25 +18,30 @@ use Rattle.sp_tree.specs.Grammar as g
 use Rattle.sp_grammar.specs.Symbols as sym
 use Rattle.sp_grammar.specs.Symbols.{Symbol, Value, Values, split, part}
 use Rattle.sp_grammar.specs.Table as row
-use Rattle.sp_grammar.specs.Table.{ConstantRow, PartsRow, FormRow, SelectorRow, FactorRow, SimpleRow, Row, Entry, entry, rows, look, gap, build, constant_value, parts_value, form_value, selector_value, factor_value, simple_value}
+use Rattle.sp_grammar.specs.Table.{ConstantRow, PartsRow, FormRow, SelectorRow, FactorRow, SimpleRow, Row, Entry, entry}
+use Rattle.sp_grammar.specs.Table.{rows, look, gap, build, constant_value, parts_value, form_value, selector_value}
+use Rattle.sp_grammar.specs.Table.{factor_value, simple_value}
 use Rattle.sp_grammar.specs.Derives.{Begins, Derives, takes, skips, DerivesAll, none, and}
 
 -- the rows are found
-look_constant : (d : ℕ) {k : Kind} {l : List Symbol} (c : ConstantRow k l) → look (rows sym.AConstant) k ≡ Some (entry _ _ (row.constant c))
+look_constant : (d : ℕ) {k : Kind} {l : List Symbol} (c : ConstantRow k l)
+    → look (rows sym.AConstant) k ≡ Some (entry _ _ (row.constant c))
 look_constant d row.constant_number = refl
 look_constant d row.constant_name = refl
 look_constant d row.constant_text = refl
 look_constant d row.constant_plus = refl
 look_constant d row.constant_minus = refl
 
-look_arm : (d : ℕ) {k : Kind} {l : List Symbol} (c : ConstantRow k l) → look (rows (sym.ArmOrEnd d)) k ≡ Some (entry _ _ (row.next_arm {d = d} c))
+look_arm : (d : ℕ) {k : Kind} {l : List Symbol} (c : ConstantRow k l)
+    → look (rows (sym.ArmOrEnd d)) k ≡ Some (entry _ _ (row.next_arm {d = d} c))
 look_arm d row.constant_number = refl
 look_arm d row.constant_name = refl
 look_arm d row.constant_text = refl
 look_arm d row.constant_plus = refl
 look_arm d row.constant_minus = refl
 
-look_block : (d : ℕ) {k : Kind} {l : List Symbol} (c : PartsRow (suc d) k l) → look (rows (sym.ABlock d)) k ≡ Some (entry _ _ (row.block {d = d} c))
+look_block : (d : ℕ) {k : Kind} {l : List Symbol} (c : PartsRow (suc d) k l)
+    → look (rows (sym.ABlock d)) k ≡ Some (entry _ _ (row.block {d = d} c))
 look_block d row.parts_begin = refl
 look_block d row.parts_const = refl
 look_block d row.parts_type = refl
@@ -43,7 +49,8 @@ look_block d row.parts_var = refl
 look_block d row.parts_procedure = refl
 look_block d row.parts_function = refl
 
-look_parts : (d : ℕ) {k : Kind} {l : List Symbol} (c : PartsRow d k l) → look (rows (sym.Parts d)) k ≡ Some (entry _ _ (row.parts c))
+look_parts : (d : ℕ) {k : Kind} {l : List Symbol} (c : PartsRow d k l)
+    → look (rows (sym.Parts d)) k ≡ Some (entry _ _ (row.parts c))
 look_parts d row.parts_begin = refl
 look_parts d row.parts_const = refl
 look_parts d row.parts_type = refl
@@ -51,7 +58,8 @@ look_parts d row.parts_var = refl
 look_parts d row.parts_procedure = refl
 look_parts d row.parts_function = refl
 
-look_after_constants : (d : ℕ) {k : Kind} {l : List Symbol} (c : PartsRow d k l) → look (rows (sym.MoreConstants d)) k ≡ Some (entry _ _ (row.after_constants c))
+look_after_constants : (d : ℕ) {k : Kind} {l : List Symbol} (c : PartsRow d k l)
+    → look (rows (sym.MoreConstants d)) k ≡ Some (entry _ _ (row.after_constants c))
 look_after_constants d row.parts_begin = refl
 look_after_constants d row.parts_const = refl
 look_after_constants d row.parts_type = refl
@@ -59,7 +67,8 @@ look_after_constants d row.parts_var = refl
 look_after_constants d row.parts_procedure = refl
 look_after_constants d row.parts_function = refl
 
-look_after_types : (d : ℕ) {k : Kind} {l : List Symbol} (c : PartsRow d k l) → look (rows (sym.MoreTypes d)) k ≡ Some (entry _ _ (row.after_types c))
+look_after_types : (d : ℕ) {k : Kind} {l : List Symbol} (c : PartsRow d k l)
+    → look (rows (sym.MoreTypes d)) k ≡ Some (entry _ _ (row.after_types c))
 look_after_types d row.parts_begin = refl
 look_after_types d row.parts_const = refl
 look_after_types d row.parts_type = refl
@@ -67,7 +76,8 @@ look_after_types d row.parts_var = refl
 look_after_types d row.parts_procedure = refl
 look_after_types d row.parts_function = refl
 
-look_after_variables : (d : ℕ) {k : Kind} {l : List Symbol} (c : PartsRow d k l) → look (rows (sym.MoreVariables d)) k ≡ Some (entry _ _ (row.after_variables c))
+look_after_variables : (d : ℕ) {k : Kind} {l : List Symbol} (c : PartsRow d k l)
+    → look (rows (sym.MoreVariables d)) k ≡ Some (entry _ _ (row.after_variables c))
 look_after_variables d row.parts_begin = refl
 look_after_variables d row.parts_const = refl
 look_after_variables d row.parts_type = refl
@@ -75,32 +85,37 @@ look_after_variables d row.parts_var = refl
 look_after_variables d row.parts_procedure = refl
 look_after_variables d row.parts_function = refl
 
-look_target : (d : ℕ) {k : Kind} {l : List Symbol} (c : SelectorRow d k l) → look (rows (sym.AfterName d)) k ≡ Some (entry _ _ (row.target c))
+look_target : (d : ℕ) {k : Kind} {l : List Symbol} (c : SelectorRow d k l)
+    → look (rows (sym.AfterName d)) k ≡ Some (entry _ _ (row.target c))
 look_target d row.selector_index = refl
 look_target d row.selector_field = refl
 
-look_factor : (d : ℕ) {k : Kind} {l : List Symbol} (c : FactorRow d k l) → look (rows (sym.AFactor d)) k ≡ Some (entry _ _ (row.factor c))
+look_factor : (d : ℕ) {k : Kind} {l : List Symbol} (c : FactorRow d k l)
+    → look (rows (sym.AFactor d)) k ≡ Some (entry _ _ (row.factor c))
 look_factor d row.factor_number = refl
 look_factor d row.factor_text = refl
 look_factor d row.factor_name = refl
 look_factor d row.factor_open = refl
 look_factor d row.factor_not = refl
 
-look_negated : (d : ℕ) {k : Kind} {l : List Symbol} (c : FactorRow (suc d) k l) → look (rows (sym.ANegated d)) k ≡ Some (entry _ _ (row.negated {d = d} c))
+look_negated : (d : ℕ) {k : Kind} {l : List Symbol} (c : FactorRow (suc d) k l)
+    → look (rows (sym.ANegated d)) k ≡ Some (entry _ _ (row.negated {d = d} c))
 look_negated d row.factor_number = refl
 look_negated d row.factor_text = refl
 look_negated d row.factor_name = refl
 look_negated d row.factor_open = refl
 look_negated d row.factor_not = refl
 
-look_term : (d : ℕ) {k : Kind} {l : List Symbol} (c : FactorRow d k l) → look (rows (sym.ATerm d)) k ≡ Some (entry _ _ (row.term c))
+look_term : (d : ℕ) {k : Kind} {l : List Symbol} (c : FactorRow d k l)
+    → look (rows (sym.ATerm d)) k ≡ Some (entry _ _ (row.term c))
 look_term d row.factor_number = refl
 look_term d row.factor_text = refl
 look_term d row.factor_name = refl
 look_term d row.factor_open = refl
 look_term d row.factor_not = refl
 
-look_simple : (d : ℕ) {k : Kind} {l : List Symbol} (c : SimpleRow d k l) → look (rows (sym.ASimple d)) k ≡ Some (entry _ _ (row.simple c))
+look_simple : (d : ℕ) {k : Kind} {l : List Symbol} (c : SimpleRow d k l)
+    → look (rows (sym.ASimple d)) k ≡ Some (entry _ _ (row.simple c))
 look_simple d row.simple_plus = refl
 look_simple d row.simple_minus = refl
 look_simple d (row.simple_factor row.factor_number) = refl
@@ -109,7 +124,8 @@ look_simple d (row.simple_factor row.factor_name) = refl
 look_simple d (row.simple_factor row.factor_open) = refl
 look_simple d (row.simple_factor row.factor_not) = refl
 
-look_expression : (d : ℕ) {k : Kind} {l : List Symbol} (c : SimpleRow (suc d) k l) → look (rows (sym.AnExpression d)) k ≡ Some (entry _ _ (row.expression {d = d} c))
+look_expression : (d : ℕ) {k : Kind} {l : List Symbol} (c : SimpleRow (suc d) k l)
+    → look (rows (sym.AnExpression d)) k ≡ Some (entry _ _ (row.expression {d = d} c))
 look_expression d row.simple_plus = refl
 look_expression d row.simple_minus = refl
 look_expression d (row.simple_factor row.factor_number) = refl
@@ -118,7 +134,8 @@ look_expression d (row.simple_factor row.factor_name) = refl
 look_expression d (row.simple_factor row.factor_open) = refl
 look_expression d (row.simple_factor row.factor_not) = refl
 
-look_relation : (d : ℕ) {k : Kind} {o : BinaryOp} (c : g.IsRelational k o) → look (rows (sym.ARelation d)) k ≡ Some (entry _ _ (row.relation {d = d} c))
+look_relation : (d : ℕ) {k : Kind} {o : BinaryOp} (c : g.IsRelational k o)
+    → look (rows (sym.ARelation d)) k ≡ Some (entry _ _ (row.relation {d = d} c))
 look_relation d g.equal = refl
 look_relation d g.unequal = refl
 look_relation d g.less = refl
@@ -126,12 +143,14 @@ look_relation d g.at_most = refl
 look_relation d g.greater = refl
 look_relation d g.at_least = refl
 
-look_adding : (d : ℕ) {k : Kind} {o : BinaryOp} (c : g.IsAdding k o) → look (rows (sym.MoreTerms d)) k ≡ Some (entry _ _ (row.next_term {d = d} c))
+look_adding : (d : ℕ) {k : Kind} {o : BinaryOp} (c : g.IsAdding k o)
+    → look (rows (sym.MoreTerms d)) k ≡ Some (entry _ _ (row.next_term {d = d} c))
 look_adding d g.plus = refl
 look_adding d g.minus = refl
 look_adding d g.or = refl
 
-look_multiplying : (d : ℕ) {k : Kind} {o : BinaryOp} (c : g.IsMultiplying k o) → look (rows (sym.MoreFactors d)) k ≡ Some (entry _ _ (row.next_factor {d = d} c))
+look_multiplying : (d : ℕ) {k : Kind} {o : BinaryOp} (c : g.IsMultiplying k o)
+    → look (rows (sym.MoreFactors d)) k ≡ Some (entry _ _ (row.next_factor {d = d} c))
 look_multiplying d g.times = refl
 look_multiplying d g.quotient = refl
 look_multiplying d g.modulo = refl
@@ -168,63 +187,92 @@ pub record Ended (r : List Token) : Type 0 where
   pub name : (d : ℕ) → Ends (sym.AfterName d) r
   pub expression : Quiet r
 
-quiet_factor : (k : Kind) → ((d : ℕ) → look (rows (sym.AReference d)) k ≡ None) → ((d : ℕ) → look (rows (sym.Selectors d)) k ≡ None) → {ts r : List Token} → g.Is k ts r → QuietFactor ts
-quiet_factor k a b i = record { reference = λ d. ends (sym.AReference d) k (a d) i; selectors = λ d. ends (sym.Selectors d) k (b d) i }
+quiet_factor : (k : Kind) → ((d : ℕ) → look (rows (sym.AReference d)) k ≡ None)
+    → ((d : ℕ) → look (rows (sym.Selectors d)) k ≡ None) → {ts r : List Token} → g.Is k ts r → QuietFactor ts
+quiet_factor k a b i = record {
+  reference = λ d. ends (sym.AReference d) k (a d) i;
+  selectors = λ d. ends (sym.Selectors d) k (b d) i;
+}
 
-quiet_term : (k : Kind) → ((d : ℕ) → look (rows (sym.MoreFactors d)) k ≡ None) → {ts r : List Token} → g.Is k ts r → QuietFactor ts → QuietTerm ts
+quiet_term : (k : Kind) → ((d : ℕ) → look (rows (sym.MoreFactors d)) k ≡ None) → {ts r : List Token} → g.Is k ts r
+    → QuietFactor ts → QuietTerm ts
 quiet_term k c i q = record { factors = λ d. ends (sym.MoreFactors d) k (c d) i; factor = q }
 
-quiet_simple : (k : Kind) → ((d : ℕ) → look (rows (sym.MoreTerms d)) k ≡ None) → {ts r : List Token} → g.Is k ts r → QuietTerm ts → QuietSimple ts
+quiet_simple : (k : Kind) → ((d : ℕ) → look (rows (sym.MoreTerms d)) k ≡ None) → {ts r : List Token} → g.Is k ts r
+    → QuietTerm ts → QuietSimple ts
 quiet_simple k c i q = record { terms = λ d. ends (sym.MoreTerms d) k (c d) i; term = q }
 
-quiet : (k : Kind) → ((d : ℕ) → look (rows (sym.ARelation d)) k ≡ None) → {ts r : List Token} → g.Is k ts r → QuietSimple ts → Quiet ts
+quiet : (k : Kind) → ((d : ℕ) → look (rows (sym.ARelation d)) k ≡ None) → {ts r : List Token} → g.Is k ts r
+    → QuietSimple ts → Quiet ts
 quiet k c i q = record { relation = λ d. ends (sym.ARelation d) k (c d) i; simple = q }
 
-ended : (k : Kind) → ((d : ℕ) → look (rows (sym.AStatement d)) k ≡ None) → ((d : ℕ) → look (rows (sym.AfterName d)) k ≡ None) → {ts r : List Token} → g.Is k ts r → Quiet ts → Ended ts
-ended k a b i q = record { statement = λ d. ends (sym.AStatement d) k (a d) i; name = λ d. ends (sym.AfterName d) k (b d) i; expression = q }
+ended : (k : Kind) → ((d : ℕ) → look (rows (sym.AStatement d)) k ≡ None)
+    → ((d : ℕ) → look (rows (sym.AfterName d)) k ≡ None) → {ts r : List Token} → g.Is k ts r → Quiet ts → Ended ts
+ended k a b i q = record {
+  statement = λ d. ends (sym.AStatement d) k (a d) i;
+  name = λ d. ends (sym.AfterName d) k (b d) i;
+  expression = q;
+}
 
 -- the tokens behind which an expression, or a statement, may end
 quiet_then : {ts r : List Token} → g.Is w.Then ts r → Quiet ts
-quiet_then i = quiet w.Then (λ d. refl) i (quiet_simple w.Then (λ d. refl) i (quiet_term w.Then (λ d. refl) i (quiet_factor w.Then (λ d. refl) (λ d. refl) i)))
+quiet_then i = quiet w.Then (λ d. refl) i (quiet_simple w.Then (λ d. refl) i
+    (quiet_term w.Then (λ d. refl) i (quiet_factor w.Then (λ d. refl) (λ d. refl) i)))
 
 quiet_do : {ts r : List Token} → g.Is w.Do ts r → Quiet ts
-quiet_do i = quiet w.Do (λ d. refl) i (quiet_simple w.Do (λ d. refl) i (quiet_term w.Do (λ d. refl) i (quiet_factor w.Do (λ d. refl) (λ d. refl) i)))
+quiet_do i = quiet w.Do (λ d. refl) i (quiet_simple w.Do (λ d. refl) i
+    (quiet_term w.Do (λ d. refl) i (quiet_factor w.Do (λ d. refl) (λ d. refl) i)))
 
 quiet_of : {ts r : List Token} → g.Is w.Of ts r → Quiet ts
-quiet_of i = quiet w.Of (λ d. refl) i (quiet_simple w.Of (λ d. refl) i (quiet_term w.Of (λ d. refl) i (quiet_factor w.Of (λ d. refl) (λ d. refl) i)))
+quiet_of i = quiet w.Of (λ d. refl) i (quiet_simple w.Of (λ d. refl) i
+    (quiet_term w.Of (λ d. refl) i (quiet_factor w.Of (λ d. refl) (λ d. refl) i)))
 
 quiet_to : {ts r : List Token} → g.Is w.To ts r → Quiet ts
-quiet_to i = quiet w.To (λ d. refl) i (quiet_simple w.To (λ d. refl) i (quiet_term w.To (λ d. refl) i (quiet_factor w.To (λ d. refl) (λ d. refl) i)))
+quiet_to i = quiet w.To (λ d. refl) i (quiet_simple w.To (λ d. refl) i
+    (quiet_term w.To (λ d. refl) i (quiet_factor w.To (λ d. refl) (λ d. refl) i)))
 
 quiet_downto : {ts r : List Token} → g.Is w.Downto ts r → Quiet ts
-quiet_downto i = quiet w.Downto (λ d. refl) i (quiet_simple w.Downto (λ d. refl) i (quiet_term w.Downto (λ d. refl) i (quiet_factor w.Downto (λ d. refl) (λ d. refl) i)))
+quiet_downto i = quiet w.Downto (λ d. refl) i
+    (quiet_simple w.Downto (λ d. refl) i (quiet_term w.Downto (λ d. refl) i
+    (quiet_factor w.Downto (λ d. refl) (λ d. refl) i)))
 
 quiet_end : {ts r : List Token} → g.Is w.End ts r → Quiet ts
-quiet_end i = quiet w.End (λ d. refl) i (quiet_simple w.End (λ d. refl) i (quiet_term w.End (λ d. refl) i (quiet_factor w.End (λ d. refl) (λ d. refl) i)))
+quiet_end i = quiet w.End (λ d. refl) i (quiet_simple w.End (λ d. refl) i
+    (quiet_term w.End (λ d. refl) i (quiet_factor w.End (λ d. refl) (λ d. refl) i)))
 
 quiet_until : {ts r : List Token} → g.Is w.Until ts r → Quiet ts
-quiet_until i = quiet w.Until (λ d. refl) i (quiet_simple w.Until (λ d. refl) i (quiet_term w.Until (λ d. refl) i (quiet_factor w.Until (λ d. refl) (λ d. refl) i)))
+quiet_until i = quiet w.Until (λ d. refl) i (quiet_simple w.Until (λ d. refl) i
+    (quiet_term w.Until (λ d. refl) i (quiet_factor w.Until (λ d. refl) (λ d. refl) i)))
 
 quiet_else : {ts r : List Token} → g.Is w.Else ts r → Quiet ts
-quiet_else i = quiet w.Else (λ d. refl) i (quiet_simple w.Else (λ d. refl) i (quiet_term w.Else (λ d. refl) i (quiet_factor w.Else (λ d. refl) (λ d. refl) i)))
+quiet_else i = quiet w.Else (λ d. refl) i (quiet_simple w.Else (λ d. refl) i
+    (quiet_term w.Else (λ d. refl) i (quiet_factor w.Else (λ d. refl) (λ d. refl) i)))
 
 quiet_bar : {ts r : List Token} → g.Is w.Bar ts r → Quiet ts
-quiet_bar i = quiet w.Bar (λ d. refl) i (quiet_simple w.Bar (λ d. refl) i (quiet_term w.Bar (λ d. refl) i (quiet_factor w.Bar (λ d. refl) (λ d. refl) i)))
+quiet_bar i = quiet w.Bar (λ d. refl) i (quiet_simple w.Bar (λ d. refl) i
+    (quiet_term w.Bar (λ d. refl) i (quiet_factor w.Bar (λ d. refl) (λ d. refl) i)))
 
 quiet_semicolon : {ts r : List Token} → g.Is w.Semicolon ts r → Quiet ts
-quiet_semicolon i = quiet w.Semicolon (λ d. refl) i (quiet_simple w.Semicolon (λ d. refl) i (quiet_term w.Semicolon (λ d. refl) i (quiet_factor w.Semicolon (λ d. refl) (λ d. refl) i)))
+quiet_semicolon i = quiet w.Semicolon (λ d. refl) i
+    (quiet_simple w.Semicolon (λ d. refl) i (quiet_term w.Semicolon (λ d. refl) i
+    (quiet_factor w.Semicolon (λ d. refl) (λ d. refl) i)))
 
 quiet_comma : {ts r : List Token} → g.Is w.Comma ts r → Quiet ts
-quiet_comma i = quiet w.Comma (λ d. refl) i (quiet_simple w.Comma (λ d. refl) i (quiet_term w.Comma (λ d. refl) i (quiet_factor w.Comma (λ d. refl) (λ d. refl) i)))
+quiet_comma i = quiet w.Comma (λ d. refl) i (quiet_simple w.Comma (λ d. refl) i
+    (quiet_term w.Comma (λ d. refl) i (quiet_factor w.Comma (λ d. refl) (λ d. refl) i)))
 
 quiet_close : {ts r : List Token} → g.Is w.Close ts r → Quiet ts
-quiet_close i = quiet w.Close (λ d. refl) i (quiet_simple w.Close (λ d. refl) i (quiet_term w.Close (λ d. refl) i (quiet_factor w.Close (λ d. refl) (λ d. refl) i)))
+quiet_close i = quiet w.Close (λ d. refl) i (quiet_simple w.Close (λ d. refl) i
+    (quiet_term w.Close (λ d. refl) i (quiet_factor w.Close (λ d. refl) (λ d. refl) i)))
 
 quiet_closeindex : {ts r : List Token} → g.Is w.CloseIndex ts r → Quiet ts
-quiet_closeindex i = quiet w.CloseIndex (λ d. refl) i (quiet_simple w.CloseIndex (λ d. refl) i (quiet_term w.CloseIndex (λ d. refl) i (quiet_factor w.CloseIndex (λ d. refl) (λ d. refl) i)))
+quiet_closeindex i = quiet w.CloseIndex (λ d. refl) i
+    (quiet_simple w.CloseIndex (λ d. refl) i
+    (quiet_term w.CloseIndex (λ d. refl) i (quiet_factor w.CloseIndex (λ d. refl) (λ d. refl) i)))
 
 quiet_colon : {ts r : List Token} → g.Is w.Colon ts r → Quiet ts
-quiet_colon i = quiet w.Colon (λ d. refl) i (quiet_simple w.Colon (λ d. refl) i (quiet_term w.Colon (λ d. refl) i (quiet_factor w.Colon (λ d. refl) (λ d. refl) i)))
+quiet_colon i = quiet w.Colon (λ d. refl) i (quiet_simple w.Colon (λ d. refl) i
+    (quiet_term w.Colon (λ d. refl) i (quiet_factor w.Colon (λ d. refl) (λ d. refl) i)))
 
 ended_end : {ts r : List Token} → g.Is w.End ts r → Ended ts
 ended_end i = ended w.End (λ d. refl) (λ d. refl) i (quiet_end i)
@@ -242,12 +290,18 @@ ended_semicolon : {ts r : List Token} → g.Is w.Semicolon ts r → Ended ts
 ended_semicolon i = ended w.Semicolon (λ d. refl) (λ d. refl) i (quiet_semicolon i)
 
 quiet_relational : {k : Kind} {o : BinaryOp} → g.IsRelational k o → {ts r : List Token} → g.Is k ts r → QuietSimple ts
-quiet_relational g.equal i = quiet_simple w.Equal (λ d. refl) i (quiet_term w.Equal (λ d. refl) i (quiet_factor w.Equal (λ d. refl) (λ d. refl) i))
-quiet_relational g.unequal i = quiet_simple w.Unequal (λ d. refl) i (quiet_term w.Unequal (λ d. refl) i (quiet_factor w.Unequal (λ d. refl) (λ d. refl) i))
-quiet_relational g.less i = quiet_simple w.Less (λ d. refl) i (quiet_term w.Less (λ d. refl) i (quiet_factor w.Less (λ d. refl) (λ d. refl) i))
-quiet_relational g.at_most i = quiet_simple w.AtMost (λ d. refl) i (quiet_term w.AtMost (λ d. refl) i (quiet_factor w.AtMost (λ d. refl) (λ d. refl) i))
-quiet_relational g.greater i = quiet_simple w.Greater (λ d. refl) i (quiet_term w.Greater (λ d. refl) i (quiet_factor w.Greater (λ d. refl) (λ d. refl) i))
-quiet_relational g.at_least i = quiet_simple w.AtLeast (λ d. refl) i (quiet_term w.AtLeast (λ d. refl) i (quiet_factor w.AtLeast (λ d. refl) (λ d. refl) i))
+quiet_relational g.equal i = quiet_simple w.Equal (λ d. refl) i
+    (quiet_term w.Equal (λ d. refl) i (quiet_factor w.Equal (λ d. refl) (λ d. refl) i))
+quiet_relational g.unequal i = quiet_simple w.Unequal (λ d. refl) i
+    (quiet_term w.Unequal (λ d. refl) i (quiet_factor w.Unequal (λ d. refl) (λ d. refl) i))
+quiet_relational g.less i = quiet_simple w.Less (λ d. refl) i
+    (quiet_term w.Less (λ d. refl) i (quiet_factor w.Less (λ d. refl) (λ d. refl) i))
+quiet_relational g.at_most i = quiet_simple w.AtMost (λ d. refl) i
+    (quiet_term w.AtMost (λ d. refl) i (quiet_factor w.AtMost (λ d. refl) (λ d. refl) i))
+quiet_relational g.greater i = quiet_simple w.Greater (λ d. refl) i
+    (quiet_term w.Greater (λ d. refl) i (quiet_factor w.Greater (λ d. refl) (λ d. refl) i))
+quiet_relational g.at_least i = quiet_simple w.AtLeast (λ d. refl) i
+    (quiet_term w.AtLeast (λ d. refl) i (quiet_factor w.AtLeast (λ d. refl) (λ d. refl) i))
 
 quiet_adding : {k : Kind} {o : BinaryOp} → g.IsAdding k o → {ts r : List Token} → g.Is k ts r → QuietTerm ts
 quiet_adding g.plus i = quiet_term w.Plus (λ d. refl) i (quiet_factor w.Plus (λ d. refl) (λ d. refl) i)
@@ -260,7 +314,8 @@ quiet_multiplying g.quotient i = quiet_factor w.Div (λ d. refl) (λ d. refl) i
 quiet_multiplying g.modulo i = quiet_factor w.Mod (λ d. refl) (λ d. refl) i
 quiet_multiplying g.and i = quiet_factor w.And (λ d. refl) (λ d. refl) i
 
-word_looks : (d n : ℕ) → kind.Word n ≢ w.Else → (b : Bool) → (9 == n) ≡ b → look (rows (sym.AnElse d)) (kind.Word n) ≡ None
+word_looks : (d n : ℕ) → kind.Word n ≢ w.Else → (b : Bool) → (9 == n) ≡ b
+    → look (rows (sym.AnElse d)) (kind.Word n) ≡ None
 word_looks d n h true q = absurd (h (ap kind.Word (back_of (eqb-true 9 n q))))
 word_looks d n h false q = ap (λ b. cond b (Some (entry _ _ row.other)) None) q
 
@@ -281,29 +336,35 @@ module _ (text : List ℕ) (Ok : ℕ → List Token → Type 0) where
   abbrev pub All : (l : List Symbol) → List Token → List Token → Values l → Type 0
   All = DerivesAll text Ok
 
-  pub join_all : (l m : List Symbol) {ts u r : List Token} {vs : Values l} {us : Values m} → All l ts u vs → All m u r us → All (l ++ m) ts r (join l m vs us)
+  pub join_all : (l m : List Symbol) {ts u r : List Token} {vs : Values l} {us : Values m} → All l ts u vs
+      → All m u r us → All (l ++ m) ts r (join l m vs us)
   unfolding join
   join_all [] m none b = b
   join_all (s ∷ l) m (and x a) b = and x (join_all l m a b)
 
   -- a symbol takes this token by this row
-  pub take : {s : Symbol} {k : Kind} {l : List Symbol} (c : Row s k l) → look (rows s) k ≡ Some (entry k l c) → (t : Token) → t.kind ≡ k → {ts r : List Token} {vs : Values l} → Begins Ok (part s) (t ∷ ts) → All l ts r vs → D s (t ∷ ts) r (build text c t vs)
+  pub take : {s : Symbol} {k : Kind} {l : List Symbol} (c : Row s k l) → look (rows s) k ≡ Some (entry k l c)
+      → (t : Token) → t.kind ≡ k → {ts r : List Token} {vs : Values l} → Begins Ok (part s) (t ∷ ts) → All l ts r vs
+      → D s (t ∷ ts) r (build text c t vs)
   take {s} {k} {l} c h t p o x = takes t (entry k l c) (ap (look (rows s)) p ∙ h) o x
 
   pub skip : {s : Symbol} {r : List Token} {v : Value s} → Ends s r → ((t : Token) → gap s t ≡ Some v) → D s r r v
   skip {r = []} h f = absurd h
   skip {r = t ∷ r} h f = skips t h (f t)
 
-  pub token : {k : Kind} → look (rows (sym.AToken k)) k ≡ Some (entry k [] row.token) → {ts r : List Token} → g.Is k ts r → D (sym.AToken k) ts r tt
+  pub token : {k : Kind} → look (rows (sym.AToken k)) k ≡ Some (entry k [] row.token) → {ts r : List Token}
+      → g.Is k ts r → D (sym.AToken k) ts r tt
   token h (g.it_is t p) = take row.token h t p tt none
 
   pub name : {ts r : List Token} {n : Name} → g.IsName text ts r n → D sym.AName ts r n
   name (g.name t p) = take row.name refl t p tt none
 
   -- after a name
-  pub more_names : {ts r : List Token} {ns : List Name} → g.IsMoreNames text ts r ns → Ends sym.MoreNames r → D sym.MoreNames ts r ns
+  pub more_names : {ts r : List Token} {ns : List Name} → g.IsMoreNames text ts r ns → Ends sym.MoreNames r
+      → D sym.MoreNames ts r ns
   more_names g.names_end h = skip h (λ t. refl)
-  more_names (g.names_go_on (g.it_is t p) (g.names n ns)) h = take row.next_name refl t p tt (and (name n) (and (more_names ns h) none))
+  more_names (g.names_go_on (g.it_is t p) (g.names n ns)) h =
+      take row.next_name refl t p tt (and (name n) (and (more_names ns h) none))
 
   pub value : {ts r : List Token} {v : SynValue} → g.IsValue text ts r v → D sym.AValue ts r v
   value (g.number_value t p) = take row.value_number refl t p tt none
@@ -311,7 +372,8 @@ module _ (text : List ℕ) (Ok : ℕ → List Token → Type 0) where
 
   -- the row of a part and what it leaves
   pub data Constant : List Token → List Token → SynConst → Type 0 where
-    begins : {k : Kind} {l : List Symbol} {ts r : List Token} {vs : Values l} (c : ConstantRow k l) (t : Token) → t.kind ≡ k → All l ts r vs → Constant (t ∷ ts) r (constant_value text c t vs)
+    begins : {k : Kind} {l : List Symbol} {ts r : List Token} {vs : Values l} (c : ConstantRow k l) (t : Token)
+        → t.kind ≡ k → All l ts r vs → Constant (t ∷ ts) r (constant_value text c t vs)
 
   pub constant_row : {ts r : List Token} {c : SynConst} → g.IsConstant text ts r c → Constant ts r c
   constant_row (g.unsigned (g.number_value t p)) = begins row.constant_number t p none
@@ -334,31 +396,51 @@ module _ (text : List ℕ) (Ok : ℕ → List Token → Type 0) where
 
   pub more_fields : {ts r : List Token} {gs : List SynGroup} → g.IsMoreFields text ts r gs → D sym.MoreFields ts r gs
   more_fields (g.fields_end (g.it_is t p)) = take row.fields_end refl t p tt none
-  more_fields (g.last_field (g.it_is t p) (g.it_is e q)) = take row.fields_go_on refl t p tt (and (take row.no_field refl e q tt none) none)
-  more_fields (g.fields_go_on (g.it_is t p) (g.group (g.names (g.name n q) ns) c k) gs) = take row.fields_go_on refl t p tt (and (take row.next_field refl n q tt (and (more_names ns (colon_ends c)) (and (token refl c) (and (name k) (and (more_fields gs) none))))) none)
+  more_fields (g.last_field (g.it_is t p) (g.it_is e q)) =
+      take row.fields_go_on refl t p tt (and (take row.no_field refl e q tt none) none)
+  more_fields (g.fields_go_on (g.it_is t p) (g.group (g.names (g.name n q) ns) c k) gs) =
+      take row.fields_go_on refl t p tt (and
+      (take row.next_field refl n q tt (and (more_names ns (colon_ends c))
+      (and (token refl c) (and (name k) (and (more_fields gs) none))))) none)
 
   pub type_of : {ts r : List Token} {k : SynKind} → g.IsType text ts r k → D sym.AType ts r k
   type_of (g.alias (g.name t p)) = take row.alias refl t p tt none
-  type_of (g.enumeration (g.it_is t p) (g.names n ns) c) = take row.enumeration refl t p tt (and (name n) (and (more_names ns (close_ends c)) (and (token refl c) none)))
-  type_of (g.array (g.it_is t p) i low m high c f n) = take row.array refl t p tt (and (token refl i) (and (constant low) (and (token refl m) (and (constant high) (and (token refl c) (and (token refl f) (and (name n) none)))))))
-  type_of (g.fields (g.it_is t p) (g.group (g.names n ns) c k) gs) = take row.fields refl t p tt (and (name n) (and (more_names ns (colon_ends c)) (and (token refl c) (and (name k) (and (more_fields gs) none)))))
-  type_of (g.channel (g.it_is t p) o (g.names n ns) c) = take row.channel refl t p tt (and (token refl o) (and (name n) (and (more_names ns (close_ends c)) (and (token refl c) none))))
+  type_of (g.enumeration (g.it_is t p) (g.names n ns) c) =
+      take row.enumeration refl t p tt (and (name n) (and (more_names ns (close_ends c)) (and (token refl c) none)))
+  type_of (g.array (g.it_is t p) i low m high c f n) =
+      take row.array refl t p tt (and (token refl i)
+      (and (constant low) (and (token refl m)
+      (and (constant high) (and (token refl c) (and (token refl f) (and (name n) none)))))))
+  type_of (g.fields (g.it_is t p) (g.group (g.names n ns) c k) gs) =
+      take row.fields refl t p tt (and (name n)
+      (and (more_names ns (colon_ends c)) (and (token refl c) (and (name k) (and (more_fields gs) none)))))
+  type_of (g.channel (g.it_is t p) o (g.names n ns) c) =
+      take row.channel refl t p tt (and (token refl o)
+      (and (name n) (and (more_names ns (close_ends c)) (and (token refl c) none))))
 
   pub formal : {ts r : List Token} {f : SynFormal} → g.IsFormal text ts r f → D sym.AFormal ts r f
-  formal (g.by_value (g.group (g.names (g.name t p) ns) c k)) = take row.by_value refl t p tt (and (more_names ns (colon_ends c)) (and (token refl c) (and (name k) none)))
-  formal (g.by_reference (g.it_is t p) (g.group (g.names n ns) c k)) = take row.by_reference refl t p tt (and (name n) (and (more_names ns (colon_ends c)) (and (token refl c) (and (name k) none))))
+  formal (g.by_value (g.group (g.names (g.name t p) ns) c k)) =
+      take row.by_value refl t p tt (and (more_names ns (colon_ends c)) (and (token refl c) (and (name k) none)))
+  formal (g.by_reference (g.it_is t p) (g.group (g.names n ns) c k)) =
+      take row.by_reference refl t p tt (and (name n)
+      (and (more_names ns (colon_ends c)) (and (token refl c) (and (name k) none))))
 
-  pub more_formals : {ts r : List Token} {fs : List SynFormal} → g.IsMoreFormals text ts r fs → D sym.MoreFormals ts r fs
+  pub more_formals : {ts r : List Token} {fs : List SynFormal} → g.IsMoreFormals text ts r fs
+      → D sym.MoreFormals ts r fs
   more_formals (g.formals_end (g.it_is t p)) = take row.formals_end refl t p tt none
-  more_formals (g.formals_go_on (g.it_is t p) f fs) = take row.next_formal refl t p tt (and (formal f) (and (more_formals fs) none))
+  more_formals (g.formals_go_on (g.it_is t p) f fs) =
+      take row.next_formal refl t p tt (and (formal f) (and (more_formals fs) none))
 
-  pub formals : {ts r : List Token} {fs : List SynFormal} → g.IsFormals text ts r fs → Ends sym.Formals r → D sym.Formals ts r fs
+  pub formals : {ts r : List Token} {fs : List SynFormal} → g.IsFormals text ts r fs → Ends sym.Formals r
+      → D sym.Formals ts r fs
   formals g.no_formals h = skip h (λ t. refl)
   formals (g.formals (g.it_is t p) f fs) h = take row.formals refl t p tt (and (formal f) (and (more_formals fs) none))
 
-  pub heading : {ts r : List Token} {ns : List Name} → g.IsHeading text ts r ns → Ends sym.AHeading r → D sym.AHeading ts r ns
+  pub heading : {ts r : List Token} {ns : List Name} → g.IsHeading text ts r ns → Ends sym.AHeading r
+      → D sym.AHeading ts r ns
   heading g.no_heading h = skip h (λ t. refl)
-  heading (g.heading (g.it_is t p) (g.names n ns) c) h = take row.heading refl t p tt (and (name n) (and (more_names ns (close_ends c)) (and (token refl c) none)))
+  heading (g.heading (g.it_is t p) (g.names n ns) c) h =
+      take row.heading refl t p tt (and (name n) (and (more_names ns (close_ends c)) (and (token refl c) none)))
 
   pub record Relates (d : ℕ) (a : tree.Expression) (ts r : List Token) (x : tree.Expression) : Type 0 where
     f : tree.Expression → tree.Expression
@@ -376,48 +458,62 @@ module _ (text : List ℕ) (Ok : ℕ → List Token → Type 0) where
     gives : f a ≡ x
 
   pub data Factor (d : ℕ) : List Token → List Token → tree.Expression → Type 0 where
-    factor_begins : {k : Kind} {l : List Symbol} {ts r : List Token} {vs : Values l} (c : FactorRow d k l) (t : Token) → t.kind ≡ k → All l ts r vs → Factor d (t ∷ ts) r (factor_value text c t vs)
+    factor_begins : {k : Kind} {l : List Symbol} {ts r : List Token} {vs : Values l} (c : FactorRow d k l) (t : Token)
+        → t.kind ≡ k → All l ts r vs → Factor d (t ∷ ts) r (factor_value text c t vs)
 
   pub data Simple (d : ℕ) : List Token → List Token → tree.Expression → Type 0 where
-    simple_begins : {k : Kind} {l : List Symbol} {ts r : List Token} {vs : Values l} (c : SimpleRow d k l) (t : Token) → t.kind ≡ k → All l ts r vs → Simple d (t ∷ ts) r (simple_value text c t vs)
+    simple_begins : {k : Kind} {l : List Symbol} {ts r : List Token} {vs : Values l} (c : SimpleRow d k l) (t : Token)
+        → t.kind ≡ k → All l ts r vs → Simple d (t ∷ ts) r (simple_value text c t vs)
 
   pub as_factor : {d : ℕ} {ts r : List Token} {x : tree.Expression} → Factor d ts r x → D (sym.AFactor d) ts r x
   as_factor {d} (factor_begins c t p x) = take (row.factor c) (look_factor d c) t p tt x
 
-  pub as_negated : {d : ℕ} {ts r : List Token} {x : tree.Expression} → Ok d ts → Factor (suc d) ts r x → D (sym.ANegated d) ts r x
+  pub as_negated : {d : ℕ} {ts r : List Token} {x : tree.Expression} → Ok d ts → Factor (suc d) ts r x
+      → D (sym.ANegated d) ts r x
   as_negated {d} ok (factor_begins c t p x) = take (row.negated c) (look_negated d c) t p ok x
 
   -- a factor and the further ones
-  pub as_term : {d : ℕ} {ts u r : List Token} {a x : tree.Expression} → Factor d ts u a → Multiplies d a u r x → D (sym.ATerm d) ts r x
+  pub as_term : {d : ℕ} {ts u r : List Token} {a x : tree.Expression} → Factor d ts u a → Multiplies d a u r x
+      → D (sym.ATerm d) ts r x
   as_term {d} {r = r} (factor_begins {l = l} {ts = ts} {vs = vs} c t p x) m =
       let f = m.f in
-      subst (D (sym.ATerm d) (t ∷ ts) r) (ap (λ p. p.1.0 (factor_value text c t p.0)) (split_join l (sym.MoreFactors d ∷ []) vs (f, tt)) ∙ m.gives)
+      subst (D (sym.ATerm d) (t ∷ ts) r) (ap (λ p. p.1.0 (factor_value text c t p.0))
+      (split_join l (sym.MoreFactors d ∷ []) vs (f, tt)) ∙ m.gives)
       (take (row.term c) (look_term d c) t p tt (join_all l (sym.MoreFactors d ∷ []) x (and m.is none)))
 
   -- and further terms
-  pub as_terms : {d : ℕ} {ts u v r : List Token} {a b x : tree.Expression} → Factor d ts u a → Multiplies d a u v b → Adds d b v r x → Simple d ts r x
+  pub as_terms : {d : ℕ} {ts u v r : List Token} {a b x : tree.Expression} → Factor d ts u a → Multiplies d a u v b
+      → Adds d b v r x → Simple d ts r x
   as_terms {d} {r = r} (factor_begins {l = l} {ts = ts} {vs = vs} c t p x) m n =
-      subst (Simple d (t ∷ ts) r) (ap (λ p. p.1.1.0 (p.1.0 (factor_value text c t p.0))) (split_join l (sym.MoreFactors d ∷ sym.MoreTerms d ∷ []) vs (m.f, (n.f, tt))) ∙ ap n.f m.gives ∙ n.gives)
-      (simple_begins (row.simple_factor c) t p (join_all l (sym.MoreFactors d ∷ sym.MoreTerms d ∷ []) x (and m.is (and n.is none))))
+      subst (Simple d (t ∷ ts) r) (ap (λ p. p.1.1.0 (p.1.0 (factor_value text c t p.0)))
+      (split_join l (sym.MoreFactors d ∷ sym.MoreTerms d ∷ []) vs (m.f, (n.f, tt))) ∙ ap n.f m.gives ∙ n.gives)
+      (simple_begins (row.simple_factor c) t p
+      (join_all l (sym.MoreFactors d ∷ sym.MoreTerms d ∷ []) x (and m.is (and n.is none))))
 
   pub as_simple : {d : ℕ} {ts r : List Token} {x : tree.Expression} → Simple d ts r x → D (sym.ASimple d) ts r x
   as_simple {d} (simple_begins c t p x) = take (row.simple c) (look_simple d c) t p tt x
 
-  pub as_expression : {d : ℕ} {ts u r : List Token} {a x : tree.Expression} → Ok d ts → Simple (suc d) ts u a → Relates (suc d) a u r x → D (sym.AnExpression d) ts r x
+  pub as_expression : {d : ℕ} {ts u r : List Token} {a x : tree.Expression} → Ok d ts → Simple (suc d) ts u a
+      → Relates (suc d) a u r x → D (sym.AnExpression d) ts r x
   as_expression {d} {r = r} ok (simple_begins {l = l} {ts = ts} {vs = vs} c t p x) m =
-      subst (D (sym.AnExpression d) (t ∷ ts) r) (ap (λ p. p.1.0 (simple_value text c t p.0)) (split_join l (sym.ARelation (suc d) ∷ []) vs (m.f, tt)) ∙ m.gives)
+      subst (D (sym.AnExpression d) (t ∷ ts) r)
+      (ap (λ p. p.1.0 (simple_value text c t p.0)) (split_join l (sym.ARelation (suc d) ∷ []) vs (m.f, tt))
+      ∙ m.gives)
       (take (row.expression c) (look_expression d c) t p ok (join_all l (sym.ARelation (suc d) ∷ []) x (and m.is none)))
 
   -- what stands before a tail
-  pub terms_quiet : {d : ℕ} {a x : tree.Expression} {ts r : List Token} → g.IsRelation text Ok d a ts r x → Quiet r → QuietSimple ts
+  pub terms_quiet : {d : ℕ} {a x : tree.Expression} {ts r : List Token} → g.IsRelation text Ok d a ts r x → Quiet r
+      → QuietSimple ts
   terms_quiet g.no_relation q = q.simple
   terms_quiet (g.relation c i s) q = quiet_relational c i
 
-  pub factors_quiet : {d : ℕ} {a x : tree.Expression} {ts r : List Token} → g.IsMoreTerms text Ok d a ts r x → QuietSimple r → QuietTerm ts
+  pub factors_quiet : {d : ℕ} {a x : tree.Expression} {ts r : List Token} → g.IsMoreTerms text Ok d a ts r x
+      → QuietSimple r → QuietTerm ts
   factors_quiet g.terms_end q = q.term
   factors_quiet (g.terms_go_on c i s m) q = quiet_adding c i
 
-  pub factor_quiet : {d : ℕ} {a x : tree.Expression} {ts r : List Token} → g.IsMoreFactors text Ok d a ts r x → QuietTerm r → QuietFactor ts
+  pub factor_quiet : {d : ℕ} {a x : tree.Expression} {ts r : List Token} → g.IsMoreFactors text Ok d a ts r x
+      → QuietTerm r → QuietFactor ts
   factor_quiet g.factors_end q = q.factor
   factor_quiet (g.factors_go_on c i s m) q = quiet_multiplying c i
 
@@ -429,69 +525,121 @@ module _ (text : List ℕ) (Ok : ℕ → List Token → Type 0) where
   indices_quiet (g.indices_end i ss) = quiet_closeindex i
   indices_quiet (g.indices_go_on i x ss) = quiet_comma i
 
-  pub arguments_quiet : {d : ℕ} {rest : tree.Arguments} {ts r : List Token} → g.IsMoreArguments text Ok d ts r rest → Quiet ts
+  pub arguments_quiet : {d : ℕ} {rest : tree.Arguments} {ts r : List Token} → g.IsMoreArguments text Ok d ts r rest
+      → Quiet ts
   arguments_quiet (g.arguments_end i) = quiet_close i
   arguments_quiet (g.arguments_go_on i a rest) = quiet_comma i
 
-  pub arguments_width : (d : ℕ) {e : ℕ} {rest : tree.Arguments} {ts r : List Token} → g.IsMoreArguments text Ok e ts r rest → Ends (sym.AWidth d) ts
+  pub arguments_width : (d : ℕ) {e : ℕ} {rest : tree.Arguments} {ts r : List Token}
+      → g.IsMoreArguments text Ok e ts r rest → Ends (sym.AWidth d) ts
   arguments_width d (g.arguments_end i) = ends (sym.AWidth d) w.Close refl i
   arguments_width d (g.arguments_go_on i a rest) = ends (sym.AWidth d) w.Comma refl i
 
   mutual
-    pub expression : {d : ℕ} {ts r : List Token} {x : tree.Expression} → g.IsExpression text Ok d ts r x → Quiet r → D (sym.AnExpression d) ts r x
+    pub expression : {d : ℕ} {ts r : List Token} {x : tree.Expression} → g.IsExpression text Ok d ts r x → Quiet r
+        → D (sym.AnExpression d) ts r x
     expression (g.expression ok s m) q = as_expression ok (simple s (terms_quiet m q)) (relates m q)
 
-    pub relates : {d : ℕ} {a x : tree.Expression} {ts r : List Token} → g.IsRelation text Ok d a ts r x → Quiet r → Relates d a ts r x
+    pub relates : {d : ℕ} {a x : tree.Expression} {ts r : List Token} → g.IsRelation text Ok d a ts r x → Quiet r
+        → Relates d a ts r x
     relates {d} g.no_relation q = record { f = λ a. a; is = skip (q.relation d) (λ t. refl); gives = refl }
-    relates {d} {a} (g.relation {b = b} {o = o} c (g.it_is t p) s) q = record { f = λ a. g.joined o a b; is = take (row.relation c) (look_relation d c) t p tt (and (as_simple (simple s q.simple)) none); gives = refl }
+    relates {d} {a} (g.relation {b = b} {o = o} c (g.it_is t p) s) q =
+        record {
+          f = λ a. g.joined o a b;
+          is =
+              take (row.relation c) (look_relation d c) t p tt (and (as_simple (simple s q.simple)) none);
+          gives = refl;
+        }
 
-    pub simple : {d : ℕ} {ts r : List Token} {x : tree.Expression} → g.IsSimple text Ok d ts r x → QuietSimple r → Simple d ts r x
-    simple (g.simple (g.term f m) n) q = as_terms (factor f (factor_quiet m (factors_quiet n q))) (multiplies m (factors_quiet n q)) (adds n q)
-    simple {d} {r = r} (g.after_plus {ts = ts} t p a n) q = let m = adds n q in subst (Simple d (t ∷ ts) r) m.gives (simple_begins row.simple_plus t p (and (term a (factors_quiet n q)) (and m.is none)))
-    simple {d} {r = r} (g.after_minus {ts = ts} t p a n) q = let m = adds n q in subst (Simple d (t ∷ ts) r) m.gives (simple_begins row.simple_minus t p (and (term a (factors_quiet n q)) (and m.is none)))
+    pub simple : {d : ℕ} {ts r : List Token} {x : tree.Expression} → g.IsSimple text Ok d ts r x → QuietSimple r
+        → Simple d ts r x
+    simple (g.simple (g.term f m) n) q = as_terms (factor f (factor_quiet m (factors_quiet n q)))
+        (multiplies m (factors_quiet n q)) (adds n q)
+    simple {d} {r = r} (g.after_plus {ts = ts} t p a n) q = let m = adds n q in
+        subst (Simple d (t ∷ ts) r) m.gives (simple_begins row.simple_plus t p
+        (and (term a (factors_quiet n q)) (and m.is none)))
+    simple {d} {r = r} (g.after_minus {ts = ts} t p a n) q = let m = adds n q in
+        subst (Simple d (t ∷ ts) r) m.gives (simple_begins row.simple_minus t p
+        (and (term a (factors_quiet n q)) (and m.is none)))
 
-    pub adds : {d : ℕ} {a x : tree.Expression} {ts r : List Token} → g.IsMoreTerms text Ok d a ts r x → QuietSimple r → Adds d a ts r x
+    pub adds : {d : ℕ} {a x : tree.Expression} {ts r : List Token} → g.IsMoreTerms text Ok d a ts r x → QuietSimple r
+        → Adds d a ts r x
     adds {d} g.terms_end q = record { f = λ a. a; is = skip (q.terms d) (λ t. refl); gives = refl }
-    adds {d} (g.terms_go_on {b = b} {o = o} c (g.it_is t p) s n) q = let m = adds n q in let h = m.f in record { f = λ a. h (g.joined o a b); is = take (row.next_term c) (look_adding d c) t p tt (and (term s (factors_quiet n q)) (and m.is none)); gives = m.gives }
+    adds {d} (g.terms_go_on {b = b} {o = o} c (g.it_is t p) s n) q = let m = adds n q in let h = m.f in
+        record {
+          f = λ a. h (g.joined o a b);
+          is = take (row.next_term c) (look_adding d c) t p tt (and (term s (factors_quiet n q)) (and m.is none));
+          gives = m.gives;
+        }
 
-    pub term : {d : ℕ} {ts r : List Token} {x : tree.Expression} → g.IsTerm text Ok d ts r x → QuietTerm r → D (sym.ATerm d) ts r x
+    pub term : {d : ℕ} {ts r : List Token} {x : tree.Expression} → g.IsTerm text Ok d ts r x → QuietTerm r
+        → D (sym.ATerm d) ts r x
     term (g.term f m) q = as_term (factor f (factor_quiet m q)) (multiplies m q)
 
-    pub multiplies : {d : ℕ} {a x : tree.Expression} {ts r : List Token} → g.IsMoreFactors text Ok d a ts r x → QuietTerm r → Multiplies d a ts r x
+    pub multiplies : {d : ℕ} {a x : tree.Expression} {ts r : List Token} → g.IsMoreFactors text Ok d a ts r x
+        → QuietTerm r → Multiplies d a ts r x
     multiplies {d} g.factors_end q = record { f = λ a. a; is = skip (q.factors d) (λ t. refl); gives = refl }
-    multiplies {d} (g.factors_go_on {b = b} {o = o} c (g.it_is t p) s n) q = let m = multiplies n q in let h = m.f in record { f = λ a. h (g.joined o a b); is = take (row.next_factor c) (look_multiplying d c) t p tt (and (as_factor (factor s (factor_quiet n q))) (and m.is none)); gives = m.gives }
+    multiplies {d} (g.factors_go_on {b = b} {o = o} c (g.it_is t p) s n) q = let m = multiplies n q in let h = m.f in
+        record {
+          f = λ a. h (g.joined o a b);
+          is = take (row.next_factor c) (look_multiplying d c) t p tt
+              (and (as_factor (factor s (factor_quiet n q))) (and m.is none));
+          gives = m.gives;
+        }
 
-    pub factor : {d : ℕ} {ts r : List Token} {x : tree.Expression} → g.IsFactor text Ok d ts r x → QuietFactor r → Factor d ts r x
+    pub factor : {d : ℕ} {ts r : List Token} {x : tree.Expression} → g.IsFactor text Ok d ts r x → QuietFactor r
+        → Factor d ts r x
     factor (g.number t p) q = factor_begins row.factor_number t p none
     factor (g.text_factor t p) q = factor_begins row.factor_text t p none
-    factor {d} (g.variable_factor (g.variable (g.name t p) g.selectors_end)) q = factor_begins row.factor_name t p (and (skip (q.reference d) (λ t. refl)) none)
-    factor {d} (g.variable_factor (g.variable (g.name t p) (g.index (g.it_is o s) x ss))) q = factor_begins row.factor_name t p (and (take (row.reference row.selector_index) refl o s tt (and (expression x (indices_quiet ss)) (and (indices ss q.selectors) none))) none)
-    factor {d} (g.variable_factor (g.variable (g.name t p) (g.field (g.it_is o s) n ss))) q = factor_begins row.factor_name t p (and (take (row.reference row.selector_field) refl o s tt (and (name n) (and (selectors ss q.selectors) none))) none)
-    factor {d} (g.call_factor (g.name t p) (g.arguments (g.it_is o s) (g.argument x m) rest)) q = factor_begins row.factor_name t p (and (take row.arguments refl o s tt (and (expression x (width_quiet m (arguments_quiet rest))) (and (width m (arguments_quiet rest) (arguments_width d rest)) (and (arguments rest) none)))) none)
-    factor (g.in_parentheses t p x c) q = factor_begins row.factor_open t p (and (expression x (quiet_close c)) (and (token refl c) none))
+    factor {d} (g.variable_factor (g.variable (g.name t p) g.selectors_end)) q =
+        factor_begins row.factor_name t p (and (skip (q.reference d) (λ t. refl)) none)
+    factor {d} (g.variable_factor (g.variable (g.name t p) (g.index (g.it_is o s) x ss))) q =
+        factor_begins row.factor_name t p (and
+        (take (row.reference row.selector_index) refl o s tt
+        (and (expression x (indices_quiet ss)) (and (indices ss q.selectors) none))) none)
+    factor {d} (g.variable_factor (g.variable (g.name t p) (g.field (g.it_is o s) n ss))) q =
+        factor_begins row.factor_name t p (and
+        (take (row.reference row.selector_field) refl o s tt (and (name n) (and (selectors ss q.selectors) none))) none)
+    factor {d} (g.call_factor (g.name t p) (g.arguments (g.it_is o s) (g.argument x m) rest)) q =
+        factor_begins row.factor_name t p (and
+        (take row.arguments refl o s tt (and (expression x (width_quiet m (arguments_quiet rest)))
+        (and (width m (arguments_quiet rest) (arguments_width d rest)) (and (arguments rest) none)))) none)
+    factor (g.in_parentheses t p x c) q = factor_begins row.factor_open t p
+        (and (expression x (quiet_close c)) (and (token refl c) none))
     factor (g.negated t p ok x) q = factor_begins row.factor_not t p (and (as_negated ok (factor x q)) none)
 
-    pub selectors : {d : ℕ} {ts r : List Token} {ss : tree.Selectors} → g.IsSelectors text Ok d ts r ss → ((d : ℕ) → Ends (sym.Selectors d) r) → D (sym.Selectors d) ts r ss
+    pub selectors : {d : ℕ} {ts r : List Token} {ss : tree.Selectors} → g.IsSelectors text Ok d ts r ss
+        → ((d : ℕ) → Ends (sym.Selectors d) r) → D (sym.Selectors d) ts r ss
     selectors {d} g.selectors_end q = skip (q d) (λ t. refl)
-    selectors (g.index (g.it_is o s) x ss) q = take (row.selector row.selector_index) refl o s tt (and (expression x (indices_quiet ss)) (and (indices ss q) none))
-    selectors (g.field (g.it_is o s) n ss) q = take (row.selector row.selector_field) refl o s tt (and (name n) (and (selectors ss q) none))
+    selectors (g.index (g.it_is o s) x ss) q =
+        take (row.selector row.selector_index) refl o s tt
+        (and (expression x (indices_quiet ss)) (and (indices ss q) none))
+    selectors (g.field (g.it_is o s) n ss) q =
+        take (row.selector row.selector_field) refl o s tt (and (name n) (and (selectors ss q) none))
 
-    pub indices : {d : ℕ} {ts r : List Token} {ss : tree.Selectors} → g.IsMoreIndices text Ok d ts r ss → ((d : ℕ) → Ends (sym.Selectors d) r) → D (sym.MoreIndices d) ts r ss
+    pub indices : {d : ℕ} {ts r : List Token} {ss : tree.Selectors} → g.IsMoreIndices text Ok d ts r ss
+        → ((d : ℕ) → Ends (sym.Selectors d) r) → D (sym.MoreIndices d) ts r ss
     indices (g.indices_end (g.it_is t p) ss) q = take row.indices_end refl t p tt (and (selectors ss q) none)
-    indices (g.indices_go_on (g.it_is t p) x ss) q = take row.next_index refl t p tt (and (expression x (indices_quiet ss)) (and (indices ss q) none))
+    indices (g.indices_go_on (g.it_is t p) x ss) q =
+        take row.next_index refl t p tt (and (expression x (indices_quiet ss)) (and (indices ss q) none))
 
-    pub arguments : {d : ℕ} {ts r : List Token} {rest : tree.Arguments} → g.IsMoreArguments text Ok d ts r rest → D (sym.MoreArguments d) ts r rest
+    pub arguments : {d : ℕ} {ts r : List Token} {rest : tree.Arguments} → g.IsMoreArguments text Ok d ts r rest
+        → D (sym.MoreArguments d) ts r rest
     arguments (g.arguments_end (g.it_is t p)) = take row.arguments_end refl t p tt none
-    arguments {d} (g.arguments_go_on (g.it_is t p) (g.argument x m) rest) = take row.next_argument refl t p tt (and (expression x (width_quiet m (arguments_quiet rest))) (and (width m (arguments_quiet rest) (arguments_width d rest)) (and (arguments rest) none)))
+    arguments {d} (g.arguments_go_on (g.it_is t p) (g.argument x m) rest) =
+        take row.next_argument refl t p tt (and (expression x (width_quiet m (arguments_quiet rest)))
+        (and (width m (arguments_quiet rest) (arguments_width d rest)) (and (arguments rest) none)))
 
-    pub width : {d : ℕ} {ts r : List Token} {m : tree.Width} → g.IsWidth text Ok d ts r m → Quiet r → Ends (sym.AWidth d) r → D (sym.AWidth d) ts r m
+    pub width : {d : ℕ} {ts r : List Token} {m : tree.Width} → g.IsWidth text Ok d ts r m → Quiet r
+        → Ends (sym.AWidth d) r → D (sym.AWidth d) ts r m
     width g.no_width q h = skip h (λ t. refl)
     width (g.width (g.it_is t p) x) q h = take row.width refl t p tt (and (expression x q) none)
 
   -- statements
   pub labels_to : {ts r : List Token} {cs : List SynConst} → g.IsMoreLabels text Ok ts r cs → D sym.MoreLabels ts r cs
   labels_to (g.labels_end (g.it_is t p)) = take row.labels_end refl t p tt none
-  labels_to (g.labels_go_on (g.it_is t p) (g.labels c cs)) = take row.next_label refl t p tt (and (constant c) (and (labels_to cs) none))
+  labels_to (g.labels_go_on (g.it_is t p) (g.labels c cs)) =
+      take row.next_label refl t p tt (and (constant c) (and (labels_to cs) none))
 
   pub direction : {ts r : List Token} {b : _} → g.IsDirection text Ok ts r b → D sym.ADirection ts r b
   direction (g.upward (g.it_is t p)) = take row.upward refl t p tt none
@@ -505,7 +653,8 @@ module _ (text : List ℕ) (Ok : ℕ → List Token → Type 0) where
   else_ended (g.no_else h) q = q
   else_ended (g.other i s) q = ended_else i
 
-  pub statements_ended : {d : ℕ} {ts r : List Token} {ss : tree.Statements} → g.IsMoreStatements text Ok d ts r ss → Ended r → Ended ts
+  pub statements_ended : {d : ℕ} {ts r : List Token} {ss : tree.Statements} → g.IsMoreStatements text Ok d ts r ss
+      → Ended r → Ended ts
   statements_ended g.statements_end q = q
   statements_ended (g.statements_go_on i ss) q = ended_semicolon i
 
@@ -518,7 +667,8 @@ module _ (text : List ℕ) (Ok : ℕ → List Token → Type 0) where
   branches_ended (g.branches_end i) = ended_end i
   branches_ended (g.branches_go_on i bs) = ended_bar i
 
-  pub branches_statements : (d : ℕ) {e : ℕ} {ts r : List Token} {bs : tree.Branches} → g.IsMoreBranches text Ok e ts r bs → Ends (sym.MoreStatements d) ts
+  pub branches_statements : (d : ℕ) {e : ℕ} {ts r : List Token} {bs : tree.Branches}
+      → g.IsMoreBranches text Ok e ts r bs → Ends (sym.MoreStatements d) ts
   branches_statements d (g.branches_end i) = ends (sym.MoreStatements d) w.End refl i
   branches_statements d (g.branches_go_on i bs) = ends (sym.MoreStatements d) w.Bar refl i
 
@@ -534,71 +684,135 @@ module _ (text : List ℕ) (Ok : ℕ → List Token → Type 0) where
   else_ends d (t ∷ r) h q = else_looks d t.kind h
 
   -- a target with selectors
-  pub as_target : {d : ℕ} {ts u v r : List Token} {x : tree.Expression} {k : Kind} {l : List Symbol} {vs : Values l} (c : SelectorRow d k l) (t : Token) → t.kind ≡ k → All l ts u vs → g.Is w.Becomes u v → D (sym.AnExpression d) v r x → D (sym.AfterName d) (t ∷ ts) r (λ n. tree.Assign (tree.Entire n (selector_value text c t vs)) x)
+  pub as_target : {d : ℕ} {ts u v r : List Token} {x : tree.Expression} {k : Kind} {l : List Symbol} {vs : Values l}
+      (c : SelectorRow d k l) (t : Token) → t.kind ≡ k → All l ts u vs → g.Is w.Becomes u v
+      → D (sym.AnExpression d) v r x → D (sym.AfterName d) (t ∷ ts) r
+      (λ n. tree.Assign (tree.Entire n (selector_value text c t vs)) x)
   as_target {d} {ts} {r = r} {x = x} {l = l} {vs = vs} c t p a b e =
-      subst (D (sym.AfterName d) (t ∷ ts) r) (ap (λ p. λ n. tree.Assign (tree.Entire n (selector_value text c t p.0)) p.1.1.0) (split_join l (sym.AToken w.Becomes ∷ sym.AnExpression d ∷ []) vs (tt, (x, tt))))
-      (take (row.target c) (look_target d c) t p tt (join_all l (sym.AToken w.Becomes ∷ sym.AnExpression d ∷ []) a (and (token refl b) (and e none))))
+      subst (D (sym.AfterName d) (t ∷ ts) r)
+      (ap (λ p. λ n. tree.Assign (tree.Entire n (selector_value text c t p.0)) p.1.1.0)
+      (split_join l (sym.AToken w.Becomes ∷ sym.AnExpression d ∷ []) vs (tt, (x, tt))))
+      (take (row.target c) (look_target d c) t p tt
+      (join_all l (sym.AToken w.Becomes ∷ sym.AnExpression d ∷ []) a (and (token refl b) (and e none))))
 
   pub becomes_ends : {ts r : List Token} → g.Is w.Becomes ts r → (d : ℕ) → Ends (sym.Selectors d) ts
   becomes_ends i d = ends (sym.Selectors d) w.Becomes refl i
 
-  pub as_arm : {d : ℕ} {ts u v x r : List Token} {c : SynConst} {cs : List SynConst} {s : tree.Statement} {m : tree.Arms} → Constant ts u c → D sym.MoreLabels u v cs → D (sym.AStatement d) v x s → D (sym.MoreArms d) x r m → D (sym.ArmOrEnd d) ts r (tree.Or (tree.On (c ∷ cs) s) m)
+  pub as_arm : {d : ℕ} {ts u v x r : List Token} {c : SynConst} {cs : List SynConst} {s : tree.Statement}
+      {m : tree.Arms} → Constant ts u c → D sym.MoreLabels u v cs → D (sym.AStatement d) v x s
+      → D (sym.MoreArms d) x r m → D (sym.ArmOrEnd d) ts r (tree.Or (tree.On (c ∷ cs) s) m)
   as_arm {d} {r = r} {cs = cs} {s = s} {m = m} (begins {l = l} {ts = ts} {vs = vs} c t p a) x y z =
-      subst (D (sym.ArmOrEnd d) (t ∷ ts) r) (ap (λ p. tree.Or (tree.On (constant_value text c t p.0 ∷ p.1.0) p.1.1.0) p.1.1.1.0) (split_join l (sym.MoreLabels ∷ sym.AStatement d ∷ sym.MoreArms d ∷ []) vs (cs, (s, (m, tt)))))
-      (take (row.next_arm c) (look_arm d c) t p tt (join_all l (sym.MoreLabels ∷ sym.AStatement d ∷ sym.MoreArms d ∷ []) a (and x (and y (and z none)))))
+      subst (D (sym.ArmOrEnd d) (t ∷ ts) r) (ap
+      (λ p. tree.Or (tree.On (constant_value text c t p.0 ∷ p.1.0) p.1.1.0) p.1.1.1.0)
+      (split_join l (sym.MoreLabels ∷ sym.AStatement d ∷ sym.MoreArms d ∷ []) vs (cs, (s, (m, tt)))))
+      (take (row.next_arm c) (look_arm d c) t p tt
+      (join_all l (sym.MoreLabels ∷ sym.AStatement d ∷ sym.MoreArms d ∷ []) a (and x (and y (and z none)))))
 
   mutual
-    pub statement : {d : ℕ} {ts r : List Token} {s : tree.Statement} → g.IsStatement text Ok d ts r s → Ended r → D (sym.AStatement d) ts r s
+    pub statement : {d : ℕ} {ts r : List Token} {s : tree.Statement} → g.IsStatement text Ok d ts r s → Ended r
+        → D (sym.AStatement d) ts r s
     statement {d} (g.empty t) q = skips t (q.statement d) refl
-    statement {d} (g.statement {r = r} t ok (g.assignment (g.variable (g.name t' p) g.selectors_end) (g.it_is b s) e)) q = take (row.statement row.form_name) refl t p ok (and (take row.becomes refl b s tt (and (expression e q.expression) none)) none)
-    statement {d} (g.statement t ok (g.assignment (g.variable (g.name t' p) (g.index (g.it_is o s) x ss)) b e)) q = take (row.statement row.form_name) refl t p ok (and (as_target row.selector_index o s (and (expression x (indices_quiet ss)) (and (indices ss (becomes_ends b)) none)) b (expression e q.expression)) none)
-    statement {d} (g.statement t ok (g.assignment (g.variable (g.name t' p) (g.field (g.it_is o s) n ss)) b e)) q = take (row.statement row.form_name) refl t p ok (and (as_target row.selector_field o s (and (name n) (and (selectors ss (becomes_ends b)) none)) b (expression e q.expression)) none)
-    statement {d} (g.statement t ok (g.plain_call (g.name t' p))) q = take (row.statement row.form_name) refl t p ok (and (skip (q.name (suc d)) (λ t. refl)) none)
-    statement {d} (g.statement t ok (g.call (g.name t' p) (g.arguments (g.it_is o s) (g.argument x m) rest))) q = take (row.statement row.form_name) refl t p ok (and (take row.call refl o s tt (and (expression x (width_quiet m (arguments_quiet rest))) (and (width m (arguments_quiet rest) (arguments_width (suc d) rest)) (and (arguments rest) none)))) none)
-    statement {d} (g.statement t ok (g.compound_form (g.compound (g.it_is t' p) (g.sequence s ss) e))) q = take (row.statement row.form_begin) refl t p ok (and (statement s (statements_ended ss (ended_end e))) (and (statements ss (ended_end e) (ends (sym.MoreStatements (suc d)) w.End refl e)) (and (token refl e) none)))
-    statement {d} (g.statement t ok (g.choice (g.it_is t' p) e h s o)) q = take (row.statement row.form_if) refl t p ok (and (expression e (quiet_then h)) (and (token refl h) (and (statement s (else_ended o q)) (and (else_to o q) none))))
-    statement {d} (g.statement t ok (g.while_loop (g.it_is t' p) e h s)) q = take (row.statement row.form_while) refl t p ok (and (expression e (quiet_do h)) (and (token refl h) (and (statement s q) none)))
-    statement {d} (g.statement t ok (g.repeat_loop (g.it_is t' p) (g.sequence s ss) h e)) q = take (row.statement row.form_repeat) refl t p ok (and (statement s (statements_ended ss (ended_until h))) (and (statements ss (ended_until h) (ends (sym.MoreStatements (suc d)) w.Until refl h)) (and (token refl h) (and (expression e q.expression) none))))
-    statement {d} (g.statement t ok (g.for_loop (g.it_is t' p) n b x v y h s)) q = take (row.statement row.form_for) refl t p ok (and (name n) (and (token refl b) (and (expression x (direction_quiet v)) (and (direction v) (and (expression y (quiet_do h)) (and (token refl h) (and (statement s q) none)))))))
-    statement {d} (g.statement t ok (g.case_choice (g.it_is t' p) e h (g.arm (g.labels c cs) s) rest)) q = take (row.statement row.form_case) refl t p ok (and (expression e (quiet_of h)) (and (token refl h) (and (constant c) (and (labels_to cs) (and (statement s (arms_ended rest)) (and (arms rest) none))))))
-    statement {d} (g.statement t ok (g.parallel (g.it_is t' p) (g.branches (g.sequence s ss) bs))) q = take (row.statement row.form_parallel) refl t p ok (and (statement s (statements_ended ss (branches_ended bs))) (and (statements ss (branches_ended bs) (branches_statements (suc d) bs)) (and (branches bs) none)))
-    statement {d} (g.statement t ok (g.forall (g.it_is t' p) n b x v y h s)) q = take (row.statement row.form_forall) refl t p ok (and (name n) (and (token refl b) (and (expression x (quiet_to v)) (and (token refl v) (and (expression y (quiet_do h)) (and (token refl h) (and (statement s q) none)))))))
-    statement {d} (g.statement t ok (g.assume (g.it_is t' p) e)) q = take (row.statement row.form_assume) refl t p ok (and (expression e q.expression) none)
+    statement {d} (g.statement {r = r} t ok (g.assignment (g.variable (g.name t' p) g.selectors_end) (g.it_is b s) e))
+        q = take (row.statement row.form_name) refl t p ok
+        (and (take row.becomes refl b s tt (and (expression e q.expression) none)) none)
+    statement {d} (g.statement t ok (g.assignment (g.variable (g.name t' p) (g.index (g.it_is o s) x ss)) b e)) q =
+        take (row.statement row.form_name) refl t p ok
+        (and (as_target row.selector_index o s
+        (and (expression x (indices_quiet ss)) (and (indices ss (becomes_ends b)) none)) b (expression e q.expression))
+        none)
+    statement {d} (g.statement t ok (g.assignment (g.variable (g.name t' p) (g.field (g.it_is o s) n ss)) b e)) q =
+        take (row.statement row.form_name) refl t p ok
+        (and (as_target row.selector_field o s (and (name n) (and (selectors ss (becomes_ends b)) none)) b
+        (expression e q.expression)) none)
+    statement {d} (g.statement t ok (g.plain_call (g.name t' p))) q =
+        take (row.statement row.form_name) refl t p ok (and (skip (q.name (suc d)) (λ t. refl)) none)
+    statement {d} (g.statement t ok (g.call (g.name t' p) (g.arguments (g.it_is o s) (g.argument x m) rest))) q =
+        take (row.statement row.form_name) refl t p ok
+        (and (take row.call refl o s tt (and (expression x (width_quiet m (arguments_quiet rest)))
+        (and (width m (arguments_quiet rest) (arguments_width (suc d) rest)) (and (arguments rest) none)))) none)
+    statement {d} (g.statement t ok (g.compound_form (g.compound (g.it_is t' p) (g.sequence s ss) e))) q =
+        take (row.statement row.form_begin) refl t p ok
+        (and (statement s (statements_ended ss (ended_end e)))
+        (and (statements ss (ended_end e) (ends (sym.MoreStatements (suc d)) w.End refl e)) (and (token refl e) none)))
+    statement {d} (g.statement t ok (g.choice (g.it_is t' p) e h s o)) q =
+        take (row.statement row.form_if) refl t p ok
+        (and (expression e (quiet_then h)) (and (token refl h)
+        (and (statement s (else_ended o q)) (and (else_to o q) none))))
+    statement {d} (g.statement t ok (g.while_loop (g.it_is t' p) e h s)) q =
+        take (row.statement row.form_while) refl t p ok
+        (and (expression e (quiet_do h)) (and (token refl h) (and (statement s q) none)))
+    statement {d} (g.statement t ok (g.repeat_loop (g.it_is t' p) (g.sequence s ss) h e)) q =
+        take (row.statement row.form_repeat) refl t p ok
+        (and (statement s (statements_ended ss (ended_until h)))
+        (and (statements ss (ended_until h) (ends (sym.MoreStatements (suc d)) w.Until refl h))
+        (and (token refl h) (and (expression e q.expression) none))))
+    statement {d} (g.statement t ok (g.for_loop (g.it_is t' p) n b x v y h s)) q =
+        take (row.statement row.form_for) refl t p ok
+        (and (name n) (and (token refl b) (and (expression x (direction_quiet v))
+        (and (direction v) (and (expression y (quiet_do h)) (and (token refl h) (and (statement s q) none)))))))
+    statement {d} (g.statement t ok (g.case_choice (g.it_is t' p) e h (g.arm (g.labels c cs) s) rest)) q =
+        take (row.statement row.form_case) refl t p ok
+        (and (expression e (quiet_of h)) (and (token refl h)
+        (and (constant c) (and (labels_to cs) (and (statement s (arms_ended rest)) (and (arms rest) none))))))
+    statement {d} (g.statement t ok (g.parallel (g.it_is t' p) (g.branches (g.sequence s ss) bs))) q =
+        take (row.statement row.form_parallel) refl t p ok
+        (and (statement s (statements_ended ss (branches_ended bs)))
+        (and (statements ss (branches_ended bs) (branches_statements (suc d) bs)) (and (branches bs) none)))
+    statement {d} (g.statement t ok (g.forall (g.it_is t' p) n b x v y h s)) q =
+        take (row.statement row.form_forall) refl t p ok
+        (and (name n) (and (token refl b) (and (expression x (quiet_to v))
+        (and (token refl v) (and (expression y (quiet_do h)) (and (token refl h) (and (statement s q) none)))))))
+    statement {d} (g.statement t ok (g.assume (g.it_is t' p) e)) q =
+        take (row.statement row.form_assume) refl t p ok (and (expression e q.expression) none)
 
-    pub else_to : {d : ℕ} {ts r : List Token} {o : tree.Other} → g.IsElse text Ok d ts r o → Ended r → D (sym.AnElse d) ts r o
+    pub else_to : {d : ℕ} {ts r : List Token} {o : tree.Other} → g.IsElse text Ok d ts r o → Ended r
+        → D (sym.AnElse d) ts r o
     else_to {d} (g.no_else h) q = skip (else_ends d _ h q) (λ t. refl)
     else_to (g.other (g.it_is t p) s) q = take row.other refl t p tt (and (statement s q) none)
 
-    pub statements : {d : ℕ} {ts r : List Token} {ss : tree.Statements} → g.IsMoreStatements text Ok d ts r ss → Ended r → Ends (sym.MoreStatements d) r → D (sym.MoreStatements d) ts r ss
+    pub statements : {d : ℕ} {ts r : List Token} {ss : tree.Statements} → g.IsMoreStatements text Ok d ts r ss → Ended r
+        → Ends (sym.MoreStatements d) r → D (sym.MoreStatements d) ts r ss
     statements g.statements_end q h = skip h (λ t. refl)
-    statements (g.statements_go_on (g.it_is t p) (g.sequence s ss)) q h = take row.next_statement refl t p tt (and (statement s (statements_ended ss q)) (and (statements ss q h) none))
+    statements (g.statements_go_on (g.it_is t p) (g.sequence s ss)) q h =
+        take row.next_statement refl t p tt (and (statement s (statements_ended ss q)) (and (statements ss q h) none))
 
-    pub arms : {d : ℕ} {ts r : List Token} {rest : tree.Arms} → g.IsMoreArms text Ok d ts r rest → D (sym.MoreArms d) ts r rest
+    pub arms : {d : ℕ} {ts r : List Token} {rest : tree.Arms} → g.IsMoreArms text Ok d ts r rest
+        → D (sym.MoreArms d) ts r rest
     arms (g.arms_end (g.it_is t p)) = take row.arms_end refl t p tt none
-    arms (g.last_arm (g.it_is t p) (g.it_is e s)) = take row.arms_go_on refl t p tt (and (take row.no_arm refl e s tt none) none)
-    arms (g.arms_go_on (g.it_is t p) (g.arm (g.labels c cs) s) rest) = take row.arms_go_on refl t p tt (and (as_arm (constant_row c) (labels_to cs) (statement s (arms_ended rest)) (arms rest)) none)
+    arms (g.last_arm (g.it_is t p) (g.it_is e s)) =
+        take row.arms_go_on refl t p tt (and (take row.no_arm refl e s tt none) none)
+    arms (g.arms_go_on (g.it_is t p) (g.arm (g.labels c cs) s) rest) =
+        take row.arms_go_on refl t p tt (and
+        (as_arm (constant_row c) (labels_to cs) (statement s (arms_ended rest)) (arms rest)) none)
 
-    pub branches : {d : ℕ} {ts r : List Token} {bs : tree.Branches} → g.IsMoreBranches text Ok d ts r bs → D (sym.MoreBranches d) ts r bs
+    pub branches : {d : ℕ} {ts r : List Token} {bs : tree.Branches} → g.IsMoreBranches text Ok d ts r bs
+        → D (sym.MoreBranches d) ts r bs
     branches (g.branches_end (g.it_is t p)) = take row.branches_end refl t p tt none
-    branches {d} (g.branches_go_on (g.it_is t p) (g.branches (g.sequence s ss) bs)) = take row.next_branch refl t p tt (and (statement s (statements_ended ss (branches_ended bs))) (and (statements ss (branches_ended bs) (branches_statements d bs)) (and (branches bs) none)))
+    branches {d} (g.branches_go_on (g.it_is t p) (g.branches (g.sequence s ss) bs)) =
+        take row.next_branch refl t p tt (and (statement s (statements_ended ss (branches_ended bs)))
+        (and (statements ss (branches_ended bs) (branches_statements d bs)) (and (branches bs) none)))
 
   -- blocks
   pub data Declares (d : ℕ) : List Token → List Token → tree.Block → Type 0 where
-    parts_begin : {k : Kind} {l : List Symbol} {ts r : List Token} {vs : Values l} (c : PartsRow d k l) (t : Token) → t.kind ≡ k → All l ts r vs → Declares d (t ∷ ts) r (parts_value text c t vs)
+    parts_begin : {k : Kind} {l : List Symbol} {ts r : List Token} {vs : Values l} (c : PartsRow d k l) (t : Token)
+        → t.kind ≡ k → All l ts r vs → Declares d (t ∷ ts) r (parts_value text c t vs)
 
-  pub as_block : {d : ℕ} {ts r : List Token} {b : tree.Block} → Ok d ts → Declares (suc d) ts r b → D (sym.ABlock d) ts r b
+  pub as_block : {d : ℕ} {ts r : List Token} {b : tree.Block} → Ok d ts → Declares (suc d) ts r b
+      → D (sym.ABlock d) ts r b
   as_block {d} ok (parts_begin c t p x) = take (row.block c) (look_block d c) t p ok x
 
   pub as_parts : {d : ℕ} {ts r : List Token} {b : tree.Block} → Declares d ts r b → D (sym.Parts d) ts r b
   as_parts {d} (parts_begin c t p x) = take (row.parts c) (look_parts d c) t p tt x
 
-  pub as_after_constants : {d : ℕ} {ts r : List Token} {b : tree.Block} → Declares d ts r b → D (sym.MoreConstants d) ts r b
+  pub as_after_constants : {d : ℕ} {ts r : List Token} {b : tree.Block} → Declares d ts r b
+      → D (sym.MoreConstants d) ts r b
   as_after_constants {d} (parts_begin c t p x) = take (row.after_constants c) (look_after_constants d c) t p tt x
 
   pub as_after_types : {d : ℕ} {ts r : List Token} {b : tree.Block} → Declares d ts r b → D (sym.MoreTypes d) ts r b
   as_after_types {d} (parts_begin c t p x) = take (row.after_types c) (look_after_types d c) t p tt x
 
-  pub as_after_variables : {d : ℕ} {ts r : List Token} {b : tree.Block} → Declares d ts r b → D (sym.MoreVariables d) ts r b
+  pub as_after_variables : {d : ℕ} {ts r : List Token} {b : tree.Block} → Declares d ts r b
+      → D (sym.MoreVariables d) ts r b
   as_after_variables {d} (parts_begin c t p x) = take (row.after_variables c) (look_after_variables d c) t p tt x
 
   mutual
@@ -606,25 +820,53 @@ module _ (text : List ℕ) (Ok : ℕ → List Token → Type 0) where
     block (g.block ok b) = as_block ok (parts b)
 
     pub parts : {d : ℕ} {ts r : List Token} {b : tree.Block} → g.IsParts text Ok d ts r b → Declares d ts r b
-    parts {d} (g.body (g.compound (g.it_is t p) (g.sequence s ss) e)) = parts_begin row.parts_begin t p (and (statement s (statements_ended ss (ended_end e))) (and (statements ss (ended_end e) (ends (sym.MoreStatements d) w.End refl e)) (and (token refl e) none)))
-    parts (g.constants (g.it_is t p) (g.constant_part n e c s) b) = parts_begin row.parts_const t p (and (name n) (and (token refl e) (and (constant c) (and (token refl s) (and (more_constants b) none)))))
-    parts (g.types (g.it_is t p) (g.type_part n e c s) b) = parts_begin row.parts_type t p (and (name n) (and (token refl e) (and (type_of c) (and (token refl s) (and (more_types b) none)))))
-    parts (g.variables (g.it_is t p) (g.variable_part (g.group (g.names n ns) c k) s) b) = parts_begin row.parts_var t p (and (name n) (and (more_names ns (colon_ends c)) (and (token refl c) (and (name k) (and (token refl s) (and (more_variables b) none))))))
-    parts (g.procedure (g.it_is t p) n fs s b e m) = parts_begin row.parts_procedure t p (and (name n) (and (formals fs (ends sym.Formals w.Semicolon refl s)) (and (token refl s) (and (block b) (and (token refl e) (and (as_parts (parts m)) none))))))
-    parts (g.function (g.it_is t p) n fs c a s b e m) = parts_begin row.parts_function t p (and (name n) (and (formals fs (ends sym.Formals w.Colon refl c)) (and (token refl c) (and (name a) (and (token refl s) (and (block b) (and (token refl e) (and (as_parts (parts m)) none))))))))
+    parts {d} (g.body (g.compound (g.it_is t p) (g.sequence s ss) e)) =
+        parts_begin row.parts_begin t p (and (statement s (statements_ended ss (ended_end e)))
+        (and (statements ss (ended_end e) (ends (sym.MoreStatements d) w.End refl e)) (and (token refl e) none)))
+    parts (g.constants (g.it_is t p) (g.constant_part n e c s) b) =
+        parts_begin row.parts_const t p (and (name n)
+        (and (token refl e) (and (constant c) (and (token refl s) (and (more_constants b) none)))))
+    parts (g.types (g.it_is t p) (g.type_part n e c s) b) =
+        parts_begin row.parts_type t p (and (name n)
+        (and (token refl e) (and (type_of c) (and (token refl s) (and (more_types b) none)))))
+    parts (g.variables (g.it_is t p) (g.variable_part (g.group (g.names n ns) c k) s) b) =
+        parts_begin row.parts_var t p (and (name n)
+        (and (more_names ns (colon_ends c)) (and (token refl c)
+        (and (name k) (and (token refl s) (and (more_variables b) none))))))
+    parts (g.procedure (g.it_is t p) n fs s b e m) =
+        parts_begin row.parts_procedure t p (and (name n)
+        (and (formals fs (ends sym.Formals w.Semicolon refl s))
+        (and (token refl s) (and (block b) (and (token refl e) (and (as_parts (parts m)) none))))))
+    parts (g.function (g.it_is t p) n fs c a s b e m) =
+        parts_begin row.parts_function t p (and (name n)
+        (and (formals fs (ends sym.Formals w.Colon refl c))
+        (and (token refl c) (and (name a) (and (token refl s)
+        (and (block b) (and (token refl e) (and (as_parts (parts m)) none))))))))
 
-    pub more_constants : {d : ℕ} {ts r : List Token} {b : tree.Block} → g.IsMoreConstants text Ok d ts r b → D (sym.MoreConstants d) ts r b
+    pub more_constants : {d : ℕ} {ts r : List Token} {b : tree.Block} → g.IsMoreConstants text Ok d ts r b
+        → D (sym.MoreConstants d) ts r b
     more_constants (g.constants_end b) = as_after_constants (parts b)
-    more_constants (g.constants_go_on (g.constant_part (g.name t p) e c s) b) = take row.next_constant refl t p tt (and (token refl e) (and (constant c) (and (token refl s) (and (more_constants b) none))))
+    more_constants (g.constants_go_on (g.constant_part (g.name t p) e c s) b) =
+        take row.next_constant refl t p tt (and (token refl e)
+        (and (constant c) (and (token refl s) (and (more_constants b) none))))
 
-    pub more_types : {d : ℕ} {ts r : List Token} {b : tree.Block} → g.IsMoreTypes text Ok d ts r b → D (sym.MoreTypes d) ts r b
+    pub more_types : {d : ℕ} {ts r : List Token} {b : tree.Block} → g.IsMoreTypes text Ok d ts r b
+        → D (sym.MoreTypes d) ts r b
     more_types (g.types_end b) = as_after_types (parts b)
-    more_types (g.types_go_on (g.type_part (g.name t p) e c s) b) = take row.next_type refl t p tt (and (token refl e) (and (type_of c) (and (token refl s) (and (more_types b) none))))
+    more_types (g.types_go_on (g.type_part (g.name t p) e c s) b) =
+        take row.next_type refl t p tt (and (token refl e)
+        (and (type_of c) (and (token refl s) (and (more_types b) none))))
 
-    pub more_variables : {d : ℕ} {ts r : List Token} {b : tree.Block} → g.IsMoreVariables text Ok d ts r b → D (sym.MoreVariables d) ts r b
+    pub more_variables : {d : ℕ} {ts r : List Token} {b : tree.Block} → g.IsMoreVariables text Ok d ts r b
+        → D (sym.MoreVariables d) ts r b
     more_variables (g.variables_end b) = as_after_variables (parts b)
-    more_variables (g.variables_go_on (g.variable_part (g.group (g.names (g.name t p) ns) c k) s) b) = take row.next_variable refl t p tt (and (more_names ns (colon_ends c)) (and (token refl c) (and (name k) (and (token refl s) (and (more_variables b) none)))))
+    more_variables (g.variables_go_on (g.variable_part (g.group (g.names (g.name t p) ns) c k) s) b) =
+        take row.next_variable refl t p tt (and (more_names ns (colon_ends c))
+        (and (token refl c) (and (name k) (and (token refl s) (and (more_variables b) none)))))
 
   -- a program
   pub program : {ts r : List Token} {p : tree.Program} → g.IsProgram text Ok ts r p → D sym.AProgram ts r p
-  program (g.program (g.it_is t p) n h s b e) = take row.program refl t p tt (and (name n) (and (heading h (ends sym.AHeading w.Semicolon refl s)) (and (token refl s) (and (block b) (and (token refl e) none)))))
+  program (g.program (g.it_is t p) n h s b e) =
+      take row.program refl t p tt (and (name n)
+      (and (heading h (ends sym.AHeading w.Semicolon refl s))
+      (and (token refl s) (and (block b) (and (token refl e) none)))))

@@ -9,7 +9,8 @@ use Rattle.sp_grammar.specs.Derives.{Begins, Derives, takes, skips, DerivesAll, 
 use Rattle.sp_grammar.proofs.From.{from}
 use Rattle.sp_grammar.proofs.To.{program}
 
-module _ (text : List ℕ) (Ok More : ℕ → List Token → Type 0) (more : (d : ℕ) (ts : List Token) → Ok d ts → More d ts) where
+module _ (text : List ℕ) (Ok More : ℕ → List Token → Type 0)
+    (more : (d : ℕ) (ts : List Token) → Ok d ts → More d ts) where
   may_begin : (p : Option ℕ) (ts : List Token) → Begins Ok p ts → Begins More p ts
   may_begin None ts h = h
   may_begin (Some d) ts h = more d ts h
@@ -19,7 +20,8 @@ module _ (text : List ℕ) (Ok More : ℕ → List Token → Type 0) (more : (d 
     wider {s} (takes t e q o x) = takes t e q (may_begin (part s) _ o) (wider_all x)
     wider (skips t q h) = skips t q h
 
-    wider_all : {l : List Symbol} {ts r : List Token} {vs : Values l} → DerivesAll text Ok l ts r vs → DerivesAll text More l ts r vs
+    wider_all : {l : List Symbol} {ts r : List Token} {vs : Values l} → DerivesAll text Ok l ts r vs
+        → DerivesAll text More l ts r vs
     wider_all none = none
     wider_all (and x xs) = and (wider x) (wider_all xs)
 
@@ -30,13 +32,19 @@ module _ (text : List ℕ) where
   pub viable_prefix : (front mid : List Token) → IsViable text (front ++ mid) → IsViable text front
   viable_prefix front mid (rest, p, x) = (mid ++ rest, p, subst (λ l. Spells text l p) (append_assoc front mid rest) x)
 
-  pub shallow_prefix : (limit : ℕ) (front mid : List Token) → IsShallow text limit (front ++ mid) → IsShallow text limit front
+  pub shallow_prefix : (limit : ℕ) (front mid : List Token) → IsShallow text limit (front ++ mid)
+      → IsShallow text limit front
   shallow_prefix limit front mid (rest, p, x) = (
     mid ++ rest,
     p,
-    wider_program text (Shallow limit (length rest)) (Shallow limit (length (mid ++ rest))) (λ d ts h g. h (omega (arith, length-append mid rest, g)))
+    wider_program text (Shallow limit (length rest)) (Shallow limit (length (mid ++ rest)))
+        (λ d ts h g. h (omega (arith, length-append mid rest, g)))
         (subst (λ l. IsProgram text (Shallow limit (length rest)) l [] p) (append_assoc front mid rest) x),
   )
 
   pub shallow_viable : (limit : ℕ) (ts : List Token) → IsShallow text limit ts → IsViable text ts
-  shallow_viable limit ts (rest, p, x) = (rest, p, wider_program text (Shallow limit (length rest)) Any (λ d ts h. tt) x)
+  shallow_viable limit ts (rest, p, x) = (
+    rest,
+    p,
+    wider_program text (Shallow limit (length rest)) Any (λ d ts h. tt) x,
+  )

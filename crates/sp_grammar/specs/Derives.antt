@@ -1,3 +1,4 @@
+-- None of this belongs to what the program promises: it is for contracts between crates.
 -- What a symbol takes of the tokens, and what it then stands for, as the table has it: by the row of the next token,
 -- or nothing where there is no row. It stands between two others: the grammar of `sp_tree`, a family for each line,
 -- in which promises are written, and the machine, which takes one token at a time. Proofs show that it is the same as
@@ -18,10 +19,14 @@ module _ (text : List ℕ) (Ok : ℕ → List Token → Type 0) where
   mutual
     -- from the first tokens on, a symbol stands for the value, and the second tokens are left
     pub data Derives : (s : Symbol) → List Token → List Token → Value s → Type 0 where
-      takes : {s : Symbol} {ts r : List Token} (t : Token) (e : Entry (Row s)) {vs : Values e.left} → look (rows s) t.kind ≡ Some e → Begins Ok (part s) (t ∷ ts) → DerivesAll e.left ts r vs → Derives s (t ∷ ts) r (build text e.row t vs)
-      skips : {s : Symbol} {r : List Token} (t : Token) {v : Value s} → look (rows s) t.kind ≡ None → gap s t ≡ Some v → Derives s (t ∷ r) (t ∷ r) v
+      takes : {s : Symbol} {ts r : List Token} (t : Token) (e : Entry (Row s)) {vs : Values e.left}
+          → look (rows s) t.kind ≡ Some e → Begins Ok (part s) (t ∷ ts) → DerivesAll e.left ts r vs
+          → Derives s (t ∷ ts) r (build text e.row t vs)
+      skips : {s : Symbol} {r : List Token} (t : Token) {v : Value s} → look (rows s) t.kind ≡ None → gap s t ≡ Some v
+          → Derives s (t ∷ r) (t ∷ r) v
 
     -- one symbol after another
     pub data DerivesAll : (l : List Symbol) → List Token → List Token → Values l → Type 0 where
       none : {r : List Token} → DerivesAll [] r r tt
-      and : {s : Symbol} {l : List Symbol} {ts u r : List Token} {v : Value s} {vs : Values l} → Derives s ts u v → DerivesAll l u r vs → DerivesAll (s ∷ l) ts r (v, vs)
+      and : {s : Symbol} {l : List Symbol} {ts u r : List Token} {v : Value s} {vs : Values l} → Derives s ts u v
+          → DerivesAll l u r vs → DerivesAll (s ∷ l) ts r (v, vs)

@@ -1,10 +1,12 @@
+-- None of this belongs to what the program promises: it is for contracts between crates.
 -- A machine on a stack of symbols that takes one token at a time, and gets stuck at the first token with which no
 -- program goes on. It is how proofs find that place: the grammar says which tokens are a program, and the machine
 -- where others cease to be the beginning of one. The parser's contracts say that it stops where the machine does, and
 -- a law of this crate runs it to show that each text has a tree or a first broken rule. It is made of functions that
 -- compute on the tokens, so that a run over known tokens reduces. A limit is how many parts a part may lie inside;
 -- with none, the tokens alone count.
-use Rattle.std.specs.Prelude.{◌≡◌, ℕ, ◌<◌, Bool, true, false, nat_lt, List, [], ◌∷◌, ◌++◌, Option, Some, None, length, ◌⊎◌}
+use Rattle.std.specs.Prelude.{◌≡◌, ℕ, ◌<◌, Bool, true, false, nat_lt, List, [], ◌∷◌, ◌++◌, Option, Some, None, length}
+use Rattle.std.specs.Prelude.{◌⊎◌}
 use Rattle.sp_tree.specs.declared.token.Token.{Token}
 use Rattle.sp_grammar.specs.Symbols.{Symbol, Value, part}
 use Rattle.sp_grammar.specs.Table.{Entry, Row, rows, look, gap}
@@ -78,5 +80,7 @@ run reach [] (s ∷ stack) = Stuck Bad []
 run reach (t ∷ ts) stack = going (after reach stack t) (t ∷ ts) (run reach ts)
 
 -- From these tokens and this stack the machine comes to those, or it gets stuck with fewer than k tokens left.
-pub record Leads (reach : Option ℕ) (k : ℕ) (ts : List Token) (j : List Symbol) (r : List Token) (l : List Symbol) : Type 0 where
-  pub by : (run reach ts j ≡ run reach r l) ⊎ ((w : Why) × (us : List Token) × (length us < k) × (run reach ts j ≡ Stuck w us))
+pub record Leads (reach : Option ℕ) (k : ℕ) (ts : List Token) (j : List Symbol) (r : List Token) (l : List Symbol) :
+    Type 0 where
+  pub by : (run reach ts j ≡ run reach r l) ⊎ ((w : Why) × (us : List Token) × (length us < k)
+      × (run reach ts j ≡ Stuck w us))

@@ -1,3 +1,4 @@
+-- None of this belongs to what the program promises: it is for contracts between crates.
 -- What each symbol is in the grammar of `sp_tree`, for the proofs that the table derives what the grammar says and
 -- nothing else. One clause for each symbol, with the family of the grammar that it names. Where a symbol begins in
 -- the middle of a line, the clause adds what is before it: the name before AfterName, the `;` before ArmOrEnd and
@@ -9,7 +10,12 @@ use Rattle.sp_tree.specs.declared.syntax.Name.{Name}
 use Rattle.sp_tree.specs.Words as w
 use Rattle.sp_tree.specs.PlainSyntax as tree
 use Rattle.sp_tree.specs.Grammar as g
-use Rattle.sp_grammar.specs.Symbols.{Symbol, AToken, AName, AProgram, AHeading, MoreNames, AConstant, AValue, AType, MoreFields, FieldOrEnd, AFormal, MoreFormals, Formals, ABlock, Parts, MoreConstants, MoreTypes, MoreVariables, AStatement, AfterName, AnElse, MoreStatements, MoreBranches, MoreLabels, MoreArms, ArmOrEnd, ADirection, AnExpression, ARelation, ASimple, MoreTerms, ATerm, MoreFactors, AFactor, ANegated, AReference, Selectors, MoreIndices, MoreArguments, AWidth, Value, Values}
+use Rattle.sp_grammar.specs.Symbols.{Symbol, AToken, AName, AProgram, AHeading, MoreNames, AConstant, AValue, AType}
+use Rattle.sp_grammar.specs.Symbols.{MoreFields, FieldOrEnd, AFormal, MoreFormals, Formals, ABlock, Parts}
+use Rattle.sp_grammar.specs.Symbols.{MoreConstants, MoreTypes, MoreVariables, AStatement, AfterName, AnElse}
+use Rattle.sp_grammar.specs.Symbols.{MoreStatements, MoreBranches, MoreLabels, MoreArms, ArmOrEnd, ADirection}
+use Rattle.sp_grammar.specs.Symbols.{AnExpression, ARelation, ASimple, MoreTerms, ATerm, MoreFactors, AFactor, ANegated}
+use Rattle.sp_grammar.specs.Symbols.{AReference, Selectors, MoreIndices, MoreArguments, AWidth, Value, Values}
 
 module _ (text : List ℕ) (Ok : ℕ → List Token → Type 0) where
   -- a symbol is this value from the first tokens to the second
@@ -49,7 +55,8 @@ module _ (text : List ℕ) (Ok : ℕ → List Token → Type 0) where
   Means (MoreFactors d) ts r v = (a : tree.Expression) → g.IsMoreFactors text Ok d a ts r (v a)
   Means (AFactor d) ts r v = g.IsFactor text Ok d ts r v
   Means (ANegated d) ts r v = Ok d ts × g.IsFactor text Ok (suc d) ts r v
-  Means (AReference d) ts r v = (t : Token) (us : List Token) (n : Name) → g.IsName text (t ∷ us) ts n → g.IsFactor text Ok d (t ∷ us) r (tree.At t.at (v n))
+  Means (AReference d) ts r v = (t : Token) (us : List Token) (n : Name) → g.IsName text (t ∷ us) ts n
+      → g.IsFactor text Ok d (t ∷ us) r (tree.At t.at (v n))
   Means (Selectors d) ts r v = g.IsSelectors text Ok d ts r v
   Means (MoreIndices d) ts r v = g.IsMoreIndices text Ok d ts r v
   Means (MoreArguments d) ts r v = g.IsMoreArguments text Ok d ts r v
@@ -58,4 +65,5 @@ module _ (text : List ℕ) (Ok : ℕ → List Token → Type 0) where
   -- one symbol after another
   pub data MeansAll : (l : List Symbol) → List Token → List Token → Values l → Type 0 where
     none : {r : List Token} → MeansAll [] r r tt
-    and : {s : Symbol} {l : List Symbol} {ts u r : List Token} {v : Value s} {vs : Values l} → Means s ts u v → MeansAll l u r vs → MeansAll (s ∷ l) ts r (v, vs)
+    and : {s : Symbol} {l : List Symbol} {ts u r : List Token} {v : Value s} {vs : Values l} → Means s ts u v
+        → MeansAll l u r vs → MeansAll (s ∷ l) ts r (v, vs)

@@ -1,3 +1,4 @@
+-- None of this belongs to what the program promises: it is for contracts between crates.
 -- The rule that is broken where the machine gets stuck, for the parser, which names it as its refusal, and for the
 -- proof that it is the first broken rule of the grammar. A rule follows from the machine's end alone: G2 where the
 -- tokens ended, G1 or L2 at the token that it could not take. So whoever runs the machine knows the rule and its

@@ -1,3 +1,4 @@
+-- None of this belongs to what the program promises: it is for contracts between crates.
 -- The symbols of the grammar: what may be pending while the tokens are taken one by one, and what each stands for.
 -- The table, the machine and the parser's contracts speak of them. A symbol is a line of the grammar, or a place
 -- inside a line where the next token decides how it goes on: the rest of a list (More..), what may be missing
@@ -14,7 +15,8 @@ use Rattle.sp_tree.specs.declared.syntax.SynFormal.{SynFormal}
 use Rattle.sp_tree.specs.declared.syntax.SynGroup.{SynGroup}
 use Rattle.sp_tree.specs.PlainSyntax as tree
 
--- a number says inside how many parts a symbol lies; a program lies in none, and in the others without one stands no part
+-- a number says inside how many parts a symbol lies; a program lies in none, and in the others without one stands no
+-- part
 pub data Symbol : Type 0 where
   AToken : Kind → Symbol
   AName : Symbol
@@ -100,7 +102,8 @@ Value (MoreIndices d) = tree.Selectors
 Value (MoreArguments d) = tree.Arguments
 Value (AWidth d) = tree.Width
 
--- what symbols one after another stand for: a pair of the first one's value and the others, and an empty value at the end
+-- what symbols one after another stand for: a pair of the first one's value and the others, and an empty value at the
+-- end
 abbrev pub Values : List Symbol → Type 0
 Values [] = Unit {0}
 Values (s ∷ l) = Value s × Values l

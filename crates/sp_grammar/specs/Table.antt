@@ -1,3 +1,4 @@
+-- None of this belongs to what the program promises: it is for contracts between crates.
 -- The table of the grammar: what each symbol leaves behind a token that it takes, and what it then stands for. A
 -- symbol that takes none of its tokens may stand for nothing. Derives and the machine are both read off it, which
 -- makes them agree. A row is first a member of a family (`Row s k l`: at a token of kind k the symbol s leaves the
@@ -16,8 +17,14 @@ use Rattle.sp_tree.specs.declared.syntax.SynKind.TheVariants as kinds
 use Rattle.sp_tree.specs.Words as w
 use Rattle.sp_tree.specs.Spelling.{name_of, number_of, quoted_of}
 use Rattle.sp_tree.specs.PlainSyntax as tree
-use Rattle.sp_tree.specs.Grammar.{IsRelational, equal, unequal, less, at_most, greater, at_least, IsAdding, plus, minus, or, IsMultiplying, times, quotient, modulo, and, joined, moved, declared}
-use Rattle.sp_grammar.specs.Symbols.{Symbol, AToken, AName, AProgram, AHeading, MoreNames, AConstant, AValue, AType, MoreFields, FieldOrEnd, AFormal, MoreFormals, Formals, ABlock, Parts, MoreConstants, MoreTypes, MoreVariables, AStatement, AfterName, AnElse, MoreStatements, MoreBranches, MoreLabels, MoreArms, ArmOrEnd, ADirection, AnExpression, ARelation, ASimple, MoreTerms, ATerm, MoreFactors, AFactor, ANegated, AReference, Selectors, MoreIndices, MoreArguments, AWidth, Value, Values, split}
+use Rattle.sp_tree.specs.Grammar.{IsRelational, equal, unequal, less, at_most, greater, at_least, IsAdding, plus, minus}
+use Rattle.sp_tree.specs.Grammar.{or, IsMultiplying, times, quotient, modulo, and, joined, moved, declared}
+use Rattle.sp_grammar.specs.Symbols.{Symbol, AToken, AName, AProgram, AHeading, MoreNames, AConstant, AValue, AType}
+use Rattle.sp_grammar.specs.Symbols.{MoreFields, FieldOrEnd, AFormal, MoreFormals, Formals, ABlock, Parts}
+use Rattle.sp_grammar.specs.Symbols.{MoreConstants, MoreTypes, MoreVariables, AStatement, AfterName, AnElse}
+use Rattle.sp_grammar.specs.Symbols.{MoreStatements, MoreBranches, MoreLabels, MoreArms, ArmOrEnd, ADirection}
+use Rattle.sp_grammar.specs.Symbols.{AnExpression, ARelation, ASimple, MoreTerms, ATerm, MoreFactors, AFactor, ANegated}
+use Rattle.sp_grammar.specs.Symbols.{AReference, Selectors, MoreIndices, MoreArguments, AWidth, Value, Values, split}
 
 -- a constant
 pub data ConstantRow : Kind → List Symbol → Type 0 where
@@ -30,11 +37,15 @@ pub data ConstantRow : Kind → List Symbol → Type 0 where
 -- the declarations and the statement part of a block
 pub data PartsRow : ℕ → Kind → List Symbol → Type 0 where
   parts_begin : {d : ℕ} → PartsRow d w.Begin (AStatement d ∷ MoreStatements d ∷ AToken w.End ∷ [])
-  parts_const : {d : ℕ} → PartsRow d w.Const (AName ∷ AToken w.Equal ∷ AConstant ∷ AToken w.Semicolon ∷ MoreConstants d ∷ [])
+  parts_const : {d : ℕ} → PartsRow d w.Const
+      (AName ∷ AToken w.Equal ∷ AConstant ∷ AToken w.Semicolon ∷ MoreConstants d ∷ [])
   parts_type : {d : ℕ} → PartsRow d w.Type' (AName ∷ AToken w.Equal ∷ AType ∷ AToken w.Semicolon ∷ MoreTypes d ∷ [])
-  parts_var : {d : ℕ} → PartsRow d w.Var (AName ∷ MoreNames ∷ AToken w.Colon ∷ AName ∷ AToken w.Semicolon ∷ MoreVariables d ∷ [])
-  parts_procedure : {d : ℕ} → PartsRow d w.Procedure (AName ∷ Formals ∷ AToken w.Semicolon ∷ ABlock d ∷ AToken w.Semicolon ∷ Parts d ∷ [])
-  parts_function : {d : ℕ} → PartsRow d w.Function (AName ∷ Formals ∷ AToken w.Colon ∷ AName ∷ AToken w.Semicolon ∷ ABlock d ∷ AToken w.Semicolon ∷ Parts d ∷ [])
+  parts_var : {d : ℕ} → PartsRow d w.Var (AName ∷ MoreNames ∷ AToken w.Colon ∷ AName ∷ AToken w.Semicolon
+      ∷ MoreVariables d ∷ [])
+  parts_procedure : {d : ℕ} → PartsRow d w.Procedure
+      (AName ∷ Formals ∷ AToken w.Semicolon ∷ ABlock d ∷ AToken w.Semicolon ∷ Parts d ∷ [])
+  parts_function : {d : ℕ} → PartsRow d w.Function
+      (AName ∷ Formals ∷ AToken w.Colon ∷ AName ∷ AToken w.Semicolon ∷ ABlock d ∷ AToken w.Semicolon ∷ Parts d ∷ [])
 
 -- a statement that is not empty
 pub data FormRow : ℕ → Kind → List Symbol → Type 0 where
@@ -43,10 +54,13 @@ pub data FormRow : ℕ → Kind → List Symbol → Type 0 where
   form_if : {d : ℕ} → FormRow d w.If (AnExpression d ∷ AToken w.Then ∷ AStatement d ∷ AnElse d ∷ [])
   form_while : {d : ℕ} → FormRow d w.While (AnExpression d ∷ AToken w.Do ∷ AStatement d ∷ [])
   form_repeat : {d : ℕ} → FormRow d w.Repeat (AStatement d ∷ MoreStatements d ∷ AToken w.Until ∷ AnExpression d ∷ [])
-  form_for : {d : ℕ} → FormRow d w.For (AName ∷ AToken w.Becomes ∷ AnExpression d ∷ ADirection ∷ AnExpression d ∷ AToken w.Do ∷ AStatement d ∷ [])
-  form_case : {d : ℕ} → FormRow d w.Case (AnExpression d ∷ AToken w.Of ∷ AConstant ∷ MoreLabels ∷ AStatement d ∷ MoreArms d ∷ [])
+  form_for : {d : ℕ} → FormRow d w.For (AName ∷ AToken w.Becomes ∷ AnExpression d ∷ ADirection ∷ AnExpression d
+      ∷ AToken w.Do ∷ AStatement d ∷ [])
+  form_case : {d : ℕ} → FormRow d w.Case (AnExpression d ∷ AToken w.Of ∷ AConstant ∷ MoreLabels ∷ AStatement d
+      ∷ MoreArms d ∷ [])
   form_parallel : {d : ℕ} → FormRow d w.Parallel (AStatement d ∷ MoreStatements d ∷ MoreBranches d ∷ [])
-  form_forall : {d : ℕ} → FormRow d w.Forall (AName ∷ AToken w.Becomes ∷ AnExpression d ∷ AToken w.To ∷ AnExpression d ∷ AToken w.Do ∷ AStatement d ∷ [])
+  form_forall : {d : ℕ} → FormRow d w.Forall
+      (AName ∷ AToken w.Becomes ∷ AnExpression d ∷ AToken w.To ∷ AnExpression d ∷ AToken w.Do ∷ AStatement d ∷ [])
   form_assume : {d : ℕ} → FormRow d w.Assume (AnExpression d ∷ [])
 
 -- a selector
@@ -64,7 +78,8 @@ pub data FactorRow : ℕ → Kind → List Symbol → Type 0 where
 
 -- a simple expression
 pub data SimpleRow : ℕ → Kind → List Symbol → Type 0 where
-  simple_factor : {d : ℕ} {k : Kind} {l : List Symbol} → FactorRow d k l → SimpleRow d k (l ++ MoreFactors d ∷ MoreTerms d ∷ [])
+  simple_factor : {d : ℕ} {k : Kind} {l : List Symbol} → FactorRow d k l
+      → SimpleRow d k (l ++ MoreFactors d ∷ MoreTerms d ∷ [])
   simple_plus : {d : ℕ} → SimpleRow d w.Plus (ATerm d ∷ MoreTerms d ∷ [])
   simple_minus : {d : ℕ} → SimpleRow d w.Minus (ATerm d ∷ MoreTerms d ∷ [])
 
@@ -80,7 +95,8 @@ pub data Row : Symbol → Kind → List Symbol → Type 0 where
   value_name : Row AValue kind.Name []
   alias : Row AType kind.Name []
   enumeration : Row AType w.Open (AName ∷ MoreNames ∷ AToken w.Close ∷ [])
-  array : Row AType w.Array (AToken w.OpenIndex ∷ AConstant ∷ AToken w.Range ∷ AConstant ∷ AToken w.CloseIndex ∷ AToken w.Of ∷ AName ∷ [])
+  array : Row AType w.Array (AToken w.OpenIndex ∷ AConstant ∷ AToken w.Range ∷ AConstant ∷ AToken w.CloseIndex
+      ∷ AToken w.Of ∷ AName ∷ [])
   fields : Row AType w.Record (AName ∷ MoreNames ∷ AToken w.Colon ∷ AName ∷ MoreFields ∷ [])
   channel : Row AType w.Times (AToken w.Open ∷ AName ∷ MoreNames ∷ AToken w.Close ∷ [])
   fields_end : Row MoreFields w.End []
@@ -95,14 +111,17 @@ pub data Row : Symbol → Kind → List Symbol → Type 0 where
   block : {d : ℕ} {k : Kind} {l : List Symbol} → PartsRow (suc d) k l → Row (ABlock d) k l
   parts : {d : ℕ} {k : Kind} {l : List Symbol} → PartsRow d k l → Row (Parts d) k l
   after_constants : {d : ℕ} {k : Kind} {l : List Symbol} → PartsRow d k l → Row (MoreConstants d) k l
-  next_constant : {d : ℕ} → Row (MoreConstants d) kind.Name (AToken w.Equal ∷ AConstant ∷ AToken w.Semicolon ∷ MoreConstants d ∷ [])
+  next_constant : {d : ℕ} → Row (MoreConstants d) kind.Name
+      (AToken w.Equal ∷ AConstant ∷ AToken w.Semicolon ∷ MoreConstants d ∷ [])
   after_types : {d : ℕ} {k : Kind} {l : List Symbol} → PartsRow d k l → Row (MoreTypes d) k l
   next_type : {d : ℕ} → Row (MoreTypes d) kind.Name (AToken w.Equal ∷ AType ∷ AToken w.Semicolon ∷ MoreTypes d ∷ [])
   after_variables : {d : ℕ} {k : Kind} {l : List Symbol} → PartsRow d k l → Row (MoreVariables d) k l
-  next_variable : {d : ℕ} → Row (MoreVariables d) kind.Name (MoreNames ∷ AToken w.Colon ∷ AName ∷ AToken w.Semicolon ∷ MoreVariables d ∷ [])
+  next_variable : {d : ℕ} → Row (MoreVariables d) kind.Name
+      (MoreNames ∷ AToken w.Colon ∷ AName ∷ AToken w.Semicolon ∷ MoreVariables d ∷ [])
   statement : {d : ℕ} {k : Kind} {l : List Symbol} → FormRow (suc d) k l → Row (AStatement d) k l
   becomes : {d : ℕ} → Row (AfterName d) w.Becomes (AnExpression d ∷ [])
-  target : {d : ℕ} {k : Kind} {l : List Symbol} → SelectorRow d k l → Row (AfterName d) k (l ++ AToken w.Becomes ∷ AnExpression d ∷ [])
+  target : {d : ℕ} {k : Kind} {l : List Symbol} → SelectorRow d k l
+      → Row (AfterName d) k (l ++ AToken w.Becomes ∷ AnExpression d ∷ [])
   call : {d : ℕ} → Row (AfterName d) w.Open (AnExpression d ∷ AWidth d ∷ MoreArguments d ∷ [])
   other : {d : ℕ} → Row (AnElse d) w.Else (AStatement d ∷ [])
   next_statement : {d : ℕ} → Row (MoreStatements d) w.Semicolon (AStatement d ∷ MoreStatements d ∷ [])
@@ -113,15 +132,18 @@ pub data Row : Symbol → Kind → List Symbol → Type 0 where
   arms_end : {d : ℕ} → Row (MoreArms d) w.End []
   arms_go_on : {d : ℕ} → Row (MoreArms d) w.Semicolon (ArmOrEnd d ∷ [])
   no_arm : {d : ℕ} → Row (ArmOrEnd d) w.End []
-  next_arm : {d : ℕ} {k : Kind} {l : List Symbol} → ConstantRow k l → Row (ArmOrEnd d) k (l ++ MoreLabels ∷ AStatement d ∷ MoreArms d ∷ [])
+  next_arm : {d : ℕ} {k : Kind} {l : List Symbol} → ConstantRow k l
+      → Row (ArmOrEnd d) k (l ++ MoreLabels ∷ AStatement d ∷ MoreArms d ∷ [])
   upward : Row ADirection w.To []
   downward : Row ADirection w.Downto []
-  expression : {d : ℕ} {k : Kind} {l : List Symbol} → SimpleRow (suc d) k l → Row (AnExpression d) k (l ++ ARelation (suc d) ∷ [])
+  expression : {d : ℕ} {k : Kind} {l : List Symbol} → SimpleRow (suc d) k l
+      → Row (AnExpression d) k (l ++ ARelation (suc d) ∷ [])
   relation : {d : ℕ} {k : Kind} {o : BinaryOp} → IsRelational k o → Row (ARelation d) k (ASimple d ∷ [])
   simple : {d : ℕ} {k : Kind} {l : List Symbol} → SimpleRow d k l → Row (ASimple d) k l
   next_term : {d : ℕ} {k : Kind} {o : BinaryOp} → IsAdding k o → Row (MoreTerms d) k (ATerm d ∷ MoreTerms d ∷ [])
   term : {d : ℕ} {k : Kind} {l : List Symbol} → FactorRow d k l → Row (ATerm d) k (l ++ MoreFactors d ∷ [])
-  next_factor : {d : ℕ} {k : Kind} {o : BinaryOp} → IsMultiplying k o → Row (MoreFactors d) k (AFactor d ∷ MoreFactors d ∷ [])
+  next_factor : {d : ℕ} {k : Kind} {o : BinaryOp} → IsMultiplying k o
+      → Row (MoreFactors d) k (AFactor d ∷ MoreFactors d ∷ [])
   factor : {d : ℕ} {k : Kind} {l : List Symbol} → FactorRow d k l → Row (AFactor d) k l
   negated : {d : ℕ} {k : Kind} {l : List Symbol} → FactorRow (suc d) k l → Row (ANegated d) k l
   arguments : {d : ℕ} → Row (AReference d) w.Open (AnExpression d ∷ AWidth d ∷ MoreArguments d ∷ [])
@@ -145,22 +167,28 @@ entry k l row = record { key = k; left = l; row = row }
 
 -- the rows that several symbols share
 abbrev pub constant_rows : List (Entry ConstantRow)
-constant_rows = entry _ _ constant_number ∷ entry _ _ constant_name ∷ entry _ _ constant_text ∷ entry _ _ constant_plus ∷ entry _ _ constant_minus ∷ []
+constant_rows = entry _ _ constant_number ∷ entry _ _ constant_name ∷ entry _ _ constant_text ∷ entry _ _ constant_plus
+    ∷ entry _ _ constant_minus ∷ []
 
 abbrev pub parts_rows : (d : ℕ) → List (Entry (PartsRow d))
-parts_rows d = entry _ _ parts_begin ∷ entry _ _ parts_const ∷ entry _ _ parts_type ∷ entry _ _ parts_var ∷ entry _ _ parts_procedure ∷ entry _ _ parts_function ∷ []
+parts_rows d = entry _ _ parts_begin ∷ entry _ _ parts_const ∷ entry _ _ parts_type ∷ entry _ _ parts_var
+    ∷ entry _ _ parts_procedure ∷ entry _ _ parts_function ∷ []
 
 abbrev pub form_rows : (d : ℕ) → List (Entry (FormRow d))
-form_rows d = entry _ _ form_name ∷ entry _ _ form_begin ∷ entry _ _ form_if ∷ entry _ _ form_while ∷ entry _ _ form_repeat ∷ entry _ _ form_for ∷ entry _ _ form_case ∷ entry _ _ form_parallel ∷ entry _ _ form_forall ∷ entry _ _ form_assume ∷ []
+form_rows d = entry _ _ form_name ∷ entry _ _ form_begin ∷ entry _ _ form_if ∷ entry _ _ form_while
+    ∷ entry _ _ form_repeat ∷ entry _ _ form_for ∷ entry _ _ form_case ∷ entry _ _ form_parallel ∷ entry _ _ form_forall
+    ∷ entry _ _ form_assume ∷ []
 
 abbrev pub selector_rows : (d : ℕ) → List (Entry (SelectorRow d))
 selector_rows d = entry _ _ selector_index ∷ entry _ _ selector_field ∷ []
 
 abbrev pub factor_rows : (d : ℕ) → List (Entry (FactorRow d))
-factor_rows d = entry _ _ factor_number ∷ entry _ _ factor_text ∷ entry _ _ factor_name ∷ entry _ _ factor_open ∷ entry _ _ factor_not ∷ []
+factor_rows d = entry _ _ factor_number ∷ entry _ _ factor_text ∷ entry _ _ factor_name ∷ entry _ _ factor_open
+    ∷ entry _ _ factor_not ∷ []
 
 abbrev pub simple_rows : (d : ℕ) → List (Entry (SimpleRow d))
-simple_rows d = entry _ _ simple_plus ∷ entry _ _ simple_minus ∷ map (λ e. entry _ _ (simple_factor e.row)) (factor_rows d)
+simple_rows d = entry _ _ simple_plus ∷ entry _ _ simple_minus
+    ∷ map (λ e. entry _ _ (simple_factor e.row)) (factor_rows d)
 
 -- the rows of each symbol, in the order in which they are looked up
 abbrev pub rows : (s : Symbol) → List (Entry (Row s))
@@ -192,11 +220,13 @@ rows (MoreArms d) = entry _ _ arms_end ∷ entry _ _ arms_go_on ∷ []
 rows (ArmOrEnd d) = entry _ _ no_arm ∷ map (λ e. entry _ _ (next_arm e.row)) constant_rows
 rows ADirection = entry _ _ upward ∷ entry _ _ downward ∷ []
 rows (AnExpression d) = map (λ e. entry _ _ (expression e.row)) (simple_rows (suc d))
-rows (ARelation d) = entry _ _ (relation equal) ∷ entry _ _ (relation unequal) ∷ entry _ _ (relation less) ∷ entry _ _ (relation at_most) ∷ entry _ _ (relation greater) ∷ entry _ _ (relation at_least) ∷ []
+rows (ARelation d) = entry _ _ (relation equal) ∷ entry _ _ (relation unequal) ∷ entry _ _ (relation less)
+    ∷ entry _ _ (relation at_most) ∷ entry _ _ (relation greater) ∷ entry _ _ (relation at_least) ∷ []
 rows (ASimple d) = map (λ e. entry _ _ (simple e.row)) (simple_rows d)
 rows (MoreTerms d) = entry _ _ (next_term plus) ∷ entry _ _ (next_term minus) ∷ entry _ _ (next_term or) ∷ []
 rows (ATerm d) = map (λ e. entry _ _ (term e.row)) (factor_rows d)
-rows (MoreFactors d) = entry _ _ (next_factor times) ∷ entry _ _ (next_factor quotient) ∷ entry _ _ (next_factor modulo) ∷ entry _ _ (next_factor and) ∷ []
+rows (MoreFactors d) = entry _ _ (next_factor times) ∷ entry _ _ (next_factor quotient) ∷ entry _ _ (next_factor modulo)
+    ∷ entry _ _ (next_factor and) ∷ []
 rows (AFactor d) = map (λ e. entry _ _ (factor e.row)) (factor_rows d)
 rows (ANegated d) = map (λ e. entry _ _ (negated e.row)) (factor_rows (suc d))
 rows (AReference d) = entry _ _ arguments ∷ map (λ e. entry _ _ (reference e.row)) (selector_rows d)
@@ -247,12 +277,16 @@ module _ (text : List ℕ) where
   constant_value constant_minus t vs = record { at = t.at; negative = Some true; value = vs.0 }
 
   abbrev pub parts_value : {d : ℕ} {k : Kind} {l : List Symbol} → PartsRow d k l → Token → Values l → tree.Block
-  parts_value parts_begin t (s, (ss, e)) = record { parts = tree.NoPart; body = tree.Does t.at (tree.Sequence (tree.AndThen s ss)) }
+  parts_value parts_begin t (s, (ss, e)) = record {
+    parts = tree.NoPart;
+    body = tree.Does t.at (tree.Sequence (tree.AndThen s ss));
+  }
   parts_value parts_const t (n, (e, (c, (s, (b, u))))) = declared (tree.Const n c) b
   parts_value parts_type t (n, (e, (c, (s, (b, u))))) = declared (tree.Kind n c) b
   parts_value parts_var t (n, (ns, (c, (k, (s, (b, u)))))) = declared (tree.Var (n ∷ ns) k) b
   parts_value parts_procedure t (n, (fs, (c, (b, (s, (m, u)))))) = declared (tree.Proc n fs None b.parts b.body) m
-  parts_value parts_function t (n, (fs, (c, (a, (e, (b, (s, (m, u)))))))) = declared (tree.Proc n fs (Some a) b.parts b.body) m
+  parts_value parts_function t (n, (fs, (c, (a, (e, (b, (s, (m, u)))))))) =
+      declared (tree.Proc n fs (Some a) b.parts b.body) m
 
   abbrev pub form_value : {d : ℕ} {k : Kind} {l : List Symbol} → FormRow d k l → Token → Values l → tree.Form
   form_value form_name t (f, u) = f (name_of text t)
@@ -266,7 +300,8 @@ module _ (text : List ℕ) where
   form_value form_forall t (n, (b, (x, (h, (y, (i, (s, u))))))) = tree.Forall n x y s
   form_value form_assume t (e, u) = tree.Assume e
 
-  abbrev pub selector_value : {d : ℕ} {k : Kind} {l : List Symbol} → SelectorRow d k l → Token → Values l → tree.Selectors
+  abbrev pub selector_value : {d : ℕ} {k : Kind} {l : List Symbol} → SelectorRow d k l → Token → Values l
+      → tree.Selectors
   selector_value selector_index t (e, (ss, u)) = tree.Select (tree.Index e) ss
   selector_value selector_field t (n, (ss, u)) = tree.Select (tree.Field n) ss
 
@@ -278,7 +313,8 @@ module _ (text : List ℕ) where
   factor_value factor_not t (e, u) = tree.At t.at (tree.Unary unary.Not e)
 
   abbrev pub simple_value : {d : ℕ} {k : Kind} {l : List Symbol} → SimpleRow d k l → Token → Values l → tree.Expression
-  simple_value (simple_factor {l = l} row) t vs = let p = split l (MoreFactors _ ∷ MoreTerms _ ∷ []) vs in p.1.1.0 (p.1.0 (factor_value row t p.0))
+  simple_value (simple_factor {l = l} row) t vs = let p = split l (MoreFactors _ ∷ MoreTerms _ ∷ []) vs in
+      p.1.1.0 (p.1.0 (factor_value row t p.0))
   simple_value simple_plus t (a, (f, u)) = f (tree.At t.at (tree.Unary unary.Plus a))
   simple_value simple_minus t (a, (f, u)) = f (tree.At t.at (tree.Unary unary.Minus a))
 
@@ -315,7 +351,8 @@ module _ (text : List ℕ) where
   build next_variable t (ns, (c, (k, (s, (b, u))))) = declared (tree.Var (name_of text t ∷ ns) k) b
   build (statement row) t vs = tree.Does t.at (form_value row t vs)
   build becomes t (e, u) = λ n. tree.Assign (tree.Entire n tree.Whole) e
-  build (target {d = d} {l = l} row) t vs = let p = split l (AToken w.Becomes ∷ AnExpression d ∷ []) vs in λ n. tree.Assign (tree.Entire n (selector_value row t p.0)) p.1.1.0
+  build (target {d = d} {l = l} row) t vs = let p = split l (AToken w.Becomes ∷ AnExpression d ∷ []) vs in
+      λ n. tree.Assign (tree.Entire n (selector_value row t p.0)) p.1.1.0
   build call t (e, (m, (rest, u))) = λ n. tree.Call n (tree.AndArgument (tree.Pass e m) rest)
   build other t (s, u) = tree.Else s
   build next_statement t (s, (ss, u)) = tree.AndThen s ss
@@ -326,10 +363,12 @@ module _ (text : List ℕ) where
   build arms_end t vs = tree.NoArm
   build arms_go_on t (rest, u) = rest
   build no_arm t vs = tree.NoArm
-  build (next_arm {d = d} {l = l} row) t vs = let p = split l (MoreLabels ∷ AStatement d ∷ MoreArms d ∷ []) vs in tree.Or (tree.On (constant_value row t p.0 ∷ p.1.0) p.1.1.0) p.1.1.1.0
+  build (next_arm {d = d} {l = l} row) t vs = let p = split l (MoreLabels ∷ AStatement d ∷ MoreArms d ∷ []) vs in
+      tree.Or (tree.On (constant_value row t p.0 ∷ p.1.0) p.1.1.0) p.1.1.1.0
   build upward t vs = false
   build downward t vs = true
-  build (expression {d = d} {l = l} row) t vs = let p = split l (ARelation (suc d) ∷ []) vs in p.1.0 (simple_value row t p.0)
+  build (expression {d = d} {l = l} row) t vs = let p = split l (ARelation (suc d) ∷ []) vs in
+      p.1.0 (simple_value row t p.0)
   build (relation {o = o} row) t (b, u) = λ a. joined o a b
   build (simple row) t vs = simple_value row t vs
   build (next_term {o = o} row) t (b, (f, u)) = λ a. f (joined o a b)

@@ -21,8 +21,10 @@ pub fn one_tree()
 
 /// At most one token is the first with which the tokens are no prefix of a program.
 pub fn one_first_bad()
-    ensures token { (text : List ℕ) (ts front other : List AToken) (t u : AToken) → IsFirstBad text ts front t → IsFirstBad text ts other u → t ≡ u }
-    ensures front { (text : List ℕ) (ts front other : List AToken) (t u : AToken) → IsFirstBad text ts front t → IsFirstBad text ts other u → front ≡ other }
+    ensures token { (text : List ℕ) (ts front other : List AToken) (t u : AToken) → IsFirstBad text ts front t
+        → IsFirstBad text ts other u → t ≡ u }
+    ensures front { (text : List ℕ) (ts front other : List AToken) (t u : AToken) → IsFirstBad text ts front t
+        → IsFirstBad text ts other u → front ≡ other }
 {}
 
 /// The first rule that a text breaks, by its characters or by its tokens, is one rule at one place. A text that breaks
@@ -35,5 +37,6 @@ pub fn one_verdict()
 
 /// A text that has tokens has a tree, or a rule that is the first it breaks.
 pub fn some_verdict()
-    ensures { (text : List ℕ) (ts : List AToken) → IsTokens text ts → ((p : Program) × IsTree text p) ⊎ ((r : Refusal) × IsFirstBroken text r) }
+    ensures { (text : List ℕ) (ts : List AToken) → IsTokens text ts → ((p : Program) × IsTree text p)
+        ⊎ ((r : Refusal) × IsFirstBroken text r) }
 {}

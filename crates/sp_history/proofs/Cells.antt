@@ -1,5 +1,6 @@
 -- Channels in cells, lists and maps: what is made of cells that have a property has it.
-use Rattle.std.proofs.Common.{◌≡◌, ◌≢◌, ◌⊎◌, inl, inr, ℕ, zero, suc, ◌+◌, ◌==◌, ℤ, List, [], ◌∷◌, ◌++◌, length, Option, Some, None, false, sym, subst}
+use Rattle.std.proofs.Common.{◌≡◌, ◌≢◌, ◌⊎◌, inl, inr, ℕ, zero, suc, ◌+◌, ◌==◌, ℤ, List, [], ◌∷◌, ◌++◌, length, Option}
+use Rattle.std.proofs.Common.{Some, None, false, sym, subst}
 use Rattle.std.specs.Prelude.{slice_set, slice_index_or, take, drop, replicate, pos}
 use Rattle.std.specs.FinMap as map
 use Rattle.sp_cell.specs.declared.cell.Cell.{Cell}
@@ -52,8 +53,10 @@ module _ (C : ℕ → Type 0) where
   pub have_part : (xs : List Cell) (at n : ℕ) → CellsHave C xs → CellsHave C (part xs at n)
   have_part xs at n h = have_take n (drop at xs) (have_drop at xs h)
 
-  pub have_over : (xs : List Cell) (at : ℕ) (ys : List Cell) → CellsHave C xs → CellsHave C ys → CellsHave C (overwritten xs at ys)
-  have_over xs at ys h k = have_append (take at xs) (ys ++ drop (at + length ys) xs) (have_take at xs h) (have_append ys (drop (at + length ys) xs) k (have_drop (at + length ys) xs h))
+  pub have_over : (xs : List Cell) (at : ℕ) (ys : List Cell) → CellsHave C xs → CellsHave C ys
+      → CellsHave C (overwritten xs at ys)
+  have_over xs at ys h k = have_append (take at xs) (ys ++ drop (at + length ys) xs) (have_take at xs h)
+      (have_append ys (drop (at + length ys) xs) k (have_drop (at + length ys) xs h))
 
   -- ---- maps
 
@@ -67,7 +70,8 @@ module _ (C : ℕ → Type 0) where
   insert_has m s h a b p = go (same_or p s)
     where
       go : (p ≡ s) ⊎ (p ≢ s) → ContentHas (map.get (map.insert m s h) p)
-      go (inl e) = subst (λ x. ContentHas (map.get (map.insert m s h) x)) (sym e) (subst ContentHas (sym (get_here m s h)) b)
+      go (inl e) = subst (λ x. ContentHas (map.get (map.insert m s h) x)) (sym e)
+          (subst ContentHas (sym (get_here m s h)) b)
       go (inr n) = subst ContentHas (sym (get_other m s h p n)) (a p)
 
   empty_has : MapHas map.empty
@@ -83,7 +87,8 @@ module _ (C : ℕ → Type 0) where
 
   lent_has : (m : Map) (ss : List Spot) (c : Map) → MapHas m → MapHas c → MapHas (lent m ss c)
   lent_has m [] c a b = b
-  lent_has m (s ∷ ss) c a b = lent_has m ss _ a (insert_has c s _ b (subst (CellsHave C) (cells_same (map.get m s)) (a s)))
+  lent_has m (s ∷ ss) c a b = lent_has m ss _ a
+      (insert_has c s _ b (subst (CellsHave C) (cells_same (map.get m s)) (a s)))
 
   away_has : (m : Map) (ss : List Spot) → MapHas m → MapHas (away m ss)
   away_has m [] a = a
@@ -91,20 +96,26 @@ module _ (C : ℕ → Type 0) where
 
   index_has : (c : Map) (n : ℕ) (o : Option (ℕ × ℤ)) → MapHas c → MapHas (with_index c n o)
   index_has c n None a = a
-  index_has c n (Some i) a = insert_has c (record { frame = n; variable = i.0 }) (Own (cell.Ordinal i.1 ∷ [])) a (tt, tt)
+  index_has c n (Some i) a = insert_has c (record { frame = n; variable = i.0 }) (Own (cell.Ordinal i.1 ∷ [])) a
+      (tt, tt)
 
   pub child_has : (m : Map) (h : Handing) → MapHas m → MapHas (child_map m h)
-  child_has m h a = taken_has m h.moved _ a (index_has (lent m h.shared map.empty) (index_frame h) h.index (lent_has m h.shared map.empty a empty_has))
+  child_has m h a = taken_has m h.moved _ a (index_has (lent m h.shared map.empty) (index_frame h) h.index
+      (lent_has m h.shared map.empty a empty_has))
 
   pub handed_has : (m : Map) (hs : List Handing) → MapHas m → MapHas (handed m hs)
   handed_has m hs a = lent_has m (shared_of hs) _ a (away_has m (moved_of hs) a)
 
   pub pieces_has : (m : Map) (n v : ℕ) (cs : List ℕ) → MapHas m → MapHas (with_pieces m n v cs)
   pieces_has m n v [] a = a
-  pieces_has m n v (c ∷ cs) a = pieces_has (map.insert m (record { frame = n; variable = v }) (Own (replicate c cell.Undefined))) n (v + 1) cs (insert_has m (record { frame = n; variable = v }) (Own (replicate c cell.Undefined)) a (have_undefined c))
+  pieces_has m n v (c ∷ cs) a = pieces_has (map.insert m (record { frame = n; variable = v })
+      (Own (replicate c cell.Undefined))) n (v + 1) cs
+      (insert_has m (record { frame = n; variable = v }) (Own (replicate c cell.Undefined)) a (have_undefined c))
 
   pub root_has : (sizes : List ℕ) → MapHas (root_map sizes)
-  root_has sizes = pieces_has _ 0 2 sizes (insert_has _ (record { frame = 0; variable = 1 }) (Output []) (insert_has map.empty (record { frame = 0; variable = 0 }) (Own (cell.Ordinal (pos 0) ∷ [])) empty_has (tt, tt)) tt)
+  root_has sizes = pieces_has _ 0 2 sizes (insert_has _ (record { frame = 0; variable = 1 }) (Output [])
+      (insert_has map.empty (record { frame = 0; variable = 0 }) (Own (cell.Ordinal (pos 0) ∷ [])) empty_has (tt, tt))
+      tt)
 
   pub without_has : (m : Map) (n : ℕ) → MapHas m → MapHas (without m n)
   without_has m n a p = go (number_or p.frame n)

@@ -1,5 +1,6 @@
 -- Each event and each take keeps the control orderly.
-use Rattle.std.proofs.Common.{◌≡◌, ◌≢◌, ◌⊎◌, ℕ, ◌+◌, ◌-◌, ◌≤◌, ◌<◌, ◌==◌, nat_le, inl, inr, Bool, true, false, cond, if◌then◌else◌, List, [], ◌∷◌, ◌++◌, Option, Some, None, refl, sym, ap, ◌∙◌, subst, arith}
+use Rattle.std.proofs.Common.{◌≡◌, ◌≢◌, ◌⊎◌, ℕ, ◌+◌, ◌-◌, ◌≤◌, ◌<◌, ◌==◌, nat_le, inl, inr, Bool, true, false, cond}
+use Rattle.std.proofs.Common.{if◌then◌else◌, List, [], ◌∷◌, ◌++◌, Option, Some, None, refl, sym, ap, ◌∙◌, subst, arith}
 use Rattle.std.proofs.lemmas.Option.{same_Some}
 use Rattle.sp_journal.specs.declared.entry.Way.{Way}
 use Rattle.sp_journal.specs.declared.entry.Way.TheVariants as way
@@ -9,9 +10,11 @@ use Rattle.sp_journal.specs.declared.entry.Birth.{Birth}
 use Rattle.sp_journal.specs.Maps.{at_key}
 use Rattle.sp_journal.specs.Births.{Births, after_event, is_next}
 use Rattle.sp_journal.specs.Queue.{numbers}
-use Rattle.sp_code.specs.Control.{Control, Doing, Unborn, Ready, Out, Sending, Receiving, Joining, Laid, Ended, Gone, does, queues, offers, one_fewer, reports, comes_back}
+use Rattle.sp_code.specs.Control.{Control, Doing, Unborn, Ready, Out, Sending, Receiving, Joining, Laid, Ended, Gone}
+use Rattle.sp_code.specs.Control.{does, queues, offers, one_fewer, reports, comes_back}
 use Rattle.sp_history.specs.Agreement.{Each, Among, IsQueue, IsOrderly, waits_by}
-use Rattle.sp_history.proofs.Queues.{each_of, each_append, differ_append, among_front, among_back, numbers_from, numbers_below, numbers_differ, numbers_have, itself, number_or, at_same, at_other}
+use Rattle.sp_history.proofs.Queues.{each_of, each_append, differ_append, among_front, among_back, numbers_from}
+use Rattle.sp_history.proofs.Queues.{numbers_below, numbers_differ, numbers_have, itself, number_or, at_same, at_other}
 
 -- ---- what a number is not
 
@@ -36,7 +39,8 @@ module _ {d : ℕ → Doing} {r : List ℕ} (h : IsQueue d r) where
 
   pub queue_does : (z : ℕ) (v : Doing) → d z ≢ Ready → v ≢ Ready → IsQueue (at_key ◌==◌ z v d) r
   queue_does z v n m = record {
-    queued = each_of (λ q. (d q ≡ Ready) × (q ≢ z)) (λ q. at_key ◌==◌ z v d q ≡ Ready) r (λ q e. at_other d z q v (λ is. e.1 (sym is)) ∙ e.0) (both r h.queued (away z n));
+    queued = each_of (λ q. (d q ≡ Ready) × (q ≢ z)) (λ q. at_key ◌==◌ z v d q ≡ Ready) r
+        (λ q e. at_other d z q v (λ is. e.1 (sym is)) ∙ e.0) (both r h.queued (away z n));
     distinct = h.distinct;
     all = λ q e. h.all q (back q (number_or z q) e);
   }
@@ -51,8 +55,11 @@ module _ {d : ℕ → Doing} {r : List ℕ} (h : IsQueue d r) where
 
   pub queue_add : (z : ℕ) → d z ≢ Ready → IsQueue (at_key ◌==◌ z Ready d) (r ++ z ∷ [])
   queue_add z n = record {
-    queued = each_append (λ q. at_key ◌==◌ z Ready d q ≡ Ready) r (z ∷ []) (each_of (λ q. d q ≡ Ready) (λ q. at_key ◌==◌ z Ready d q ≡ Ready) r (λ q e. either q (number_or z q) e) h.queued) (at_same d z Ready, tt {0});
-    distinct = differ_append r (z ∷ []) h.distinct (tt {0}, tt {0}) (each_of (λ y. y ≢ z) (λ x. Each (λ y. y ≢ x) (z ∷ [])) r (λ x f. ((λ is. f (sym is)), tt {0})) (away z n));
+    queued = each_append (λ q. at_key ◌==◌ z Ready d q ≡ Ready) r (z ∷ [])
+        (each_of (λ q. d q ≡ Ready) (λ q. at_key ◌==◌ z Ready d q ≡ Ready) r (λ q e. either q (number_or z q) e)
+        h.queued) (at_same d z Ready, tt {0});
+    distinct = differ_append r (z ∷ []) h.distinct (tt {0}, tt {0})
+        (each_of (λ y. y ≢ z) (λ x. Each (λ y. y ≢ x) (z ∷ [])) r (λ x f. ((λ is. f (sym is)), tt {0})) (away z n));
     all = λ q e. there q (number_or z q) e;
   }
     where
@@ -64,14 +71,16 @@ module _ {d : ℕ → Doing} {r : List ℕ} (h : IsQueue d r) where
       there q (inl is) e = among_back q r (z ∷ []) (inl (sym is))
       there q (inr o) e = among_front q r (z ∷ []) (h.all q (sym (at_other d z q Ready o.0) ∙ e))
 
-pub queue_take : (d : ℕ → Doing) (z : ℕ) (r : List ℕ) (v : Doing) → IsQueue d (z ∷ r) → v ≢ Ready → IsQueue (at_key ◌==◌ z v d) r
+pub queue_take : (d : ℕ → Doing) (z : ℕ) (r : List ℕ) (v : Doing) → IsQueue d (z ∷ r) → v ≢ Ready
+    → IsQueue (at_key ◌==◌ z v d) r
 queue_take d z r v h m = record {
   queued = queued_by r h.queued.1 h.distinct.0;
   distinct = h.distinct.1;
   all = λ q e. back q (number_or z q) e;
 }
   where
-    queued_by : (xs : List ℕ) → Each (λ q. d q ≡ Ready) xs → Each (λ y. y ≢ z) xs → Each (λ q. at_key ◌==◌ z v d q ≡ Ready) xs
+    queued_by : (xs : List ℕ) → Each (λ q. d q ≡ Ready) xs → Each (λ y. y ≢ z) xs
+        → Each (λ q. at_key ◌==◌ z v d q ≡ Ready) xs
     queued_by [] a b = tt {0}
     queued_by (x ∷ xs) a b = (at_other d z x v (λ is. b.0 (sym is)) ∙ a.0, queued_by xs a.1 b.1)
 
@@ -100,12 +109,20 @@ next_yes s n q l m = grind (arith, l, m)
 abbrev forked_doing : Births → ℕ → Doing → ℕ → (ℕ → Doing) → ℕ → Doing
 forked_doing s p v n d q = cond (is_next s n q) Ready (cond (p == q) v (d q))
 
-queue_forks : (d : ℕ → Doing) (r : List ℕ) (s : Births) (p n : ℕ) (v : Doing) → IsQueue d r → ((q : ℕ) → s.processes ≤ q → d q ≡ Unborn) → d p ≢ Ready → v ≢ Ready
+queue_forks : (d : ℕ → Doing) (r : List ℕ) (s : Births) (p n : ℕ) (v : Doing) → IsQueue d r
+    → ((q : ℕ) → s.processes ≤ q → d q ≡ Unborn) → d p ≢ Ready → v ≢ Ready
     → IsQueue (forked_doing s p v n d) (r ++ numbers s.processes n)
 queue_forks d r s p n v h unborn np nv = record {
-  queued = each_append (λ q. forked_doing s p v n d q ≡ Ready) r (numbers s.processes n) (each_of (λ q. (d q ≡ Ready) × (q ≢ p)) (λ q. forked_doing s p v n d q ≡ Ready) r (λ q e. old q e.0 e.1) (both r h.queued (away h p np)))
-      (each_of (λ q. (s.processes ≤ q) × (q < s.processes + n)) (λ q. forked_doing s p v n d q ≡ Ready) (numbers s.processes n) (λ q e. rw (next_yes s n q e.0 e.1) refl) (pair (numbers s.processes n) (numbers_from s.processes n) (numbers_below s.processes n)));
-  distinct = differ_append r (numbers s.processes n) h.distinct (numbers_differ s.processes n) (each_of (λ q. d q ≡ Ready) (λ x. Each (λ y. y ≢ x) (numbers s.processes n)) r (λ x e. each_of (λ q. s.processes ≤ q) (λ y. y ≢ x) (numbers s.processes n) (λ y l is. is_late x e (subst (λ z. s.processes ≤ z) is l)) (numbers_from s.processes n)) h.queued);
+  queued = each_append (λ q. forked_doing s p v n d q ≡ Ready) r (numbers s.processes n)
+      (each_of (λ q. (d q ≡ Ready) × (q ≢ p)) (λ q. forked_doing s p v n d q ≡ Ready) r (λ q e. old q e.0 e.1)
+      (both r h.queued (away h p np)))
+      (each_of (λ q. (s.processes ≤ q) × (q < s.processes + n)) (λ q. forked_doing s p v n d q ≡ Ready)
+      (numbers s.processes n) (λ q e. rw (next_yes s n q e.0 e.1) refl)
+      (pair (numbers s.processes n) (numbers_from s.processes n) (numbers_below s.processes n)));
+  distinct = differ_append r (numbers s.processes n) h.distinct (numbers_differ s.processes n)
+      (each_of (λ q. d q ≡ Ready) (λ x. Each (λ y. y ≢ x) (numbers s.processes n)) r
+      (λ x e. each_of (λ q. s.processes ≤ q) (λ y. y ≢ x) (numbers s.processes n)
+      (λ y l is. is_late x e (subst (λ z. s.processes ≤ z) is l)) (numbers_from s.processes n)) h.queued);
   all = λ q e. there q (is_next s n q) refl e;
 }
   where
@@ -116,7 +133,8 @@ queue_forks d r s p n v h unborn np nv = record {
     both [] a b = tt {0}
     both (x ∷ xs) a b = ((a.0, b.0), both xs a.1 b.1)
 
-    pair : (xs : List ℕ) → Each (λ q. s.processes ≤ q) xs → Each (λ q. q < s.processes + n) xs → Each (λ q. (s.processes ≤ q) × (q < s.processes + n)) xs
+    pair : (xs : List ℕ) → Each (λ q. s.processes ≤ q) xs → Each (λ q. q < s.processes + n) xs
+        → Each (λ q. (s.processes ≤ q) × (q < s.processes + n)) xs
     pair [] a b = tt {0}
     pair (x ∷ xs) a b = ((a.0, b.0), pair xs a.1 b.1)
 
@@ -128,8 +146,10 @@ queue_forks d r s p n v h unborn np nv = record {
         go false (inl is) = absurd (m (sym is))
         go false (inr o) = rw (o.1) e
 
-    there : (q : ℕ) (b : Bool) → is_next s n q ≡ b → cond b Ready (cond (p == q) v (d q)) ≡ Ready → Among q (r ++ numbers s.processes n)
-    there q true w e = let l = next_is s n q w in among_back q r (numbers s.processes n) (numbers_have s.processes n q l.0 l.1)
+    there : (q : ℕ) (b : Bool) → is_next s n q ≡ b → cond b Ready (cond (p == q) v (d q)) ≡ Ready
+        → Among q (r ++ numbers s.processes n)
+    there q true w e = let l = next_is s n q w in
+        among_back q r (numbers s.processes n) (numbers_have s.processes n q l.0 l.1)
     there q false w e = among_front q r (numbers s.processes n) (h.all q (go (number_or p q) e))
       where
         go : (p ≡ q) ⊎ ((p ≢ q) × (p == q ≡ false)) → cond (p == q) v (d q) ≡ Ready → d q ≡ Ready
@@ -153,7 +173,8 @@ module _ {k : Control} (h : IsOrderly k) where
       go false w = grind (arith, w)
 
   -- what a process that is there becomes
-  pub orderly_does : (p : ℕ) (v : Doing) → p < k.births.processes → k.doing p ≢ Ready → v ≢ Ready → ((c : ℕ) (w : Way) → k.pending c ≡ Some (w, p) → ⊥) → IsOrderly (does p v k)
+  pub orderly_does : (p : ℕ) (v : Doing) → p < k.births.processes → k.doing p ≢ Ready → v ≢ Ready
+      → ((c : ℕ) (w : Way) → k.pending c ≡ Some (w, p) → ⊥) → IsOrderly (does p v k)
   orderly_does p v l n m o = record {
     queue = queue_does h.queue p v n m;
     unborn = λ q i. at_other k.doing p q v (λ e. absurd (omega (arith, l, i, e))) ∙ h.unborn q i;
@@ -161,11 +182,13 @@ module _ {k : Control} (h : IsOrderly k) where
     parents = h.parents;
   }
 
-  orderly_queues : (p : ℕ) → p < k.births.processes → k.doing p ≢ Ready → ((c : ℕ) (w : Way) → k.pending c ≡ Some (w, p) → ⊥) → IsOrderly (queues p k)
+  orderly_queues : (p : ℕ) → p < k.births.processes → k.doing p ≢ Ready
+      → ((c : ℕ) (w : Way) → k.pending c ≡ Some (w, p) → ⊥) → IsOrderly (queues p k)
   orderly_queues p l n o = record {
     queue = queue_add h.queue p n;
     unborn = λ q i. at_other k.doing p q Ready (λ e. absurd (omega (arith, l, i, e))) ∙ h.unborn q i;
-    pending = λ c z w e. at_other k.doing p z Ready (λ is. o c w (e ∙ ap (λ y. Some (w, y)) (sym is))) ∙ h.pending c z w e;
+    pending = λ c z w e. at_other k.doing p z Ready (λ is. o c w (e ∙ ap (λ y. Some (w, y)) (sym is)))
+        ∙ h.pending c z w e;
     parents = h.parents;
   }
 
@@ -187,43 +210,64 @@ module _ {k : Control} (h : IsOrderly k) where
     parents = h.parents;
   }
     where
-      go : (d z : ℕ) (w : Way) → (c ≡ d) ⊎ ((c ≢ d) × (c == d ≡ false)) → at_key ◌==◌ c None k.pending d ≡ Some (w, z) → k.doing z ≡ waits_by w d
-      go d z w (inl is) e = let n : at_key ◌==◌ c None k.pending d ≡ None = subst (λ x. at_key ◌==◌ c None k.pending x ≡ None) is (at_same k.pending c None) in absurd (cc (n, e))
+      go : (d z : ℕ) (w : Way) → (c ≡ d) ⊎ ((c ≢ d) × (c == d ≡ false)) → at_key ◌==◌ c None k.pending d ≡ Some (w, z)
+          → k.doing z ≡ waits_by w d
+      go d z w (inl is) e = let n : at_key ◌==◌ c None k.pending d ≡ None =
+          subst (λ x. at_key ◌==◌ c None k.pending x ≡ None) is (at_same k.pending c None) in absurd (cc (n, e))
       go d z w (inr o) e = h.pending d z w (sym (at_other k.pending c d None o.0) ∙ e)
 
   not_cleared : (c d z : ℕ) (v w : Way) → k.pending c ≡ Some (v, z) → at_key ◌==◌ c None k.pending d ≡ Some (w, z) → ⊥
   not_cleared c d z v w f e = go (number_or c d)
     where
       go : (c ≡ d) ⊎ ((c ≢ d) × (c == d ≡ false)) → ⊥
-      go (inl is) = let n : at_key ◌==◌ c None k.pending d ≡ None = subst (λ x. at_key ◌==◌ c None k.pending x ≡ None) is (at_same k.pending c None) in absurd (cc (n, e))
-      go (inr o) = o.0 (waits_channel v w c d (sym (h.pending c z v f) ∙ h.pending d z w (sym (at_other k.pending c d None o.0) ∙ e)))
+      go (inl is) = let n : at_key ◌==◌ c None k.pending d ≡ None =
+          subst (λ x. at_key ◌==◌ c None k.pending x ≡ None) is (at_same k.pending c None) in absurd (cc (n, e))
+      go (inr o) = o.0 (waits_channel v w c d
+          (sym (h.pending c z v f) ∙ h.pending d z w (sym (at_other k.pending c d None o.0) ∙ e)))
 
-  waiting : (p u c : ℕ) (w : Way) → k.doing p ≡ Out u → IsOrderly (record k { doing = at_key ◌==◌ p (waits_by w c) k.doing; pending = at_key ◌==◌ c (Some (w, p)) k.pending })
+  waiting : (p u c : ℕ) (w : Way) → k.doing p ≡ Out u
+      → IsOrderly (record k {
+        doing = at_key ◌==◌ p (waits_by w c) k.doing;
+        pending = at_key ◌==◌ c (Some (w, p)) k.pending;
+      })
   waiting p u c w e = record {
-    queue = queue_does h.queue p (waits_by w c) (not_ready_out (k.doing p) u e) (not_ready_waits (waits_by w c) w c refl);
-    unborn = λ q i. at_other k.doing p q (waits_by w c) (λ f. absurd (omega (arith, out_there p u e, i, f))) ∙ h.unborn q i;
+    queue = queue_does h.queue p (waits_by w c) (not_ready_out (k.doing p) u e)
+        (not_ready_waits (waits_by w c) w c refl);
+    unborn = λ q i. at_other k.doing p q (waits_by w c) (λ f. absurd (omega (arith, out_there p u e, i, f)))
+        ∙ h.unborn q i;
     pending = λ d z v f. go d z v (number_or c d) f;
     parents = h.parents;
   }
     where
-      go : (d z : ℕ) (v : Way) → (c ≡ d) ⊎ ((c ≢ d) × (c == d ≡ false)) → at_key ◌==◌ c (Some (w, p)) k.pending d ≡ Some (v, z) → at_key ◌==◌ p (waits_by w c) k.doing z ≡ waits_by v d
+      go : (d z : ℕ) (v : Way) → (c ≡ d) ⊎ ((c ≢ d) × (c == d ≡ false))
+          → at_key ◌==◌ c (Some (w, p)) k.pending d ≡ Some (v, z)
+          → at_key ◌==◌ p (waits_by w c) k.doing z ≡ waits_by v d
       go d z v (inl is) f =
-          let n : ◌≡◌ {A = Option (Way × ℕ)} (Some (w, p)) (Some (v, z)) = sym (subst (λ x. at_key ◌==◌ c (Some (w, p)) k.pending x ≡ Some (w, p)) is (at_same k.pending c (Some (w, p)))) ∙ f in
+          let n : ◌≡◌ {A = Option (Way × ℕ)} (Some (w, p)) (Some (v, z)) =
+          sym (subst (λ x. at_key ◌==◌ c (Some (w, p)) k.pending x ≡ Some (w, p)) is
+          (at_same k.pending c (Some (w, p)))) ∙ f in
           let m : ◌≡◌ {A = Way × ℕ} (w, p) (v, z) = cc n in
-          subst (λ x. at_key ◌==◌ p (waits_by w c) k.doing x ≡ waits_by v d) (ap (λ (x : Way × ℕ). x.1) m) (at_same k.doing p (waits_by w c) ∙ ap (λ (x : Way × ℕ). waits_by x.0 c) m ∙ ap (waits_by v) is)
+          subst (λ x. at_key ◌==◌ p (waits_by w c) k.doing x ≡ waits_by v d) (ap (λ (x : Way × ℕ). x.1) m)
+          (at_same k.doing p (waits_by w c) ∙ ap (λ (x : Way × ℕ). waits_by x.0 c) m ∙ ap (waits_by v) is)
       go d z v (inr o) f =
           let g : k.pending d ≡ Some (v, z) = sym (at_other k.pending c d (Some (w, p)) o.0) ∙ f in
-          at_other k.doing p z (waits_by w c) (λ is. no_offer p u e d v (g ∙ ap (λ y. Some (v, y)) (sym is))) ∙ h.pending d z v g
+          at_other k.doing p z (waits_by w c) (λ is. no_offer p u e d v (g ∙ ap (λ y. Some (v, y)) (sym is)))
+          ∙ h.pending d z v g
 
 -- an offer waits, or meets
-orderly_offers : (k : Control) → IsOrderly k → (w : Way) (p u c : ℕ) → k.doing p ≡ Out u → (o : Option (Way × ℕ)) → k.pending c ≡ o → IsOrderly (offers w (waits_by w c) p c o k)
+orderly_offers : (k : Control) → IsOrderly k → (w : Way) (p u c : ℕ) → k.doing p ≡ Out u → (o : Option (Way × ℕ))
+    → k.pending c ≡ o → IsOrderly (offers w (waits_by w c) p c o k)
 orderly_offers k h w p u c e None f = waiting h p u c w e
 orderly_offers k h w p u c e (Some z) f =
     let k0 : Control = record k { pending = at_key ◌==◌ c None k.pending } in
     let wz : k.doing z.1 ≡ waits_by z.0 c = h.pending c z.1 z.0 f in
     let apart : z.1 ≢ p = λ is. not_both z.0 (sym wz ∙ ap k.doing is ∙ e) in
-    let one : IsOrderly (queues z.1 k0) = orderly_queues (cleared h c) z.1 (there_of h z.1 (waits_by z.0 c) wz (not_unborn z.0)) (not_ready_waits (k.doing z.1) z.0 c wz) (λ d v g. not_cleared h c d z.1 z.0 v f g) in
-    orderly_queues one p (out_there h p u e) (λ g. not_ready_out (k.doing p) u e (sym (at_other k.doing z.1 p Ready apart) ∙ g)) (λ d v g. no_offer (cleared h c) p u e d v g)
+    let one : IsOrderly (queues z.1 k0) = orderly_queues (cleared h c) z.1
+    (there_of h z.1 (waits_by z.0 c) wz (not_unborn z.0)) (not_ready_waits (k.doing z.1) z.0 c wz)
+    (λ d v g. not_cleared h c d z.1 z.0 v f g) in
+    orderly_queues one p (out_there h p u e)
+    (λ g. not_ready_out (k.doing p) u e (sym (at_other k.doing z.1 p Ready apart) ∙ g))
+    (λ d v g. no_offer (cleared h c) p u e d v g)
   where
     not_both : (v : Way) → waits_by v c ≡ Out u → ⊥
     not_both way.Send g = absurd (cc g)
@@ -233,9 +277,11 @@ orderly_offers k h w p u c e (Some z) f =
     not_unborn way.Send g = absurd (cc g)
     not_unborn way.Receive g = absurd (cc g)
 
-joining_offer : {k : Control} → IsOrderly k → (p n c : ℕ) (w : Way) → k.doing p ≡ Joining n → k.pending c ≡ Some (w, p) → ⊥
+joining_offer : {k : Control} → IsOrderly k → (p n c : ℕ) (w : Way) → k.doing p ≡ Joining n → k.pending c ≡ Some (w, p)
+    → ⊥
 joining_offer {k} h p n c way.Send e f = let g : k.doing p ≡ Sending c = h.pending c p way.Send f in absurd (cc (e, g))
-joining_offer {k} h p n c way.Receive e f = let g : k.doing p ≡ Receiving c = h.pending c p way.Receive f in absurd (cc (e, g))
+joining_offer {k} h p n c way.Receive e f = let g : k.doing p ≡ Receiving c = h.pending c p way.Receive f in
+    absurd (cc (e, g))
 
 orderly_fewer : (k : Control) → IsOrderly k → (p : ℕ) (d : Doing) → k.doing p ≡ d → IsOrderly (one_fewer p d k)
 orderly_fewer k h p (Joining n) e = go (n == 1)
@@ -263,7 +309,8 @@ orderly_reports k h None = h
 orderly_reports k h (Some b) = orderly_fewer k h b.parent (k.doing b.parent) refl
 
 -- the counts of processes and births as they were
-same_births : (k : Control) (out : ℕ) (b : Births) → IsOrderly k → b.processes ≡ k.births.processes → ((q : ℕ) → b.birth q ≡ k.births.birth q) → IsOrderly (record k { out = out; births = b })
+same_births : (k : Control) (out : ℕ) (b : Births) → IsOrderly k → b.processes ≡ k.births.processes
+    → ((q : ℕ) → b.birth q ≡ k.births.birth q) → IsOrderly (record k { out = out; births = b })
 same_births k out b h e f = record {
   queue = h.queue;
   unborn = λ q i. h.unborn q (subst (λ n. n ≤ q) e i);
@@ -271,22 +318,27 @@ same_births k out b h e f = record {
   parents = λ q c g. h.parents q c (sym (f q) ∙ g);
 }
 
-orderly_forks : (k : Control) → IsOrderly k → (p u n : ℕ) → k.doing p ≡ Out u → IsOrderly (comes_back p (event.Fork n) k)
+orderly_forks : (k : Control) → IsOrderly k → (p u n : ℕ) → k.doing p ≡ Out u
+    → IsOrderly (comes_back p (event.Fork n) k)
 orderly_forks k h p u n e = record {
-  queue = queue_forks k.doing k.ready k.births p n (Joining n) h.queue h.unborn (not_ready_out (k.doing p) u e) (λ f. absurd (cc f));
+  queue = queue_forks k.doing k.ready k.births p n (Joining n) h.queue h.unborn (not_ready_out (k.doing p) u e)
+      (λ f. absurd (cc f));
   unborn = λ q i. rw (next_past k.births n q i) (skip q (number_or p q) (omega (arith, i)));
-  pending = λ c z w f. keeps z w c (h.pending c z w f) (λ is. no_offer h p u e c w (f ∙ ap (λ y. Some (w, y)) (sym is)));
+  pending = λ c z w f. keeps z w c (h.pending c z w f)
+      (λ is. no_offer h p u e c w (f ∙ ap (λ y. Some (w, y)) (sym is)));
   parents = λ q b f. parent q b (is_next k.births n q) refl f;
 }
   where
     there : p < k.births.processes
     there = out_there h p u e
 
-    skip : (q : ℕ) → (p ≡ q) ⊎ ((p ≢ q) × (p == q ≡ false)) → k.births.processes ≤ q → cond (p == q) (Joining n) (k.doing q) ≡ Unborn
+    skip : (q : ℕ) → (p ≡ q) ⊎ ((p ≢ q) × (p == q ≡ false)) → k.births.processes ≤ q
+        → cond (p == q) (Joining n) (k.doing q) ≡ Unborn
     skip q (inl is) i = absurd (omega (arith, there, is, i))
     skip q (inr o) i = rw (o.1) (h.unborn q i)
 
-    keeps : (z : ℕ) (w : Way) (c : ℕ) → k.doing z ≡ waits_by w c → p ≢ z → forked_doing k.births p (Joining n) n k.doing z ≡ waits_by w c
+    keeps : (z : ℕ) (w : Way) (c : ℕ) → k.doing z ≡ waits_by w c → p ≢ z
+        → forked_doing k.births p (Joining n) n k.doing z ≡ waits_by w c
     keeps z w c f m = rw (next_not k.births n z (there_of h z (waits_by w c) f (born w))) (go (number_or p z))
       where
         born : (v : Way) → waits_by v c ≢ Unborn
@@ -297,15 +349,21 @@ orderly_forks k h p u n e = record {
         go (inl is) = absurd (m is)
         go (inr o) = rw (o.1) f
 
-    parent : (q : ℕ) (b : Birth) (t : Bool) → is_next k.births n q ≡ t → cond t (Some (record { parent = p; fork = k.births.forks p; child = q - k.births.processes })) (k.births.birth q) ≡ Some b → b.parent < q
-    parent q b true w f = let l = next_is k.births n q w in let g : p ≡ b.parent = ap (λ (x : Birth). x.parent) (same_Some _ _ f) in omega (arith, l, g, there)
+    parent : (q : ℕ) (b : Birth) (t : Bool) → is_next k.births n q ≡ t
+        → cond t (Some (record { parent = p; fork = k.births.forks p; child = q - k.births.processes }))
+        (k.births.birth q) ≡ Some b → b.parent < q
+    parent q b true w f = let l = next_is k.births n q w in
+        let g : p ≡ b.parent = ap (λ (x : Birth). x.parent) (same_Some _ _ f) in omega (arith, l, g, there)
     parent q b false w f = h.parents q b f
 
 -- every event of a process that is out keeps the control orderly
-pub orderly_back : (k : Control) → IsOrderly k → (p u : ℕ) (e : Event) → k.doing p ≡ Out u → IsOrderly (comes_back p e k)
+pub orderly_back : (k : Control) → IsOrderly k → (p u : ℕ) (e : Event) → k.doing p ≡ Out u
+    → IsOrderly (comes_back p e k)
 orderly_back k h p u (event.Fork n) e = orderly_forks k h p u n e
-orderly_back k h p u event.Open e = same_births (queues p k) (k.out - 1) (after_event k.births p event.Open) (orderly_queues h p (out_there h p u e) (not_ready_out (k.doing p) u e) (no_offer h p u e)) refl (λ q. refl)
-orderly_back k h p u (event.Send c) e = same_births _ (k.out - 1) k.births (orderly_offers k h way.Send p u c e (k.pending c) refl) (kept (k.pending c)) (λ q. born (k.pending c) q)
+orderly_back k h p u event.Open e = same_births (queues p k) (k.out - 1) (after_event k.births p event.Open)
+    (orderly_queues h p (out_there h p u e) (not_ready_out (k.doing p) u e) (no_offer h p u e)) refl (λ q. refl)
+orderly_back k h p u (event.Send c) e = same_births _ (k.out - 1) k.births
+    (orderly_offers k h way.Send p u c e (k.pending c) refl) (kept (k.pending c)) (λ q. born (k.pending c) q)
   where
     kept : (o : Option (Way × ℕ)) → k.births.processes ≡ (offers way.Send (Sending c) p c o k).births.processes
     kept None = refl
@@ -314,7 +372,8 @@ orderly_back k h p u (event.Send c) e = same_births _ (k.out - 1) k.births (orde
     born : (o : Option (Way × ℕ)) (q : ℕ) → k.births.birth q ≡ (offers way.Send (Sending c) p c o k).births.birth q
     born None q = refl
     born (Some z) q = refl
-orderly_back k h p u (event.Receive c) e = same_births _ (k.out - 1) k.births (orderly_offers k h way.Receive p u c e (k.pending c) refl) (kept (k.pending c)) (λ q. born (k.pending c) q)
+orderly_back k h p u (event.Receive c) e = same_births _ (k.out - 1) k.births
+    (orderly_offers k h way.Receive p u c e (k.pending c) refl) (kept (k.pending c)) (λ q. born (k.pending c) q)
   where
     kept : (o : Option (Way × ℕ)) → k.births.processes ≡ (offers way.Receive (Receiving c) p c o k).births.processes
     kept None = refl
@@ -323,7 +382,11 @@ orderly_back k h p u (event.Receive c) e = same_births _ (k.out - 1) k.births (o
     born : (o : Option (Way × ℕ)) (q : ℕ) → k.births.birth q ≡ (offers way.Receive (Receiving c) p c o k).births.birth q
     born None q = refl
     born (Some z) q = refl
-orderly_back k h p u event.End e = same_births _ (k.out - 1) k.births (orderly_reports (does p Ended k) (orderly_does h p Ended (out_there h p u e) (not_ready_out (k.doing p) u e) (λ f. absurd (cc f)) (no_offer h p u e)) (k.births.birth p)) (ap (λ (b : Births). b.processes) (kept (k.births.birth p))) (λ q. ap (λ (b : Births). b.birth q) (kept (k.births.birth p)))
+orderly_back k h p u event.End e = same_births _ (k.out - 1) k.births
+    (orderly_reports (does p Ended k) (orderly_does h p Ended (out_there h p u e) (not_ready_out (k.doing p) u e)
+    (λ f. absurd (cc f)) (no_offer h p u e)) (k.births.birth p))
+    (ap (λ (b : Births). b.processes) (kept (k.births.birth p)))
+    (λ q. ap (λ (b : Births). b.birth q) (kept (k.births.birth p)))
   where
     fewer : (x : ℕ) (d : Doing) (m : Control) → m.births ≡ (one_fewer x d m).births
     fewer x (Joining n) m = go (n == 1)
@@ -343,9 +406,14 @@ orderly_back k h p u event.End e = same_births _ (k.out - 1) k.births (orderly_r
     kept : (o : Option Birth) → k.births ≡ (reports o (does p Ended k)).births
     kept None = refl
     kept (Some b) = fewer b.parent ((does p Ended k).doing b.parent) (does p Ended k)
-orderly_back k h p u (event.Fault f) e = same_births _ (k.out - 1) k.births (faulted (orderly_does h p Laid (out_there h p u e) (not_ready_out (k.doing p) u e) (λ g. absurd (cc g)) (no_offer h p u e))) refl (λ q. refl)
+orderly_back k h p u (event.Fault f) e = same_births _ (k.out - 1) k.births
+    (faulted (orderly_does h p Laid (out_there h p u e) (not_ready_out (k.doing p) u e) (λ g. absurd (cc g))
+    (no_offer h p u e))) refl (λ q. refl)
   where
     faulted : IsOrderly (does p Laid k) → IsOrderly (record (does p Laid k) { faulted = true })
     faulted o = record { queue = o.queue; unborn = o.unborn; pending = o.pending; parents = o.parents }
-orderly_back k h p u event.Laid e = same_births _ (k.out - 1) k.births (orderly_does h p Laid (out_there h p u e) (not_ready_out (k.doing p) u e) (λ g. absurd (cc g)) (no_offer h p u e)) refl (λ q. refl)
-orderly_back k h p u event.Pause e = same_births (queues p k) (k.out - 1) k.births (orderly_queues h p (out_there h p u e) (not_ready_out (k.doing p) u e) (no_offer h p u e)) refl (λ q. refl)
+orderly_back k h p u event.Laid e = same_births _ (k.out - 1) k.births
+    (orderly_does h p Laid (out_there h p u e) (not_ready_out (k.doing p) u e) (λ g. absurd (cc g)) (no_offer h p u e))
+    refl (λ q. refl)
+orderly_back k h p u event.Pause e = same_births (queues p k) (k.out - 1) k.births
+    (orderly_queues h p (out_there h p u e) (not_ready_out (k.doing p) u e) (no_offer h p u e)) refl (λ q. refl)

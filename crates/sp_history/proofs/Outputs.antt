@@ -1,5 +1,6 @@
 -- What each instruction keeps of the output: who holds it goes on holding it, and nobody else comes to it.
-use Rattle.std.proofs.Common.{◌≡◌, ◌≢◌, ◌⊎◌, inl, inr, ℕ, zero, suc, ◌+◌, ◌-◌, ◌<◌, ◌==◌, List, [], ◌∷◌, ◌++◌, length, Option, Some, None, Bool, true, false, if◌then◌else◌, refl, sym, ap, ◌∙◌, subst, arith}
+use Rattle.std.proofs.Common.{◌≡◌, ◌≢◌, ◌⊎◌, inl, inr, ℕ, zero, suc, ◌+◌, ◌-◌, ◌<◌, ◌==◌, List, [], ◌∷◌, ◌++◌, length}
+use Rattle.std.proofs.Common.{Option, Some, None, Bool, true, false, if◌then◌else◌, refl, sym, ap, ◌∙◌, subst, arith}
 use Rattle.std.specs.Prelude.{nat_lt, sum, take, slice_index, replicate, IsSome}
 use Rattle.std.specs.FinMap as map
 use Rattle.sp_base.specs.declared.fault.Fault.TheVariants as fault
@@ -7,13 +8,15 @@ use Rattle.sp_cell.specs.declared.cell.Cell.{Cell}
 use Rattle.sp_cell.specs.declared.cell.Cell.TheVariants as cell
 use Rattle.sp_cell.specs.declared.spot.Address.{Address}
 use Rattle.sp_cell.specs.declared.spot.Spot.{Spot}
-use Rattle.sp_cell.specs.Map.{Map, Content, Own, Shared, Output, Away, Plain, IsOutput, IsOwn, bytes_of, output_spot, with_map}
+use Rattle.sp_cell.specs.Map.{Map, Content, Own, Shared, Output, Away, Plain, IsOutput, IsOwn, bytes_of, output_spot}
+use Rattle.sp_cell.specs.Map.{with_map}
 use Rattle.sp_cell.specs.Frame.{with_pieces, without, next_frame, newest, pushed, popped}
 use Rattle.sp_cell.specs.FrameLaws.{known_below, without_here, without_other}
 use Rattle.sp_cell.specs.Laws.{get_other, get_here, same_or, known_of_away}
 use Rattle.sp_code.specs.declared.code.Layout.{Layout}
 use Rattle.sp_code.specs.Machine.{Entry, Number, Chan, Pointer, Cells, Link, Reply, Done, Failed}
-use Rattle.sp_code.specs.Memory.{Setting, Frame, Memory, memory, put_cell, put_cells, cells_at, cell_at, position_at, filled, opened, bytes_in, has_cells, is_held}
+use Rattle.sp_code.specs.Memory.{Setting, Frame, Memory, memory, put_cell, put_cells, cells_at, cell_at, position_at}
+use Rattle.sp_code.specs.Memory.{filled, opened, bytes_in, has_cells, is_held}
 use Rattle.sp_code.specs.PlainStore.{plain, piece_of}
 use Rattle.sp_code.proofs.StoreLaws.{output_held, may_go}
 use Rattle.sp_history.specs.Agreement.{Each}
@@ -55,7 +58,8 @@ apart_is Holds s n = n
 apart_is Lends s n = n
 apart_is Lacks s n = tt
 
-pub not_output : (m : Map) (s : Spot) (h : Content) → (IsOutput (map.get m output_spot) → ⊥) → (IsOutput (Some h) → ⊥) → IsOutput (map.get (map.insert m s h) output_spot) → ⊥
+pub not_output : (m : Map) (s : Spot) (h : Content) → (IsOutput (map.get m output_spot) → ⊥) → (IsOutput (Some h) → ⊥)
+    → IsOutput (map.get (map.insert m s h) output_spot) → ⊥
 not_output m s h a b o = go (same_or output_spot s)
   where
     go : (output_spot ≡ s) ⊎ (output_spot ≢ s) → ⊥
@@ -63,12 +67,14 @@ not_output m s h a b o = go (same_or output_spot s)
     go (inr n) = a (subst IsOutput (get_other m s h output_spot n) o)
 
 -- an own piece is written there
-pub own_is : (h : Share) (p : Plain) (s : Spot) (cs : List Cell) → IsApart h s → StoreIs h p → StoreIs h (with_map p (map.insert p.map s (Own cs)))
+pub own_is : (h : Share) (p : Plain) (s : Spot) (cs : List Cell) → IsApart h s → StoreIs h p
+    → StoreIs h (with_map p (map.insert p.map s (Own cs)))
 own_is Holds p s cs a k = (subst IsOutput (sym (get_other p.map s (Own cs) output_spot a)) k.0, k.1)
 own_is Lends p s cs a k = (get_other p.map s (Own cs) output_spot a ∙ k.0, k.1)
 own_is Lacks p s cs a k = not_output p.map s (Own cs) k (λ o. o)
 
-no_piece : (o : Option Content) (offset k : ℕ) → has_cells (piece_of o) offset k ≡ true → (IsOutput o → ⊥) × (o ≢ Some Away)
+no_piece : (o : Option Content) (offset k : ℕ) → has_cells (piece_of o) offset k ≡ true → (IsOutput o → ⊥)
+    × (o ≢ Some Away)
 no_piece None offset k e = absurd cc
 no_piece (Some (Own cs)) offset k e = ((λ o. o), λ w. absurd (cc w))
 no_piece (Some (Shared cs)) offset k e = ((λ o. o), λ w. absurd (cc w))
@@ -76,9 +82,12 @@ no_piece (Some (Output bs)) offset k e = absurd cc
 no_piece (Some Away) offset k e = absurd cc
 
 -- where cells are, the output is not
-piece_apart : (h : Share) (p : Plain) (a : Address) (k : ℕ) → StoreIs h p → has_cells (piece_of (map.get p.map a.spot)) a.offset k ≡ true → IsApart h a.spot
-piece_apart Holds p a k s e = λ is. (no_piece (map.get p.map a.spot) a.offset k e).0 (subst (λ x. IsOutput (map.get p.map x)) is s.0)
-piece_apart Lends p a k s e = λ is. (no_piece (map.get p.map a.spot) a.offset k e).1 (subst (λ x. map.get p.map x ≡ Some Away) is s.0)
+piece_apart : (h : Share) (p : Plain) (a : Address) (k : ℕ) → StoreIs h p
+    → has_cells (piece_of (map.get p.map a.spot)) a.offset k ≡ true → IsApart h a.spot
+piece_apart Holds p a k s e = λ is. (no_piece (map.get p.map a.spot) a.offset k e).0
+    (subst (λ x. IsOutput (map.get p.map x)) is s.0)
+piece_apart Lends p a k s e = λ is. (no_piece (map.get p.map a.spot) a.offset k e).1
+    (subst (λ x. map.get p.map x ≡ Some Away) is s.0)
 piece_apart Lacks p a k s e = tt
 
 own_apart : (o : Option Content) → IsOwn o → (IsOutput o → ⊥) × (o ≢ Some Away)
@@ -96,16 +105,20 @@ target_apart Lacks p s k e = tt
 
 -- ---- frames
 
-pieces_apart : (m : Map) (n v : ℕ) (cs : List ℕ) (q : Spot) → q.frame ≢ n → map.get (with_pieces m n v cs) q ≡ map.get m q
+pieces_apart : (m : Map) (n v : ℕ) (cs : List ℕ) (q : Spot) → q.frame ≢ n
+    → map.get (with_pieces m n v cs) q ≡ map.get m q
 pieces_apart m n v [] q d = refl
 pieces_apart m n v (c ∷ cs) q d =
     pieces_apart (map.insert m (record { frame = n; variable = v }) (Own (replicate c cell.Undefined))) n (v + 1) cs q d
-    ∙ get_other m (record { frame = n; variable = v }) (Own (replicate c cell.Undefined)) q (spot_frame q (record { frame = n; variable = v }) d)
+    ∙ get_other m (record { frame = n; variable = v }) (Own (replicate c cell.Undefined)) q
+    (spot_frame q (record { frame = n; variable = v }) d)
 
-pieces_lack : (m : Map) (n v : ℕ) (cs : List ℕ) → (IsOutput (map.get m output_spot) → ⊥) → IsOutput (map.get (with_pieces m n v cs) output_spot) → ⊥
+pieces_lack : (m : Map) (n v : ℕ) (cs : List ℕ) → (IsOutput (map.get m output_spot) → ⊥)
+    → IsOutput (map.get (with_pieces m n v cs) output_spot) → ⊥
 pieces_lack m n v [] a = a
 pieces_lack m n v (c ∷ cs) a =
-    pieces_lack (map.insert m (record { frame = n; variable = v }) (Own (replicate c cell.Undefined))) n (v + 1) cs (not_output m (record { frame = n; variable = v }) (Own (replicate c cell.Undefined)) a (λ o. o))
+    pieces_lack (map.insert m (record { frame = n; variable = v }) (Own (replicate c cell.Undefined))) n (v + 1) cs
+    (not_output m (record { frame = n; variable = v }) (Own (replicate c cell.Undefined)) a (λ o. o))
 
 pub output_known : (o : Option Content) → IsOutput o → IsSome o
 output_known (Some h) e = refl
@@ -115,34 +128,47 @@ next_other : (p : Plain) → IsSome (map.get p.map output_spot) → next_frame p
 next_other p k e = let w = known_below p.map output_spot k in omega (arith, w, e)
 
 -- the number of a new frame is not the program's
-pub next_apart : (h : Share) (p : Plain) (v : ℕ) → StoreIs h p → IsApart h (record { frame = next_frame p; variable = v })
-next_apart Holds p v k = λ e. next_other p (output_known (map.get p.map output_spot) k.0) (sym (ap (λ (t : Spot). t.frame) e))
-next_apart Lends p v k = λ e. next_other p (known_of_away (map.get p.map output_spot) k.0) (sym (ap (λ (t : Spot). t.frame) e))
+pub next_apart : (h : Share) (p : Plain) (v : ℕ) → StoreIs h p
+    → IsApart h (record { frame = next_frame p; variable = v })
+next_apart Holds p v k = λ e. next_other p (output_known (map.get p.map output_spot) k.0)
+    (sym (ap (λ (t : Spot). t.frame) e))
+next_apart Lends p v k = λ e. next_other p (known_of_away (map.get p.map output_spot) k.0)
+    (sym (ap (λ (t : Spot). t.frame) e))
 next_apart Lacks p v k = tt
 
 pushed_is : (h : Share) (p : Plain) (sizes : List ℕ) → StoreIs h p → StoreIs h (pushed p sizes)
 pushed_is Holds p sizes k =
-    let n = next_other p (output_known (map.get p.map output_spot) k.0) in
-    (subst IsOutput (sym (pieces_apart p.map (next_frame p) 0 sizes output_spot (λ e. n (sym e)))) k.0, each_append (λ x. x ≢ 0) p.own (next_frame p ∷ []) k.1 (n, tt))
+    let n = next_other p (output_known (map.get p.map output_spot) k.0) in (
+      subst IsOutput (sym (pieces_apart p.map (next_frame p) 0 sizes output_spot (λ e. n (sym e)))) k.0,
+      each_append (λ x. x ≢ 0) p.own (next_frame p ∷ []) k.1 (n, tt),
+    )
 pushed_is Lends p sizes k =
-    let n = next_other p (known_of_away (map.get p.map output_spot) k.0) in
-    (pieces_apart p.map (next_frame p) 0 sizes output_spot (λ e. n (sym e)) ∙ k.0, each_append (λ x. x ≢ 0) p.own (next_frame p ∷ []) k.1 (n, tt))
+    let n = next_other p (known_of_away (map.get p.map output_spot) k.0) in (
+      pieces_apart p.map (next_frame p) 0 sizes output_spot (λ e. n (sym e)) ∙ k.0,
+      each_append (λ x. x ≢ 0) p.own (next_frame p ∷ []) k.1 (n, tt),
+    )
 pushed_is Lacks p sizes k = pieces_lack p.map (next_frame p) 0 sizes k
 
 popped_is : (h : Share) (p : Plain) → p.own ≢ [] → StoreIs h p → StoreIs h (popped p)
 popped_is Holds p n k =
-    let w = each_newest (λ x. x ≢ 0) p.own n k.1 in
-    (subst IsOutput (sym (without_other p.map (newest p.own) output_spot (λ e. w (sym e)))) k.0, each_take (λ x. x ≢ 0) (length p.own - 1) p.own k.1)
+    let w = each_newest (λ x. x ≢ 0) p.own n k.1 in (
+      subst IsOutput (sym (without_other p.map (newest p.own) output_spot (λ e. w (sym e)))) k.0,
+      each_take (λ x. x ≢ 0) (length p.own - 1) p.own k.1,
+    )
 popped_is Lends p n k =
-    let w = each_newest (λ x. x ≢ 0) p.own n k.1 in
-    (without_other p.map (newest p.own) output_spot (λ e. w (sym e)) ∙ k.0, each_take (λ x. x ≢ 0) (length p.own - 1) p.own k.1)
+    let w = each_newest (λ x. x ≢ 0) p.own n k.1 in (
+      without_other p.map (newest p.own) output_spot (λ e. w (sym e)) ∙ k.0,
+      each_take (λ x. x ≢ 0) (length p.own - 1) p.own k.1,
+    )
 popped_is Lacks p n k = go (number_or 0 (newest p.own))
   where
-    go : (0 ≡ newest p.own) ⊎ ((0 ≢ newest p.own) × (0 == newest p.own ≡ false)) → IsOutput (map.get (without p.map (newest p.own)) output_spot) → ⊥
+    go : (0 ≡ newest p.own) ⊎ ((0 ≢ newest p.own) × (0 == newest p.own ≡ false))
+        → IsOutput (map.get (without p.map (newest p.own)) output_spot) → ⊥
     go (inl e) o = subst IsOutput (without_here p.map (newest p.own) output_spot e) o
     go (inr d) o = k (subst IsOutput (without_other p.map (newest p.own) output_spot d.0) o)
 
-printed_is : (h : Share) (p : Plain) (bs : List ℕ) → IsOutput (map.get p.map output_spot) → StoreIs h p → StoreIs h (with_map p (map.insert p.map output_spot (Output bs)))
+printed_is : (h : Share) (p : Plain) (bs : List ℕ) → IsOutput (map.get p.map output_spot) → StoreIs h p
+    → StoreIs h (with_map p (map.insert p.map output_spot (Output bs)))
 printed_is Holds p bs o k = (subst IsOutput (sym (get_here p.map output_spot (Output bs))) tt, k.1)
 printed_is Lends p bs o k = absurd (subst IsOutput k.0 o)
 printed_is Lacks p bs o k = absurd (k o)
@@ -175,7 +201,8 @@ module _ (g : Setting) (h : Share) (moved : List Spot) where
   puts_is : (a : Address) (cs : List Cell) (p : Plain) → IsApart h a.spot → It p → It (put_cells plain a cs p)
   puts_is a cs p n k = (own_is h p a.spot _ n k.0, k.1)
 
-  filled_is : (n k : ℕ) (es : List Entry) (p : Plain) → ((v : ℕ) → IsApart h (record { frame = n; variable = v })) → It p → It (filled plain n k es p)
+  filled_is : (n k : ℕ) (es : List Entry) (p : Plain) → ((v : ℕ) → IsApart h (record { frame = n; variable = v }))
+      → It p → It (filled plain n k es p)
   filled_is n k [] p a i = i
   filled_is n k (Number v ∷ es) p a i = filled_is n (suc k) es _ a (put_is (cell_at n k) (cell.Ordinal v) p (a k) i)
   filled_is n k (Chan c ∷ es) p a i = filled_is n (suc k) es _ a (put_is (cell_at n k) (cell.Channel c) p (a k) i)
@@ -184,24 +211,33 @@ module _ (g : Setting) (h : Share) (moved : List Spot) where
   filled_is n k (Link r ∷ es) p a i = filled_is n (suc k) es p a i
   filled_is n k (Reply r ∷ es) p a i = filled_is n (suc k) es p a i
 
-  opened_is : (l : Layout) (up : ℕ) (es : List Entry) (n : Memory Plain) → Shares h moved n → Shares h moved (opened plain g l up es n)
-  opened_is l up es n k = filled_is (next_frame n.store) 0 es (pushed n.store l.sizes) (λ v. next_apart h n.store v k.0) (pushed_is h n.store l.sizes k.0, k.1)
+  opened_is : (l : Layout) (up : ℕ) (es : List Entry) (n : Memory Plain) → Shares h moved n
+      → Shares h moved (opened plain g l up es n)
+  opened_is l up es n k = filled_is (next_frame n.store) 0 es (pushed n.store l.sizes) (λ v. next_apart h n.store v k.0)
+      (pushed_is h n.store l.sizes k.0, k.1)
 
-  opens_is : (l : Layout) (up : ℕ) (es : List Entry) (n m : Memory Plain) → Shares h moved n → (memory plain g).open_frame l up es n ≡ Done m → Shares h moved m
-  opens_is l up es n m k d = go (nat_lt n.ticks g.limits.ticks) (nat_lt n.depth g.limits.depth) (nat_lt g.limits.cells (n.cells + sum l.sizes)) d
+  opens_is : (l : Layout) (up : ℕ) (es : List Entry) (n m : Memory Plain) → Shares h moved n
+      → (memory plain g).open_frame l up es n ≡ Done m → Shares h moved m
+  opens_is l up es n m k d = go (nat_lt n.ticks g.limits.ticks) (nat_lt n.depth g.limits.depth)
+      (nat_lt g.limits.cells (n.cells + sum l.sizes)) d
     where
-      go : (a b c : Bool) → (if a then (if b then (if c then Failed fault.F12 else Done (opened plain g l up es n)) else Failed fault.F11) else Failed fault.F10) ≡ Done m → Shares h moved m
+      go : (a b c : Bool) → (if a then (if b then (if c then Failed fault.F12 else Done (opened plain g l up es n)) else
+          Failed fault.F11) else Failed fault.F10) ≡ Done m → Shares h moved m
       go true true true d = absurd (not_done fault.F12 m d)
       go true true false d = subst (Shares h moved) (is_done _ m d) (opened_is l up es n k)
       go true false c d = absurd (not_done fault.F11 m d)
       go false b c d = absurd (not_done fault.F10 m d)
 
-  closes_is : (fs : List Frame) (n : Memory Plain) → n.frames ≡ fs → (memory plain g).may_close n ≡ true → Shares h moved n → Shares h moved ((memory plain g).close_frame n)
+  closes_is : (fs : List Frame) (n : Memory Plain) → n.frames ≡ fs → (memory plain g).may_close n ≡ true
+      → Shares h moved n → Shares h moved ((memory plain g).close_frame n)
   closes_is [] n e w k = rw e k
-  closes_is (f ∷ fs) n e w k = let gone = may_go n.store f.number (subst (λ (x : List Frame). Rattle.sp_code.specs.Memory.may_close plain g x n.store ≡ true) e w) in rw e (popped_is h n.store gone.0 k.0, k.1)
+  closes_is (f ∷ fs) n e w k = let gone = may_go n.store f.number
+      (subst (λ (x : List Frame). Rattle.sp_code.specs.Memory.may_close plain g x n.store ≡ true) e w) in
+      rw e (popped_is h n.store gone.0 k.0, k.1)
 
   position_apart : IsApart h position_at.spot
-  position_apart = apart_is h position_at.spot (λ e. let w : 1 ≡ 0 = ap (λ (t : Spot). t.variable) e in omega (arith, w))
+  position_apart = apart_is h position_at.spot
+      (λ e. let w : 1 ≡ 0 = ap (λ (t : Spot). t.variable) e in omega (arith, w))
 
   advances_is : (k : ℕ) (n : Memory Plain) → Shares h moved n → Shares h moved ((memory plain g).advance k n)
   advances_is k n i = put_is position_at _ n.store position_apart i
@@ -211,21 +247,30 @@ module _ (g : Setting) (h : Share) (moved : List Spot) where
     look = λ a n k. any_cell ((memory plain g).look a n);
     cells = λ a j n k. any_cells ((memory plain g).cells a j n);
     put = λ a c n k w x. put_is a c n.store (piece_apart h n.store a 1 k.0 w) k;
-    read = λ a v j bs n k w x. put_is a (cell.Ordinal v) ((memory plain g).advance j n).store (piece_apart h n.store a 1 k.0 w) (advances_is j n k);
+    read = λ a v j bs n k w x. put_is a (cell.Ordinal v) ((memory plain g).advance j n).store
+        (piece_apart h n.store a 1 k.0 w) (advances_is j n k);
     advance = λ j bs n k x. advances_is j n k;
     copy = λ to from j n k w. puts_is to _ n.store (piece_apart h n.store to j k.0 w) k;
-    own = λ a m n k w. (own_is h n.store a.spot (cells_at plain n.store a.spot) (piece_apart h n.store a m k.0 w) k.0, k.1);
+    own = λ a m n k w. (
+      own_is h n.store a.spot (cells_at plain n.store a.spot) (piece_apart h n.store a m k.0 w) k.0,
+      k.1,
+    );
     target = λ a m n k w. subst IsOwn (sym (get_here n.store.map a.spot (Own (cells_at plain n.store a.spot)))) tt;
-    print = λ t n m k w d. prints t n m k (output_held n.store.map w) (nat_lt g.limits.output (length (bytes_in (plain.output n.store)) + length t)) d;
+    print = λ t n m k w d. prints t n m k (output_held n.store.map w)
+        (nat_lt g.limits.output (length (bytes_in (plain.output n.store)) + length t)) d;
     beat = λ n m k d. beats n m k (nat_lt n.ticks g.limits.ticks) d;
     open_frame = λ l up es n m k e d. opens_is l up es n m k d;
     close_frame = λ n k w. closes_is n.frames n refl w k;
   }
     where
-      prints : (t : List ℕ) (n m : Memory Plain) → Shares h moved n → IsOutput (map.get n.store.map output_spot) → (b : Bool) → (if b then Failed fault.F16 else Done (record n { store = plain.appended n.store t })) ≡ Done m → Shares h moved m
+      prints : (t : List ℕ) (n m : Memory Plain) → Shares h moved n → IsOutput (map.get n.store.map output_spot)
+          → (b : Bool) → (if b then Failed fault.F16 else Done (record n { store = plain.appended n.store t })) ≡ Done m
+          → Shares h moved m
       prints t n m k o true d = absurd (not_done fault.F16 m d)
-      prints t n m k o false d = subst (Shares h moved) (is_done _ m d) (printed_is h n.store (bytes_of (map.get n.store.map output_spot) ++ t) o k.0, k.1)
+      prints t n m k o false d = subst (Shares h moved) (is_done _ m d)
+          (printed_is h n.store (bytes_of (map.get n.store.map output_spot) ++ t) o k.0, k.1)
 
-      beats : (n m : Memory Plain) → Shares h moved n → (b : Bool) → (if b then Done (record n { ticks = n.ticks + 1 }) else Failed fault.F10) ≡ Done m → Shares h moved m
+      beats : (n m : Memory Plain) → Shares h moved n → (b : Bool)
+          → (if b then Done (record n { ticks = n.ticks + 1 }) else Failed fault.F10) ≡ Done m → Shares h moved m
       beats n m k true d = subst (Shares h moved) (is_done _ m d) k
       beats n m k false d = absurd (not_done fault.F10 m d)

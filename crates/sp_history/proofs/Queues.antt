@@ -1,5 +1,6 @@
 -- Lists of numbers: each, different, among.
-use Rattle.std.proofs.Common.{◌≡◌, ◌≢◌, ◌⊎◌, ℕ, zero, suc, ◌+◌, ◌≤◌, ◌<◌, ◌==◌, inl, inr, Bool, true, false, cond, List, [], ◌∷◌, ◌++◌, refl, sym, subst, arith}
+use Rattle.std.proofs.Common.{◌≡◌, ◌≢◌, ◌⊎◌, ℕ, zero, suc, ◌+◌, ◌≤◌, ◌<◌, ◌==◌, inl, inr, Bool, true, false, cond, List}
+use Rattle.std.proofs.Common.{[], ◌∷◌, ◌++◌, refl, sym, subst, arith}
 use Rattle.std.proofs.lemmas.Bool.{eqb-false}
 use borrow.Author.Tests.{eqb-true}
 use Rattle.sp_journal.specs.Maps.{at_key}
@@ -34,15 +35,27 @@ among_back q (x ∷ xs) ys i = inr (among_back q xs ys i)
 
 pub numbers_from : (a n : ℕ) → Each (λ q. a ≤ q) (numbers a n)
 numbers_from a zero = tt {0}
-numbers_from a (suc n) = (omega arith, each_of (λ q. suc a ≤ q) (λ q. a ≤ q) (numbers (suc a) n) (λ q h. omega (arith, h)) (numbers_from (suc a) n))
+numbers_from a (suc n) = (
+  omega arith,
+  each_of (λ q. suc a ≤ q) (λ q. a ≤ q) (numbers (suc a) n)
+      (λ q h. omega (arith, h)) (numbers_from (suc a) n),
+)
 
 pub numbers_below : (a n : ℕ) → Each (λ q. q < a + n) (numbers a n)
 numbers_below a zero = tt {0}
-numbers_below a (suc n) = (omega arith, each_of (λ q. q < suc a + n) (λ q. q < a + suc n) (numbers (suc a) n) (λ q h. omega (arith, h)) (numbers_below (suc a) n))
+numbers_below a (suc n) = (
+  omega arith,
+  each_of (λ q. q < suc a + n) (λ q. q < a + suc n) (numbers (suc a) n)
+      (λ q h. omega (arith, h)) (numbers_below (suc a) n),
+)
 
 pub numbers_differ : (a n : ℕ) → Differ (numbers a n)
 numbers_differ a zero = tt {0}
-numbers_differ a (suc n) = (each_of (λ q. suc a ≤ q) (λ q. q ≢ a) (numbers (suc a) n) (λ q h e. omega (arith, h, e)) (numbers_from (suc a) n), numbers_differ (suc a) n)
+numbers_differ a (suc n) = (
+  each_of (λ q. suc a ≤ q) (λ q. q ≢ a) (numbers (suc a) n) (λ q h e. omega (arith, h, e))
+      (numbers_from (suc a) n),
+  numbers_differ (suc a) n,
+)
 
 pub numbers_have : (a n q : ℕ) → a ≤ q → q < a + n → Among q (numbers a n)
 numbers_have a zero q l h = absurd (omega (arith, l, h))
@@ -74,7 +87,8 @@ module _ {X : Type 0} where
       go (inr n) = rw (n.1) refl
 
 -- what is told of two maps alike is told of them alike after updates at one place
-pub both_at : {A B C : Type 0} (f : A → C) (g : B → C) (p : ℕ) (a : A) (b : B) (m : ℕ → A) (n : ℕ → B) → f a ≡ g b → ((q : ℕ) → f (m q) ≡ g (n q)) → (q : ℕ) → f (at_key ◌==◌ p a m q) ≡ g (at_key ◌==◌ p b n q)
+pub both_at : {A B C : Type 0} (f : A → C) (g : B → C) (p : ℕ) (a : A) (b : B) (m : ℕ → A) (n : ℕ → B) → f a ≡ g b
+    → ((q : ℕ) → f (m q) ≡ g (n q)) → (q : ℕ) → f (at_key ◌==◌ p a m q) ≡ g (at_key ◌==◌ p b n q)
 both_at f g p a b m n e h q = go (p == q)
   where
     go : (t : Bool) → f (cond t a (m q)) ≡ g (cond t b (n q))

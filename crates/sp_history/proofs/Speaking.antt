@@ -1,5 +1,6 @@
 -- Along a journal every process has its number and speaks of channels that are there.
-use Rattle.std.proofs.Common.{◌≡◌, ℕ, ◌-◌, ◌≤◌, ◌<◌, ◌==◌, ℤ, Bool, true, false, cond, if◌then◌else◌, List, [], ◌∷◌, Option, Some, None, refl, sym, subst, arith}
+use Rattle.std.proofs.Common.{◌≡◌, ℕ, ◌-◌, ◌≤◌, ◌<◌, ◌==◌, ℤ, Bool, true, false, cond, if◌then◌else◌, List, [], ◌∷◌}
+use Rattle.std.proofs.Common.{Option, Some, None, refl, sym, subst, arith}
 use Rattle.std.specs.Prelude.{slice_get}
 use Rattle.std.proofs.lemmas.Bool.{eqb-true}
 use Rattle.sp_base.specs.declared.fault.Fault.{Fault}
@@ -20,7 +21,10 @@ use Rattle.sp_code.specs.Machine.{Stop, Forks, Opens, Sends, Receives, Ends, Pau
 use Rattle.sp_code.specs.Turns.{Turn, Stopped, Faulted, IsTurn}
 use Rattle.sp_code.specs.Memory.{Setting, Memory, memory, cells_at, sizes_of, first, put_cells}
 use Rattle.sp_code.specs.PlainStore.{plain}
-use Rattle.sp_code.specs.System.{System, Condition, Absent, Working, Waits, Joins, Laid, Gone, Over, event_at, event_or, fault_of, entered_now, frames_of, plan_of, newborn, handing_of, child_or, table_or, on_store, received, sent, taken, rejoined, reported, happens, unless_fault, lays, after, stop_of, message_of, store_of, config_of, opening, Enters, Leads, IsSystem}
+use Rattle.sp_code.specs.System.{System, Condition, Absent, Working, Waits, Joins, Laid, Gone, Over, event_at, event_or}
+use Rattle.sp_code.specs.System.{fault_of, entered_now, frames_of, plan_of, newborn, handing_of, child_or, table_or}
+use Rattle.sp_code.specs.System.{on_store, received, sent, taken, rejoined, reported, happens, unless_fault, lays}
+use Rattle.sp_code.specs.System.{after, stop_of, message_of, store_of, config_of, opening, Enters, Leads, IsSystem}
 use Rattle.sp_history.specs.Channels.{CellHas, CellsHave, EntriesHave, StopHas, StoreHas, ConfigHas, TurnHas}
 use Rattle.sp_history.specs.Spoken.{Keeps, ConditionHas, IsSpoken}
 use Rattle.sp_history.proofs.Cells.{child_has, handed_has, taken_has, root_has}
@@ -77,7 +81,8 @@ module _ (g : Setting) (C : ℕ → Type 0) where
   abbrev Mine : ℕ → Config (Memory Plain) → Type 0
   Mine q c = ConfigHas C (Keeps C q) c
 
-  at_has : (z : ℕ) (x : Condition Plain) (f : ℕ → Condition Plain) → Has z x → ((r : ℕ) → Has r (f r)) → (r : ℕ) → Has r (at_key ◌==◌ z x f r)
+  at_has : (z : ℕ) (x : Condition Plain) (f : ℕ → Condition Plain) → Has z x → ((r : ℕ) → Has r (f r)) → (r : ℕ)
+      → Has r (at_key ◌==◌ z x f r)
   at_has z x f h a r = go (z == r) refl
     where
       go : (b : Bool) → z == r ≡ b → Has r (cond b x (f r))
@@ -87,16 +92,25 @@ module _ (g : Setting) (C : ℕ → Type 0) where
   store_has : (q : ℕ) (c : Config (Memory Plain)) → Mine q c → StoreHas C plain (store_of c)
   store_has q (At pc st n) h = h.1.1
 
-  on_has : (q : ℕ) (f : Plain → Plain) (c : Config (Memory Plain)) → (StoreHas C plain (store_of c) → StoreHas C plain (f (store_of c))) → Mine q c → Mine q (on_store f c)
+  on_has : (q : ℕ) (f : Plain → Plain) (c : Config (Memory Plain))
+      → (StoreHas C plain (store_of c) → StoreHas C plain (f (store_of c))) → Mine q c → Mine q (on_store f c)
   on_has q f (At pc st n) k h = (h.0, (h.1.0, k h.1.1))
 
   entered_has : (q : ℕ) (c : Config (Memory Plain)) → Mine q c → Mine q (entered_now c)
   entered_has q (At pc st n) h = h
 
-  newborn_has : (q : ℕ) (c : Config (Memory Plain)) (v : ℤ) (r k : ℕ) (child : ChildTable) → Mine q c → Mine r (newborn plain g c v r k child)
-  newborn_has q c v r k child h = (tt, (refl, child_has C (store_of c).map (handing_of g.code.layouts (frames_of c) v k child) (store_has q c h)))
+  newborn_has : (q : ℕ) (c : Config (Memory Plain)) (v : ℤ) (r k : ℕ) (child : ChildTable) → Mine q c
+      → Mine r (newborn plain g c v r k child)
+  newborn_has q c v r k child h = (
+    tt,
+    (
+      refl,
+      child_has C (store_of c).map (handing_of g.code.layouts (frames_of c) v k child) (store_has q c h),
+    ),
+  )
 
-  received_has : (q : ℕ) (cs : List Cell) (x : Condition Plain) → CellsHave C cs → Has q x → Has q (received plain g cs x)
+  received_has : (q : ℕ) (cs : List Cell) (x : Condition Plain) → CellsHave C cs → Has q x
+      → Has q (received plain g cs x)
   received_has q cs Absent k h = tt
   received_has q cs (Working c) k h = h
   received_has q cs (Waits (Receives d j a) c) k h = on_has q _ c (λ w. puts_has g C q a cs (store_of c) w k) h.1
@@ -127,7 +141,8 @@ module _ (g : Setting) (C : ℕ → Type 0) where
   message_has q Gone h = tt
   message_has q (Over c) h = tt
 
-  rejoined_has : (p q : ℕ) (c : Config (Memory Plain)) (x : Condition Plain) → Mine p c → Has q x → Has q (rejoined plain g c x)
+  rejoined_has : (p q : ℕ) (c : Config (Memory Plain)) (x : Condition Plain) → Mine p c → Has q x
+      → Has q (rejoined plain g c x)
   rejoined_has p q c Absent k h = tt
   rejoined_has p q c (Working d) k h = h
   rejoined_has p q c (Waits stop d) k h = h
@@ -147,30 +162,40 @@ module _ (g : Setting) (C : ℕ → Type 0) where
   rejoined_has p q c (Over d) k h = h
 
   module _ (s : System Plain) (q : ℕ) (each : (r : ℕ) → Has r (s.condition r)) where
-    sent_has : (stop : Stop) (ch : ℕ) (cs : List Cell) (c : Config (Memory Plain)) (o : Option ℕ) → StopHas C stop → CellsHave C cs → Mine q c → (r : ℕ) → Has r ((sent plain g q stop ch cs c o s).condition r)
+    sent_has : (stop : Stop) (ch : ℕ) (cs : List Cell) (c : Config (Memory Plain)) (o : Option ℕ) → StopHas C stop
+        → CellsHave C cs → Mine q c → (r : ℕ) → Has r ((sent plain g q stop ch cs c o s).condition r)
     sent_has stop ch cs c None w k h = at_has q (Waits stop c) s.condition (w, h) each
-    sent_has stop ch cs c (Some z) w k h = at_has q (Working c) _ h (at_has z (received plain g cs (s.condition z)) s.condition (received_has z cs (s.condition z) k (each z)) each)
+    sent_has stop ch cs c (Some z) w k h = at_has q (Working c) _ h
+        (at_has z (received plain g cs (s.condition z)) s.condition (received_has z cs (s.condition z) k (each z)) each)
 
-    taken_by : (stop : Stop) (ch : ℕ) (a : Address) (c : Config (Memory Plain)) (o : Option ℕ) → StopHas C stop → Mine q c → (r : ℕ) → Has r ((taken plain g q stop ch a c o s).condition r)
+    taken_by : (stop : Stop) (ch : ℕ) (a : Address) (c : Config (Memory Plain)) (o : Option ℕ) → StopHas C stop
+        → Mine q c → (r : ℕ) → Has r ((taken plain g q stop ch a c o s).condition r)
     taken_by stop ch a c None w h = at_has q (Waits stop c) s.condition (w, h) each
     taken_by stop ch a c (Some z) w h =
         at_has q (Working (on_store (put_cells plain a (message_of plain g (stop_of (s.condition z)))) c)) _
-        (on_has q _ c (λ x. puts_has g C q a (message_of plain g (stop_of (s.condition z))) (store_of c) x (message_has z (s.condition z) (each z))) h)
-        (at_has z (received plain g [] (s.condition z)) s.condition (received_has z [] (s.condition z) tt (each z)) each)
+        (on_has q _ c (λ x. puts_has g C q a (message_of plain g (stop_of (s.condition z))) (store_of c) x
+        (message_has z (s.condition z) (each z))) h)
+        (at_has z (received plain g [] (s.condition z)) s.condition (received_has z [] (s.condition z) tt (each z))
+        each)
 
-    reported_has : (c : Config (Memory Plain)) (o : Option Birth) → Mine q c → (r : ℕ) → Has r ((reported plain g q c o s).condition r)
+    reported_has : (c : Config (Memory Plain)) (o : Option Birth) → Mine q c → (r : ℕ)
+        → Has r ((reported plain g q c o s).condition r)
     reported_has c None h = at_has q (Over c) s.condition h each
-    reported_has c (Some b) h = at_has b.parent (rejoined plain g c (s.condition b.parent)) _ (rejoined_has q b.parent c (s.condition b.parent) h (each b.parent)) (at_has q Gone s.condition tt each)
+    reported_has c (Some b) h = at_has b.parent (rejoined plain g c (s.condition b.parent)) _
+        (rejoined_has q b.parent c (s.condition b.parent) h (each b.parent)) (at_has q Gone s.condition tt each)
 
-    forked_has : (t : ℕ) (v : ℤ) (n : ℕ) (c : Config (Memory Plain)) → Mine q c → (r : ℕ) → Has r ((happens plain g q (Forks t v n) c s).condition r)
+    forked_has : (t : ℕ) (v : ℤ) (n : ℕ) (c : Config (Memory Plain)) → Mine q c → (r : ℕ)
+        → Has r ((happens plain g q (Forks t v n) c s).condition r)
     forked_has t v n c h r = go (is_next s.births n r)
       where
         child : ChildTable
         child = child_or (child_at (table_or (slice_get g.code.forks t)) (r - s.births.processes))
 
-        go : (b : Bool) → Has r (cond b (Working (newborn plain g c v r (r - s.births.processes) child)) (at_key ◌==◌ q (Joins n (on_store (λ m. plain.handed m (plan_of plain g c t v n)) c)) s.condition r))
+        go : (b : Bool) → Has r (cond b (Working (newborn plain g c v r (r - s.births.processes) child))
+            (at_key ◌==◌ q (Joins n (on_store (λ m. plain.handed m (plan_of plain g c t v n)) c)) s.condition r))
         go true = newborn_has q c v r (r - s.births.processes) child h
-        go false = at_has q (Joins n (on_store (λ m. plain.handed m (plan_of plain g c t v n)) c)) s.condition (on_has q _ c (λ x. handed_has C (store_of c).map (plan_of plain g c t v n) x) h) each r
+        go false = at_has q (Joins n (on_store (λ m. plain.handed m (plan_of plain g c t v n)) c)) s.condition
+            (on_has q _ c (λ x. handed_has C (store_of c).map (plan_of plain g c t v n) x) h) each r
 
     -- the channel of an open has the property too
     abbrev Opening : Stop → Type 0
@@ -181,9 +206,11 @@ module _ (g : Setting) (C : ℕ → Type 0) where
     Opening Ends = Unit {0}
     Opening Pauses = Unit {0}
 
-    happens_has : (stop : Stop) (c : Config (Memory Plain)) → StopHas C stop → Mine q c → Opening stop → (r : ℕ) → Has r ((happens plain g q stop c s).condition r)
+    happens_has : (stop : Stop) (c : Config (Memory Plain)) → StopHas C stop → Mine q c → Opening stop → (r : ℕ)
+        → Has r ((happens plain g q stop c s).condition r)
     happens_has (Forks t v n) c w h o r = forked_has t v n c h r
-    happens_has (Opens a) c w h o r = at_has q (Working _) s.condition (on_has q _ c (λ x. put_has g C q a (cell.Channel s.births.channels) (store_of c) x o) h) each r
+    happens_has (Opens a) c w h o r = at_has q (Working _) s.condition
+        (on_has q _ c (λ x. put_has g C q a (cell.Channel s.births.channels) (store_of c) x o) h) each r
     happens_has (Sends ch k cs) c w h o r = sent_has (Sends ch k cs) ch cs c (s.pending ch) w w.1 h r
     happens_has (Receives ch k a) c w h o r = taken_by (Receives ch k a) ch a c (s.pending ch) w h r
     happens_has Ends c w h o r = reported_has c (s.births.birth q) h r
@@ -208,7 +235,8 @@ abbrev B : System Plain → ℕ → Event → ℕ → Type 0
 B s q e c = c < (after_event s.births q e).channels
 
 module _ (g : Setting) where
-  after_spoken : (s : System Plain) (q : ℕ) (t : Turn (Memory Plain)) → IsSpoken s → TurnHas (λ c. c < s.births.channels) (Keeps (λ c. c < s.births.channels) q) t → IsSpoken (after plain g q t s)
+  after_spoken : (s : System Plain) (q : ℕ) (t : Turn (Memory Plain)) → IsSpoken s
+      → TurnHas (λ c. c < s.births.channels) (Keeps (λ c. c < s.births.channels) q) t → IsSpoken (after plain g q t s)
   after_spoken s q t h k r = go s.faulted
     where
       weak : (e : Event) (c : ℕ) → c < s.births.channels → B s q e c
@@ -217,10 +245,15 @@ module _ (g : Setting) where
       all : (e : Event) (x : ℕ) → ConditionHas (B s q e) x (s.condition x)
       all e x = condition_weak (λ c. c < s.births.channels) (B s q e) (weak e) x (s.condition x) (h x)
 
-      laid : (e : Event) (c : Config (Memory Plain)) → ConfigHas (λ c. c < s.births.channels) (Keeps (λ c. c < s.births.channels) q) c → ConditionHas (B s q e) r ((lays plain g q c s).condition r)
-      laid e c w = lays_has g (B s q e) s q (all e) c (config_weak (λ c. c < s.births.channels) (B s q e) (weak e) q c w) r
+      laid : (e : Event) (c : Config (Memory Plain))
+          → ConfigHas (λ c. c < s.births.channels) (Keeps (λ c. c < s.births.channels) q) c
+          → ConditionHas (B s q e) r ((lays plain g q c s).condition r)
+      laid e c w = lays_has g (B s q e) s q (all e) c
+          (config_weak (λ c. c < s.births.channels) (B s q e) (weak e) q c w) r
 
-      config_has : (x : Turn (Memory Plain)) → TurnHas (λ c. c < s.births.channels) (Keeps (λ c. c < s.births.channels) q) x → ConfigHas (λ c. c < s.births.channels) (Keeps (λ c. c < s.births.channels) q) (config_of x)
+      config_has : (x : Turn (Memory Plain))
+          → TurnHas (λ c. c < s.births.channels) (Keeps (λ c. c < s.births.channels) q) x
+          → ConfigHas (λ c. c < s.births.channels) (Keeps (λ c. c < s.births.channels) q) (config_of x)
       config_has (Stopped stop c) w = w.1
       config_has (Faulted f c) w = w
 
@@ -232,26 +265,38 @@ module _ (g : Setting) where
       opened Ends = tt
       opened Pauses = tt
 
-      by_fault : (o : Option Fault) (x : Turn (Memory Plain)) → TurnHas (λ c. c < s.births.channels) (Keeps (λ c. c < s.births.channels) q) x → ConditionHas (B s q (event_or o x)) r ((unless_fault plain g o q x s).condition r)
+      by_fault : (o : Option Fault) (x : Turn (Memory Plain))
+          → TurnHas (λ c. c < s.births.channels) (Keeps (λ c. c < s.births.channels) q) x
+          → ConditionHas (B s q (event_or o x)) r ((unless_fault plain g o q x s).condition r)
       by_fault (Some f) x w = laid (event_or (Some f) x) (config_of x) (config_has x w)
       by_fault None (Faulted f c) w = laid (event.Fault f) c w
       by_fault None (Stopped stop c) w =
           let e : Event = event_at stop in
-          happens_has g (B s q e) s q (all e) stop (entered_now c) (stop_weak (λ c. c < s.births.channels) (B s q e) (weak e) stop w.0)
-          (entered_has g (B s q e) q c (config_weak (λ c. c < s.births.channels) (B s q e) (weak e) q c w.1)) (opened stop) r
+          happens_has g (B s q e) s q (all e) stop (entered_now c)
+          (stop_weak (λ c. c < s.births.channels) (B s q e) (weak e) stop w.0)
+          (entered_has g (B s q e) q c (config_weak (λ c. c < s.births.channels) (B s q e) (weak e) q c w.1))
+          (opened stop) r
 
-      go : (b : Bool) → ConditionHas (B s q (if b then event.Laid else event_or (fault_of g.limits s t) t)) r ((if b then lays plain g q (config_of t) s else unless_fault plain g (fault_of g.limits s t) q t s).condition r)
+      go : (b : Bool) → ConditionHas (B s q (if b then event.Laid else event_or (fault_of g.limits s t) t)) r
+          ((if b then lays plain g q (config_of t) s else unless_fault plain g (fault_of g.limits s t) q t s).condition
+          r)
       go true = laid event.Laid (config_of t) (config_has t k)
       go false = by_fault (fault_of g.limits s t) t k
 
-  pub turn_spoken : (s : System Plain) (q : ℕ) (c : Config (Memory Plain)) (t : Turn (Memory Plain)) → IsSpoken s → s.condition q ≡ Working c → IsTurn (memory plain g) g.code c t → TurnHas (λ c. c < s.births.channels) (Keeps (λ c. c < s.births.channels) q) t
+  pub turn_spoken : (s : System Plain) (q : ℕ) (c : Config (Memory Plain)) (t : Turn (Memory Plain)) → IsSpoken s
+      → s.condition q ≡ Working c → IsTurn (memory plain g) g.code c t
+      → TurnHas (λ c. c < s.births.channels) (Keeps (λ c. c < s.births.channels) q) t
   turn_spoken s q c t h e turn =
-      turn_has (memory plain g) g.code (λ c. c < s.births.channels) (Keeps (λ c. c < s.births.channels) q) (keeping g (λ c. c < s.births.channels) q) c t (subst (ConditionHas (λ c. c < s.births.channels) q) e (h q)) turn
+      turn_has (memory plain g) g.code (λ c. c < s.births.channels) (Keeps (λ c. c < s.births.channels) q)
+      (keeping g (λ c. c < s.births.channels) q) c t (subst (ConditionHas (λ c. c < s.births.channels) q) e (h q))
+      turn
 
-  pub enters_spoken : (s : System Plain) (q : ℕ) (e : Event) (t : System Plain) → IsSpoken s → Enters plain g s q e t → IsSpoken t
+  pub enters_spoken : (s : System Plain) (q : ℕ) (e : Event) (t : System Plain) → IsSpoken s → Enters plain g s q e t
+      → IsSpoken t
   enters_spoken s q e t h n = subst IsSpoken (sym n.5) (after_spoken s q n.2 h (turn_spoken s q n.0 n.2 h n.1 n.3))
 
-  leads_spoken : (s : System Plain) (es : List Entry) (t : System Plain) → IsSpoken s → Leads plain g s es t → IsSpoken t
+  leads_spoken : (s : System Plain) (es : List Entry) (t : System Plain) → IsSpoken s → Leads plain g s es t
+      → IsSpoken t
   leads_spoken s [] t h l = subst IsSpoken (sym l) h
   leads_spoken s (e ∷ es) t h l = leads_spoken l.0 es t (enters_spoken s e.process e.event l.0 h l.1) l.2
 
@@ -266,5 +311,7 @@ module _ (g : Setting) where
   system_spoken es s l = leads_spoken (opening plain g) es s opening_spoken l
 
   -- an offer speaks of a channel that is there
-  pub offer_there : (es : List Entry) (s : System Plain) (q : ℕ) (c d : Config (Memory Plain)) (stop : Stop) → IsSystem plain g es s → s.condition q ≡ Working c → IsTurn (memory plain g) g.code c (Stopped stop d) → StopHas (λ c. c < s.births.channels) stop
+  pub offer_there : (es : List Entry) (s : System Plain) (q : ℕ) (c d : Config (Memory Plain)) (stop : Stop)
+      → IsSystem plain g es s → s.condition q ≡ Working c → IsTurn (memory plain g) g.code c (Stopped stop d)
+      → StopHas (λ c. c < s.births.channels) stop
   offer_there es s q c d stop l e turn = (turn_spoken s q c (Stopped stop d) (system_spoken es s l) e turn).0

@@ -1,5 +1,6 @@
 -- A note of one worker leaves a process that is out with another as it is.
-use Rattle.std.proofs.Common.{◌≡◌, ◌≢◌, ◌⊎◌, ℕ, ◌-◌, ◌<◌, ◌==◌, inl, inr, Bool, true, false, if◌then◌else◌, List, [], Option, Some, None, refl, sym, ap, ◌∙◌, subst}
+use Rattle.std.proofs.Common.{◌≡◌, ◌≢◌, ◌⊎◌, ℕ, ◌-◌, ◌<◌, ◌==◌, inl, inr, Bool, true, false, if◌then◌else◌, List, []}
+use Rattle.std.proofs.Common.{Option, Some, None, refl, sym, ap, ◌∙◌, subst}
 use Rattle.sp_base.specs.declared.fault.Fault.{Fault}
 use Rattle.sp_cell.specs.declared.cell.Cell.{Cell}
 use Rattle.sp_cell.specs.declared.spot.Address.{Address}
@@ -12,8 +13,11 @@ use Rattle.sp_journal.specs.Maps.{at_key}
 use Rattle.sp_code.specs.Machine.{Stop, Forks, Opens, Sends, Receives, Ends, Pauses, Config}
 use Rattle.sp_code.specs.Turns.{Turn, Stopped, Faulted}
 use Rattle.sp_code.specs.Memory.{Setting, Stores, Memory}
-use Rattle.sp_code.specs.Control.{Control, Doing, Unborn, Ready, Out, Sending, Receiving, Joining, Laid, Ended, Gone, does, queues, offers, one_fewer, reports, comes_back}
-use Rattle.sp_code.specs.System.{System, Condition, Working, Waits, Joins, Laid as IsLaid, Gone as HasGone, Over, fault_of, entered_now, received, sent, taken, rejoined, reported, happens, unless_fault, lays, after, config_of}
+use Rattle.sp_code.specs.Control.{Control, Doing, Unborn, Ready, Out, Sending, Receiving, Joining, Laid, Ended, Gone}
+use Rattle.sp_code.specs.Control.{does, queues, offers, one_fewer, reports, comes_back}
+use Rattle.sp_code.specs.System.{System, Condition, Working, Waits, Joins, Laid as IsLaid, Gone as HasGone, Over}
+use Rattle.sp_code.specs.System.{fault_of, entered_now, received, sent, taken, rejoined, reported, happens}
+use Rattle.sp_code.specs.System.{unless_fault, lays, after, config_of}
 use Rattle.sp_history.specs.Agreement.{IsOrderly, waits_by}
 use Rattle.sp_history.proofs.Queues.{number_or, at_same, at_other}
 use Rattle.sp_history.proofs.Orders.{there_of, next_not}
@@ -21,31 +25,42 @@ use Rattle.sp_history.proofs.Orders.{there_of, next_not}
 -- ---- the system
 
 module _ {S : Type 0} (stores : Stores S) (g : Setting) where
-  same_at : (z p : ℕ) (x : Condition S) (m : ℕ → Condition S) (c : Config (Memory S)) → (z ≡ p → x ≡ Working c) → m p ≡ Working c → at_key ◌==◌ z x m p ≡ Working c
+  same_at : (z p : ℕ) (x : Condition S) (m : ℕ → Condition S) (c : Config (Memory S)) → (z ≡ p → x ≡ Working c)
+      → m p ≡ Working c → at_key ◌==◌ z x m p ≡ Working c
   same_at z p x m c e h = go (number_or z p)
     where
       go : (z ≡ p) ⊎ ((z ≢ p) × (z == p ≡ false)) → at_key ◌==◌ z x m p ≡ Working c
       go (inl is) = subst (λ y. at_key ◌==◌ z x m y ≡ x) is (at_same m z x) ∙ e is
       go (inr o) = at_other m z p x o.0 ∙ h
 
-  module _ (s : System S) (p q : ℕ) (c : Config (Memory S)) (runs : s.condition p ≡ Working c) (there : p < s.births.processes) (apart : q ≢ p) where
+  module _ (s : System S) (p q : ℕ) (c : Config (Memory S)) (runs : s.condition p ≡ Working c)
+      (there : p < s.births.processes) (apart : q ≢ p) where
     received_same : (cs : List Cell) (z : ℕ) → z ≡ p → received stores g cs (s.condition z) ≡ Working c
     received_same cs z e = ap (received stores g cs) (ap s.condition e ∙ runs)
 
-    sent_same : (stop : Stop) (ch : ℕ) (cs : List Cell) (d : Config (Memory S)) (o : Option ℕ) → (sent stores g q stop ch cs d o s).condition p ≡ Working c
+    sent_same : (stop : Stop) (ch : ℕ) (cs : List Cell) (d : Config (Memory S)) (o : Option ℕ)
+        → (sent stores g q stop ch cs d o s).condition p ≡ Working c
     sent_same stop ch cs d None = same_at q p (Waits stop d) s.condition c (λ e. absurd (apart e)) runs
-    sent_same stop ch cs d (Some z) = same_at q p (Working d) (at_key ◌==◌ z (received stores g cs (s.condition z)) s.condition) c (λ e. absurd (apart e)) (same_at z p (received stores g cs (s.condition z)) s.condition c (received_same cs z) runs)
+    sent_same stop ch cs d (Some z) = same_at q p (Working d)
+        (at_key ◌==◌ z (received stores g cs (s.condition z)) s.condition) c (λ e. absurd (apart e))
+        (same_at z p (received stores g cs (s.condition z)) s.condition c (received_same cs z) runs)
 
-    taken_same : (stop : Stop) (ch : ℕ) (a : Address) (d : Config (Memory S)) (o : Option ℕ) → (taken stores g q stop ch a d o s).condition p ≡ Working c
+    taken_same : (stop : Stop) (ch : ℕ) (a : Address) (d : Config (Memory S)) (o : Option ℕ)
+        → (taken stores g q stop ch a d o s).condition p ≡ Working c
     taken_same stop ch a d None = same_at q p (Waits stop d) s.condition c (λ e. absurd (apart e)) runs
-    taken_same stop ch a d (Some z) = same_at q p (Working _) (at_key ◌==◌ z (received stores g [] (s.condition z)) s.condition) c (λ e. absurd (apart e)) (same_at z p (received stores g [] (s.condition z)) s.condition c (received_same [] z) runs)
+    taken_same stop ch a d (Some z) = same_at q p (Working _)
+        (at_key ◌==◌ z (received stores g [] (s.condition z)) s.condition) c (λ e. absurd (apart e))
+        (same_at z p (received stores g [] (s.condition z)) s.condition c (received_same [] z) runs)
 
     reported_same : (d : Config (Memory S)) (o : Option Birth) → (reported stores g q d o s).condition p ≡ Working c
     reported_same d None = same_at q p (Over d) s.condition c (λ e. absurd (apart e)) runs
-    reported_same d (Some b) = same_at b.parent p _ (at_key ◌==◌ q HasGone s.condition) c (λ e. ap (rejoined stores g d) (ap s.condition e ∙ runs)) (same_at q p HasGone s.condition c (λ e. absurd (apart e)) runs)
+    reported_same d (Some b) = same_at b.parent p _ (at_key ◌==◌ q HasGone s.condition) c
+        (λ e. ap (rejoined stores g d) (ap s.condition e ∙ runs))
+        (same_at q p HasGone s.condition c (λ e. absurd (apart e)) runs)
 
     happens_same : (stop : Stop) (d : Config (Memory S)) → (happens stores g q stop d s).condition p ≡ Working c
-    happens_same (Forks t v n) d = rw (next_not s.births n p there) (same_at q p (Joins n _) s.condition c (λ e. absurd (apart e)) runs)
+    happens_same (Forks t v n) d = rw (next_not s.births n p there)
+        (same_at q p (Joins n _) s.condition c (λ e. absurd (apart e)) runs)
     happens_same (Opens a) d = same_at q p (Working _) s.condition c (λ e. absurd (apart e)) runs
     happens_same (Sends ch k cs) d = sent_same (Sends ch k cs) ch cs d (s.pending ch)
     happens_same (Receives ch k a) d = taken_same (Receives ch k a) ch a d (s.pending ch)
@@ -64,7 +79,8 @@ module _ {S : Type 0} (stores : Stores S) (g : Setting) where
         by_fault None (Faulted f d) = lays_same d
         by_fault None (Stopped stop d) = happens_same stop (entered_now d)
 
-        go : (b : Bool) → (if b then lays stores g q (config_of turn) s else unless_fault stores g (fault_of g.limits s turn) q turn s).condition p ≡ Working c
+        go : (b : Bool) → (if b then lays stores g q (config_of turn) s else
+            unless_fault stores g (fault_of g.limits s turn) q turn s).condition p ≡ Working c
         go true = lays_same (config_of turn)
         go false = by_fault (fault_of g.limits s turn) turn
 
@@ -74,9 +90,11 @@ module _ (k : Control) (h : IsOrderly k) (p u q : ℕ) (out : k.doing p ≡ Out 
   at_q : (d : Doing) → at_key ◌==◌ q d k.doing p ≡ Out u
   at_q d = at_other k.doing q p d apart ∙ out
 
-  offers_out : (w : Way) (waits : Doing) (c : ℕ) (o : Option (Way × ℕ)) → k.pending c ≡ o → (offers w waits q c o k).doing p ≡ Out u
+  offers_out : (w : Way) (waits : Doing) (c : ℕ) (o : Option (Way × ℕ)) → k.pending c ≡ o
+      → (offers w waits q c o k).doing p ≡ Out u
   offers_out w waits c None e = at_q waits
-  offers_out w waits c (Some z) e = at_other (at_key ◌==◌ z.1 Ready k.doing) q p Ready apart ∙ at_other k.doing z.1 p Ready (λ is. no z.0 (sym (h.pending c z.1 z.0 e) ∙ ap k.doing is ∙ out)) ∙ out
+  offers_out w waits c (Some z) e = at_other (at_key ◌==◌ z.1 Ready k.doing) q p Ready apart
+      ∙ at_other k.doing z.1 p Ready (λ is. no z.0 (sym (h.pending c z.1 z.0 e) ∙ ap k.doing is ∙ out)) ∙ out
     where
       no : (v : Way) → waits_by v c ≡ Out u → ⊥
       no way.Send f = absurd (cc f)
@@ -102,7 +120,8 @@ module _ (k : Control) (h : IsOrderly k) (p u q : ℕ) (out : k.doing p ≡ Out 
 
   -- a process that is out stays out when another comes back
   pub back_out : (e : Event) → (comes_back q e k).doing p ≡ Out u
-  back_out (event.Fork n) = rw (next_not k.births n p (there_of h p (Out u) out (λ f. absurd (cc f)))) (at_q (Joining n))
+  back_out (event.Fork n) = rw (next_not k.births n p (there_of h p (Out u) out (λ f. absurd (cc f))))
+      (at_q (Joining n))
   back_out event.Open = at_q Ready
   back_out (event.Send c) = offers_out way.Send (Sending c) c (k.pending c) refl
   back_out (event.Receive c) = offers_out way.Receive (Receiving c) c (k.pending c) refl

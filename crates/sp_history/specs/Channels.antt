@@ -1,3 +1,4 @@
+-- None of this belongs to what the program promises: it is for contracts between crates.
 -- The channels that a process can speak of: those in its operands, its stop and the cells of its store. The law that
 -- all of them were opened is said by it; the property is left open, so that one walk serves all.
 use Rattle.std.specs.Prelude.{ℕ, List, [], ◌∷◌}
@@ -5,7 +6,8 @@ use Rattle.sp_cell.specs.declared.cell.Cell.{Cell}
 use Rattle.sp_cell.specs.declared.cell.Cell.TheVariants as cell
 use Rattle.sp_cell.specs.declared.spot.Spot.{Spot}
 use Rattle.sp_cell.specs.declared.spot.Address.{Address}
-use Rattle.sp_code.specs.Machine.{Entry, Number, Chan, Pointer, Cells, Link, Reply, Stop, Forks, Opens, Sends, Receives, Ends, Pauses, Config, At, One, Goes, Stops, Fails, Stuck}
+use Rattle.sp_code.specs.Machine.{Entry, Number, Chan, Pointer, Cells, Link, Reply, Stop, Forks, Opens, Sends, Receives}
+use Rattle.sp_code.specs.Machine.{Ends, Pauses, Config, At, One, Goes, Stops, Fails, Stuck}
 use Rattle.sp_code.specs.Turns.{Turn, Stopped, Faulted}
 use Rattle.sp_code.specs.Memory.{Stores, cells_at}
 
@@ -68,7 +70,8 @@ module _ (C : ℕ → Type 0) where
     TurnHas (Stopped stop c) = StopHas stop × ConfigHas c
     TurnHas (Faulted f c) = ConfigHas c
 
-    -- so for what comes of an instruction and of a turn, where an address that waits for a channel or a message is one of J
+    -- so for what comes of an instruction and of a turn, where an address that waits for a channel or a message is one
+    -- of J
     module _ (J : ℕ → Address → M → Type 0) where
       abbrev pub TurnDoes : Turn M → Type 0
       TurnDoes (Stopped stop c) = (StopHas stop × AimsAt J stop c) × ConfigHas c

@@ -1,3 +1,4 @@
+-- None of this belongs to what the program promises: it is for contracts between crates.
 -- What the entries of a run have given to each process: no more than their number; and nobody is there without a
 -- number. The proofs of the laws of histories keep it along a run.
 use Rattle.std.specs.Prelude.{◌≡◌, ℕ, ◌≤◌}

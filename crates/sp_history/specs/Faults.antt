@@ -1,3 +1,4 @@
+-- None of this belongs to what the program promises: it is for contracts between crates.
 -- Entries of faults: the law that a journal has one at most is said by it.
 use Rattle.std.specs.Prelude.{◌≡◌}
 use Rattle.sp_base.specs.declared.fault.Fault.{Fault}

@@ -1,3 +1,4 @@
+-- Some of this belongs to what the program promises (docs/promise.txt).
 -- Which process holds the output of a run. The kernel's end reads the output by the law that there is one such
 -- process; what each process has of it is a share, followed along births and ends.
 use Rattle.std.specs.Prelude.{◌≡◌, ◌≢◌, ℕ, List, Option, Some}
@@ -48,17 +49,21 @@ AimsIn (Laid c) = Unit {0}
 AimsIn Gone = Unit {0}
 AimsIn (Over c) = Unit {0}
 
--- the processes with these shares: one holds the output, and no other; a child that is part of it had it from its parent, which
--- lends it, and there is one such child at most; another child was not handed it by one that is part
-pub record IsShared (share : ℕ → Share) (holder : ℕ) (condition : ℕ → Condition Plain) (birth : ℕ → Option Birth) : Type 0 where
+-- the processes with these shares: one holds the output, and no other; a child that is part of it had it from its
+-- parent, which lends it, and there is one such child at most; another child was not handed it by one that is part
+pub record IsShared (share : ℕ → Share) (holder : ℕ) (condition : ℕ → Condition Plain) (birth : ℕ → Option Birth) : Type
+    0 where
   pub holds : share holder ≡ Holds
   pub only : (q : ℕ) → share q ≡ Holds → q ≡ holder
   pub here : (p : Plain) × (store_in (condition holder) ≡ Some p)
   pub stores : (q : ℕ) (p : Plain) → store_in (condition q) ≡ Some p → StoreIs (share q) p
   pub up : (q : ℕ) (b : Birth) → birth q ≡ Some b → IsPart (share q) → share b.parent ≡ Lends
-  pub one : (q r : ℕ) (b d : Birth) → birth q ≡ Some b → birth r ≡ Some d → b.parent ≡ d.parent → IsPart (share q) → IsPart (share r) → q ≡ r
-  pub had : (q : ℕ) (b : Birth) (p : Plain) → birth q ≡ Some b → store_in (condition q) ≡ Some p → IsPart (share q) → In output_spot p.moved
-  pub not_had : (q : ℕ) (b : Birth) (p : Plain) → birth q ≡ Some b → store_in (condition q) ≡ Some p → (IsPart (share q) → ⊥) → IsPart (share b.parent) → In output_spot p.moved → ⊥
+  pub one : (q r : ℕ) (b d : Birth) → birth q ≡ Some b → birth r ≡ Some d → b.parent ≡ d.parent → IsPart (share q)
+      → IsPart (share r) → q ≡ r
+  pub had : (q : ℕ) (b : Birth) (p : Plain) → birth q ≡ Some b → store_in (condition q) ≡ Some p → IsPart (share q)
+      → In output_spot p.moved
+  pub not_had : (q : ℕ) (b : Birth) (p : Plain) → birth q ≡ Some b → store_in (condition q) ≡ Some p
+      → (IsPart (share q) → ⊥) → IsPart (share b.parent) → In output_spot p.moved → ⊥
   pub aims : (q : ℕ) → AimsIn (condition q)
 
 -- the output of a system is held by one process

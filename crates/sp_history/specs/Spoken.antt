@@ -1,3 +1,4 @@
+-- None of this belongs to what the program promises: it is for contracts between crates.
 -- What holds of each process of a system: its number is the one at which it stands, and it speaks of channels that are
 -- there. The laws of histories promise it, and the kernel's contract of a run's end rests on it.
 use Rattle.std.specs.Prelude.{◌≡◌, ℕ, ◌<◌}

@@ -1,5 +1,5 @@
-//! What follows from the definitions of legal histories of the kernel, for every code, input and limits. These functions do
-//! nothing: each one's contract is a law, and whoever rests on the law cites it.
+//! What follows from the definitions of legal histories of the kernel, for every code, input and limits. These
+//! functions do nothing: each one's contract is a law, and whoever rests on the law cites it.
 
 ghost use Rattle.std.specs.Prelude.{◌≡◌, ◌≢◌, ◌<◌, ℕ, List, [], ◌++◌, None, Some, slice_get};
 ghost use Rattle.sp_cell.specs.Map.{Plain};
@@ -22,54 +22,66 @@ ghost use Rattle.sp_history.specs.Lines.{OneByOne};
 ghost use Rattle.sp_history.specs.Faults.{IsFaulty};
 ghost use Rattle.sp_history.specs.Holding.{IsOutputOf};
 
-/// A legal history leads to exactly one system: the one along the journal of its notes. The control of its notes and that
-/// system tell the same of every process; and the control counts the processes that are out.
+/// A legal history leads to exactly one system: the one along the journal of its notes. The control of its notes and
+/// that system tell the same of every process; and the control counts the processes that are out.
 pub fn histories_lead_to_systems()
-    ensures leads { (g : Setting) (ns : List Note) → IsLegal plain g ns → (s : System Plain) × Reaches plain g control_at_start (opening plain g) ns s }
-    ensures legal { (g : Setting) (ns : List Note) (s : System Plain) → Reaches plain g control_at_start (opening plain g) ns s → IsLegal plain g ns }
-    ensures journal { (g : Setting) (ns : List Note) (s : System Plain) → Reaches plain g control_at_start (opening plain g) ns s
+    ensures leads { (g : Setting) (ns : List Note) → IsLegal plain g ns → (s : System Plain)
+        × Reaches plain g control_at_start (opening plain g) ns s }
+    ensures legal { (g : Setting) (ns : List Note) (s : System Plain)
+        → Reaches plain g control_at_start (opening plain g) ns s → IsLegal plain g ns }
+    ensures journal { (g : Setting) (ns : List Note) (s : System Plain)
+        → Reaches plain g control_at_start (opening plain g) ns s
         → IsSystem plain g (entries_of ns) s }
-    ensures one { (g : Setting) (ns : List Note) (s t : System Plain) → Reaches plain g control_at_start (opening plain g) ns s
+    ensures one { (g : Setting) (ns : List Note) (s t : System Plain)
+        → Reaches plain g control_at_start (opening plain g) ns s
         → Reaches plain g control_at_start (opening plain g) ns t → s ≡ t }
-    ensures alike { (g : Setting) (ns : List Note) (s : System Plain) → Reaches plain g control_at_start (opening plain g) ns s
+    ensures alike { (g : Setting) (ns : List Note) (s : System Plain)
+        → Reaches plain g control_at_start (opening plain g) ns s
         → IsOrderly (control ns) × Agrees (control ns) s × HasOuts (control ns) }
 {}
 
-/// While a worker leaves no note, a process that is out with it stays out, in the very same state. Where no process is ready
-/// and none is out or was given up, none runs in the system; and once the run has ended and nothing is out, no history makes
-/// another event.
+/// While a worker leaves no note, a process that is out with it stays out, in the very same state. Where no process is
+/// ready and none is out or was given up, none runs in the system; and once the run has ended and nothing is out, no
+/// history makes another event.
 pub fn histories_keep_what_is_out()
     ensures stays { (g : Setting) (ns more : List Note) (s t : System Plain) (p w : ℕ) (c : Config (Memory Plain))
         → Reaches plain g control_at_start (opening plain g) ns s → Reaches plain g (control ns) s more t
-        → NoneBy w more → (control ns).doing p ≡ Out w → s.condition p ≡ Working c → ((control (ns ++ more)).doing p ≡ Out w) × (t.condition p ≡ Working c) }
-    ensures idle { (g : Setting) (ns : List Note) (s : System Plain) → Reaches plain g control_at_start (opening plain g) ns s
+        → NoneBy w more → (control ns).doing p ≡ Out w → s.condition p ≡ Working c
+        → ((control (ns ++ more)).doing p ≡ Out w) × (t.condition p ≡ Working c) }
+    ensures idle { (g : Setting) (ns : List Note) (s : System Plain)
+        → Reaches plain g control_at_start (opening plain g) ns s
         → (control ns).ready ≡ [] → (control ns).out ≡ 0
         → ((q : ℕ) → (control ns).doing q ≢ Gone) → (q : ℕ) → phase_in (s.condition q) ≢ Running }
     ensures over { (g : Setting) (ns more : List Note) (s t : System Plain)
-        → Reaches plain g control_at_start (opening plain g) ns s → IsOver (control ns) → Reaches plain g (control ns) s more t
+        → Reaches plain g control_at_start (opening plain g) ns s → IsOver (control ns)
+        → Reaches plain g (control ns) s more t
         → entries_of more ≡ [] }
 {}
 
-/// Every process of a run has the number at which it stands, and all channels in its operands, its offer and its variables are
-/// there; so a turn that ends at an offer offers on a channel that is there. The journal of a run with limits of 32 bits is
-/// nameable, and has one fault at most.
+/// Every process of a run has the number at which it stands, and all channels in its operands, its offer and its
+/// variables are there; so a turn that ends at an offer offers on a channel that is there. The journal of a run with
+/// limits of 32 bits is nameable, and has one fault at most.
 pub fn journals_name_what_is_there()
     ensures spoken { (g : Setting) (es : List Entry) (s : System Plain) → IsSystem plain g es s → IsSpoken s }
-    ensures offered { (g : Setting) (es : List Entry) (s : System Plain) (q : ℕ) (c d : Config (Memory Plain)) (stop : Stop)
+    ensures offered { (g : Setting) (es : List Entry) (s : System Plain) (q : ℕ) (c d : Config (Memory Plain))
+        (stop : Stop)
         → IsSystem plain g es s → s.condition q ≡ Working c
         → IsTurn (memory plain g) g.code c (Stopped stop d) → StopHas (IsThere s) stop }
-    ensures nameable { (g : Setting) (es : List Entry) (s : System Plain) → AreLimits g.limits → IsSystem plain g es s → NameableFrom at_start es }
+    ensures nameable { (g : Setting) (es : List Entry) (s : System Plain) → AreLimits g.limits → IsSystem plain g es s
+        → NameableFrom at_start es }
     ensures fault { (g : Setting) (es : List Entry) (s : System Plain) (i j : ℕ) (d e : Entry) → IsSystem plain g es s
         → slice_get es i ≡ Some d → slice_get es j ≡ Some e → IsFaulty d.event → IsFaulty e.event → i ≡ j }
 {}
 
-/// After a legal history the parent of a process that is out waits for its children. Where one worker hands in with each ask what
-/// it holds, the journal is first in, first out.
+/// After a legal history the parent of a process that is out waits for its children. Where one worker hands in with
+/// each ask what it holds, the journal is first in, first out.
 pub fn histories_keep_turns()
     ensures joined { (g : Setting) (ns : List Note) (s : System Plain) (q w : ℕ) (b : Birth)
-        → Reaches plain g control_at_start (opening plain g) ns s → (control ns).doing q ≡ Out w → (control ns).births.birth q ≡ Some b
+        → Reaches plain g control_at_start (opening plain g) ns s → (control ns).doing q ≡ Out w
+        → (control ns).births.birth q ≡ Some b
         → (n : ℕ) × ((control ns).doing b.parent ≡ Joining n) }
-    ensures turns { (g : Setting) (ns : List Note) (s : System Plain) → Reaches plain g control_at_start (opening plain g) ns s
+    ensures turns { (g : Setting) (ns : List Note) (s : System Plain)
+        → Reaches plain g control_at_start (opening plain g) ns s
         → OneByOne None ns → InTurnFrom at_start line_at_start (entries_of ns) }
 {}
 

@@ -1,5 +1,6 @@
 -- What is found from what was found before, and what is broken on the way: it is the first of all these.
-use Rattle.std.proofs.Common.{◌≡◌, ◌⊎◌, inl, inr, ℕ, Bool, true, false, Option, Some, None, List, [], ◌∷◌, refl, sym, ap, ◌∙◌, subst, if◌then◌else◌}
+use Rattle.std.proofs.Common.{◌≡◌, ◌⊎◌, inl, inr, ℕ, Bool, true, false, Option, Some, None, List, [], ◌∷◌, refl, sym}
+use Rattle.std.proofs.Common.{ap, ◌∙◌, subst, if◌then◌else◌}
 use Rattle.std.specs.Ordering.{ordering_reverse, is_lt, is_gt}
 use Rattle.std.specs.declared.cmp.Ordering.{Ordering}
 use Rattle.std.specs.declared.cmp.Ordering.TheVariants.{Less, Equal, Greater}
@@ -49,7 +50,8 @@ finds_none = record {
     go g x (inl e) = (x, e, not_itself x)
     go g x (inr h) = absurd h
 
-pub finds_both : {f h : Found → Found} {P Q : Refusal → Type 0} → Finds f P → Finds h Q → Finds (λ g. h (f g)) (λ r. P r ⊎ Q r)
+pub finds_both : {f h : Found → Found} {P Q : Refusal → Type 0} → Finds f P → Finds h Q
+    → Finds (λ g. h (f g)) (λ r. P r ⊎ Q r)
 finds_both {f = f} {h = h} {P = P} {Q = Q} a b = record {
   among = λ g r e. first g r (b.among (f g) r e);
   least = λ g x e. last g x e;
@@ -63,16 +65,19 @@ finds_both {f = f} {h = h} {P = P} {Q = Q} a b = record {
         go (inr p) = inr (inl p)
     first g r (inr q) = inr (inr q)
 
-    through : (g : Found) (x : Refusal) → (r : Refusal) × (f g ≡ Some r) × (before x r ≡ false) → (r : Refusal) × (h (f g) ≡ Some r) × (before x r ≡ false)
+    through : (g : Found) (x : Refusal) → (r : Refusal) × (f g ≡ Some r) × (before x r ≡ false) → (r : Refusal)
+        × (h (f g) ≡ Some r) × (before x r ≡ false)
     through g x (r, e, n) = let s = b.least (f g) r (inl e) in (s.0, s.1, not_before x r s.0 n s.2)
 
-    last : (g : Found) (x : Refusal) → (g ≡ Some x) ⊎ (P x ⊎ Q x) → (r : Refusal) × (h (f g) ≡ Some r) × (before x r ≡ false)
+    last : (g : Found) (x : Refusal) → (g ≡ Some x) ⊎ (P x ⊎ Q x) → (r : Refusal) × (h (f g) ≡ Some r)
+        × (before x r ≡ false)
     last g x (inl e) = through g x (a.least g x (inl e))
     last g x (inr (inl p)) = through g x (a.least g x (inr p))
     last g x (inr (inr q)) = b.least (f g) x (inr q)
 
 -- the same of what means the same
-pub finds_as : {f h : Found → Found} {P Q : Refusal → Type 0} → ((g : Found) → h g ≡ f g) → ((r : Refusal) → P r → Q r) → ((r : Refusal) → Q r → P r) → Finds f P → Finds h Q
+pub finds_as : {f h : Found → Found} {P Q : Refusal → Type 0} → ((g : Found) → h g ≡ f g) → ((r : Refusal) → P r → Q r)
+    → ((r : Refusal) → Q r → P r) → Finds f P → Finds h Q
 finds_as {f = f} {h = h} {P = P} {Q = Q} same to from a = record {
   among = λ g r e. first g r (a.among g r (sym (same g) ∙ e));
   least = λ g x e. let s = a.least g x (back g x e) in (s.0, same g ∙ s.1, s.2);
@@ -97,7 +102,8 @@ finds_one None = record {
     plain None = refl
     plain (Some x) = refl
 
-    go : (g : Found) (x : Refusal) → (g ≡ Some x) ⊎ (None ≡ Some x) → (r : Refusal) × (lesser g None ≡ Some r) × (before x r ≡ false)
+    go : (g : Found) (x : Refusal) → (g ≡ Some x) ⊎ (None ≡ Some x) → (r : Refusal) × (lesser g None ≡ Some r)
+        × (before x r ≡ false)
     go g x (inl e) = (x, plain g ∙ e, not_itself x)
     go g x (inr e) = absurd (cc e)
 finds_one (Some y) = record {
@@ -113,13 +119,15 @@ finds_one (Some y) = record {
     first None r e = inr e
     first (Some z) r e = by z r (before y z) e
 
-    pick : (z x : Refusal) (b : Bool) → before y z ≡ b → (Some z ≡ Some x) ⊎ (Some y ≡ Some x) → (r : Refusal) × ((if b then Some y else Some z) ≡ Some r) × (before x r ≡ false)
+    pick : (z x : Refusal) (b : Bool) → before y z ≡ b → (Some z ≡ Some x) ⊎ (Some y ≡ Some x) → (r : Refusal)
+        × ((if b then Some y else Some z) ≡ Some r) × (before x r ≡ false)
     pick z x true e (inl h) = (y, refl, subst (λ w. before w y ≡ false) (same_Some z x h) (not_back y z e))
     pick z x true e (inr h) = (y, refl, subst (λ w. before w y ≡ false) (same_Some y x h) (not_itself y))
     pick z x false e (inl h) = (z, refl, subst (λ w. before w z ≡ false) (same_Some z x h) (not_itself z))
     pick z x false e (inr h) = (z, refl, subst (λ w. before w z ≡ false) (same_Some y x h) e)
 
-    last : (g : Found) (x : Refusal) → (g ≡ Some x) ⊎ (Some y ≡ Some x) → (r : Refusal) × (lesser g (Some y) ≡ Some r) × (before x r ≡ false)
+    last : (g : Found) (x : Refusal) → (g ≡ Some x) ⊎ (Some y ≡ Some x) → (r : Refusal) × (lesser g (Some y) ≡ Some r)
+        × (before x r ≡ false)
     last None x (inl h) = absurd (cc h)
     last None x (inr h) = (y, refl, subst (λ w. before w y ≡ false) (same_Some y x h) (not_itself y))
     last (Some z) x h = pick z x (before y z) refl h

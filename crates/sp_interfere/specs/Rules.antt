@@ -1,7 +1,9 @@
+-- None of this belongs to what the program promises: it is for contracts between crates.
 -- The rules of interference at each place where one could be broken, and the first that is broken: of what was found
 -- before and what is broken here. The contracts of this crate follow it; it asks the sets that were computed, where
 -- sp_tree's Interferes asks paths.
-use Rattle.std.specs.Prelude.{ℕ, zero, suc, ◌==◌, ◌||◌, ◌&&◌, List, [], ◌∷◌, ◌++◌, length, Bool, true, false, Option, Some, None, slice_get}
+use Rattle.std.specs.Prelude.{ℕ, zero, suc, ◌==◌, ◌||◌, ◌&&◌, List, [], ◌∷◌, ◌++◌, length, Bool, true, false, Option}
+use Rattle.std.specs.Prelude.{Some, None, slice_get}
 use Rattle.std.specs.List.{list_any}
 use Rattle.sp_base.specs.declared.place.Place.{Place}
 use Rattle.sp_base.specs.declared.rule.Rule.TheVariants as rule
@@ -9,7 +11,8 @@ use Rattle.sp_tree.specs.declared.checked.Role.{Role}
 use Rattle.sp_tree.specs.declared.checked.Role.TheVariants as role
 use Rattle.sp_tree.specs.declared.checked.Variable as declared
 use Rattle.sp_tree.specs.Found.{Found, breaks_if, lesser}
-use Rattle.sp_tree.specs.PlainChecked.{Actuals, Nothing, Pass, ByValue, ByReference, Entire, Statement, Does, Statements, NoStatement, AndThen, Block, Program}
+use Rattle.sp_tree.specs.PlainChecked.{Actuals, Nothing, Pass, ByValue, ByReference, Entire, Statement, Does}
+use Rattle.sp_tree.specs.PlainChecked.{Statements, NoStatement, AndThen, Block, Program}
 use Rattle.sp_tree.specs.Sites.{Site, SplitsAt, SpreadsAt, LoopsAt, CallsAt, StopsAt}
 use Rattle.sp_tree.specs.Interferes.{place_of}
 use Rattle.sp_varsets.specs.declared.sets.Sets.{Sets}
@@ -62,19 +65,22 @@ module _ (s : Sets) where
   abbrev pub parts_first : List ℕ → Statements → Found → Found
   parts_first earlier NoStatement given = given
   parts_first earlier (AndThen t rest) given =
-      parts_first (earlier ++ number_of t ∷ []) rest (lesser given (breaks_if rule.I1 (place_of t) (clashes s earlier (number_of t))))
+      parts_first (earlier ++ number_of t ∷ []) rest
+      (lesser given (breaks_if rule.I1 (place_of t) (clashes s earlier (number_of t))))
 
   -- I4 at each variable parameter of a call, behind earlier ones
   abbrev pub repeats_first : List ℕ → Actuals → Found → Found
   repeats_first earlier Nothing given = given
   repeats_first earlier (Pass (ByValue e) rest) given = repeats_first earlier rest given
-  repeats_first earlier (Pass (ByReference (Entire y at ss)) rest) given = repeats_first (earlier ++ y ∷ []) rest (lesser given (breaks_if rule.I4 at (is_among y earlier)))
+  repeats_first earlier (Pass (ByReference (Entire y at ss)) rest) given =
+      repeats_first (earlier ++ y ∷ []) rest (lesser given (breaks_if rule.I4 at (is_among y earlier)))
 
   -- I5 at each variable parameter of a call of block f
   abbrev pub passed_first : ℕ → Actuals → Found → Found
   passed_first f Nothing given = given
   passed_first f (Pass (ByValue e) rest) given = passed_first f rest given
-  passed_first f (Pass (ByReference (Entire y at ss)) rest) given = passed_first f rest (lesser given (breaks_if rule.I5 at (has_implicit s f y)))
+  passed_first f (Pass (ByReference (Entire y at ss)) rest) given =
+      passed_first f rest (lesser given (breaks_if rule.I5 at (has_implicit s f y)))
 
 module _ (s : Sets) (c : Program) where
   -- I6 at the heading of block f, which is called in block d
@@ -84,14 +90,19 @@ module _ (s : Sets) (c : Program) where
   -- I5, I6 and I9 at a call in block d
   abbrev pub called_first : Bool → ℕ → ℕ → Place → Actuals → Option Block → Found → Found
   called_first in_function d f at args None given = given
-  called_first in_function d f at args (Some k) given = lesser (lesser (passed_first s f args given) (inside_rule d f k.at)) (breaks_if rule.I9 at (in_function && stops_of s f))
+  called_first in_function d f at args (Some k) given =
+      lesser (lesser (passed_first s f args given) (inside_rule d f k.at))
+      (breaks_if rule.I9 at (in_function && stops_of s f))
 
   -- at a site in block d, which is a function or not
   abbrev pub site_first : Bool → ℕ → Site → Found → Found
   site_first in_function d (SplitsAt parts) given = parts_first s [] parts given
-  site_first in_function d (SpreadsAt at x t) given = lesser given (breaks_if rule.I2 at (some_in (targets_of s (number_of t)) is_any))
-  site_first in_function d (LoopsAt x at t) given = lesser given (breaks_if rule.I3 at (has (targets_of s (number_of t)) x))
-  site_first in_function d (CallsAt f at args) given = called_first in_function d f at args (slice_get c.blocks f) (repeats_first s [] args given)
+  site_first in_function d (SpreadsAt at x t) given =
+      lesser given (breaks_if rule.I2 at (some_in (targets_of s (number_of t)) is_any))
+  site_first in_function d (LoopsAt x at t) given =
+      lesser given (breaks_if rule.I3 at (has (targets_of s (number_of t)) x))
+  site_first in_function d (CallsAt f at args) given =
+      called_first in_function d f at args (slice_get c.blocks f) (repeats_first s [] args given)
   site_first in_function d (StopsAt at) given = lesser given (breaks_if rule.I9 at in_function)
 
   -- I7 at a parameter of a function
@@ -107,12 +118,14 @@ module _ (s : Sets) (c : Program) where
   -- I7 and I8 at the heading of a function
   abbrev pub heading_first : Option ℕ → ℕ → Block → Found → Found
   heading_first None b k given = given
-  heading_first (Some x) b k given = lesser (formals_first k.formals given) (breaks_if rule.I8 k.at (some_in (implicit_targets_of s b) is_any))
+  heading_first (Some x) b k given = lesser (formals_first k.formals given)
+      (breaks_if rule.I8 k.at (some_in (implicit_targets_of s b) is_any))
 
   -- the blocks from a number on
   abbrev pub blocks_first : ℕ → List Block → Found → Found
   blocks_first b [] given = given
-  blocks_first b (k ∷ ks) given = blocks_first (suc b) ks (statement_first (site_first (is_function k.answer) b) k.body (heading_first k.answer b k given))
+  blocks_first b (k ∷ ks) given = blocks_first (suc b) ks
+      (statement_first (site_first (is_function k.answer) b) k.body (heading_first k.answer b k given))
 
   -- the first broken rule of interference of a program
   abbrev pub rules_first : Found

@@ -1,3 +1,4 @@
+-- None of this belongs to what the program promises: it is for contracts between crates.
 -- Tests on the sets of statements and blocks: what the rules ask of them. The contracts of `asked` and of the process
 -- statements cite it.
 use Rattle.std.specs.Prelude.{◌≡◌, ◌<◌, ℕ, zero, suc, ◌*◌, ◌||◌, ◌&&◌, List, length, Bool, true, false}
@@ -34,7 +35,8 @@ meets a b = some_in a (has b)
 module _ (s : Sets) where
   -- of two statements, a target of one is a target or an expression variable of the other
   abbrev pub clash : ℕ → ℕ → Bool
-  clash m n = meets (targets_of s n) (targets_of s m) || (meets (targets_of s n) (expressions_of s m) || meets (expressions_of s n) (targets_of s m))
+  clash m n = meets (targets_of s n) (targets_of s m)
+      || (meets (targets_of s n) (expressions_of s m) || meets (expressions_of s n) (targets_of s m))
 
   -- the statement clashes with one of these
   abbrev pub clashes : List ℕ → ℕ → Bool

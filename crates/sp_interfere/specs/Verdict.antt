@@ -1,3 +1,4 @@
+-- None of this belongs to what the program promises: it is for contracts between crates.
 -- What the phase of interference answers: the contract of the check, in the words of sp_tree's rules and of no set.
 use Rattle.std.specs.Prelude.{Result, Ok, Err}
 use Rattle.sp_base.specs.declared.place.Place.{Place}

@@ -1,9 +1,16 @@
+-- None of this belongs to what the program promises: it is for contracts between crates.
 -- The way through a tree, site by site, in the order of the text: what is found from what was found before. The
 -- contracts of the walks cite it; what is done at a site is left open.
 use Rattle.std.specs.Prelude.{ℕ, List, [], ◌∷◌, Option, Some, None}
 use Rattle.sp_base.specs.declared.place.Place.{Place}
 use Rattle.sp_tree.specs.Found.{Found}
-use Rattle.sp_tree.specs.PlainChecked.{Expression, At, ExpressionForm, Number, Read, Unary, Binary, Apply, Standard, Variable, Entire, Selectors, Whole, Select, Index, Field, Actuals, Nothing, Pass, ByValue, ByReference, Expressions, NoExpression, AndExpression, Statement, Does, Form, Empty, Assign, Call, Sequence, If, While, Repeat, For, Case, Parallel, Forall, Assume, ReadValue, ReadLine, WriteValue, WriteText, WriteLine, Open, Send, Receive, Other, NoElse, Else, Statements, NoStatement, AndThen, On, Arms, NoArm, Or}
+use Rattle.sp_tree.specs.PlainChecked.{Expression, At, ExpressionForm, Number, Read, Unary, Binary, Apply, Standard}
+use Rattle.sp_tree.specs.PlainChecked.{Variable, Entire, Selectors, Whole, Select, Index, Field, Actuals, Nothing, Pass}
+use Rattle.sp_tree.specs.PlainChecked.{ByValue, ByReference, Expressions, NoExpression, AndExpression, Statement, Does}
+use Rattle.sp_tree.specs.PlainChecked.{Form, Empty, Assign, Call, Sequence, If, While, Repeat, For, Case, Parallel}
+use Rattle.sp_tree.specs.PlainChecked.{Forall, Assume, ReadValue, ReadLine, WriteValue, WriteText, WriteLine, Open}
+use Rattle.sp_tree.specs.PlainChecked.{Send, Receive, Other, NoElse, Else, Statements, NoStatement, AndThen, On, Arms}
+use Rattle.sp_tree.specs.PlainChecked.{NoArm, Or}
 use Rattle.sp_tree.specs.Sites.{Site, SplitsAt, SpreadsAt, LoopsAt, CallsAt, StopsAt}
 
 -- from one item to the next
@@ -57,10 +64,13 @@ module _ (site : Site → Found → Found) where
     statement_form_first at (If e s o) given = other_first o (statement_first s (expression_first e given))
     statement_form_first at (While e s) given = statement_first s (expression_first e given)
     statement_form_first at (Repeat s e) given = statement_first s (expression_first e given)
-    statement_form_first at (For x name from down to s) given = statement_first s (expression_first to (expression_first from (site (LoopsAt x name s) given)))
+    statement_form_first at (For x name from down to s) given =
+        statement_first s (expression_first to (expression_first from (site (LoopsAt x name s) given)))
     statement_form_first at (Case e arms) given = arms_first arms (expression_first e given)
     statement_form_first at (Parallel ss) given = statements_first ss (site (StopsAt at) (site (SplitsAt ss) given))
-    statement_form_first at (Forall x from to s) given = statement_first s (expression_first to (expression_first from (site (StopsAt at) (site (SpreadsAt at x s) given))))
+    statement_form_first at (Forall x from to s) given =
+        statement_first s (expression_first to
+        (expression_first from (site (StopsAt at) (site (SpreadsAt at x s) given))))
     statement_form_first at (Assume e) given = expression_first e given
     statement_form_first at (ReadValue v) given = variable_first v (site (StopsAt at) given)
     statement_form_first at ReadLine given = site (StopsAt at) given

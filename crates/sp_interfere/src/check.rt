@@ -6,7 +6,8 @@ ghost use Rattle.sp_tree.specs.CheckedOf.{block_of, program_of};
 ghost use Rattle.sp_tree.specs.Found.{outcome};
 ghost use Rattle.sp_varsets.specs.AreSets.{AreSets, HaveEarlierParents, implicit_targets_of};
 ghost use Rattle.sp_interfere.specs.Tests.{some_in, is_any};
-ghost use Rattle.sp_interfere.specs.Rules.{is_reference, is_function, formal_rule, formals_first, heading_first, blocks_first, rules_first};
+ghost use Rattle.sp_interfere.specs.Rules.{is_reference, is_function, formal_rule, formals_first, heading_first};
+ghost use Rattle.sp_interfere.specs.Rules.{blocks_first, rules_first};
 ghost use Rattle.sp_interfere.specs.Verdict.{IsVerdict};
 
 use crate::asked::is_any;
@@ -93,15 +94,16 @@ fn rules_first(c: &Checked, s: &Sets) -> Found
     first
 }
 
-/// Whether the program breaks no rule of interference (I1 to I9) by these sets, or the first that it breaks so, with its
-/// place. Where the sets are those that `sets_of` gives of it, that is the verdict on the program itself. It takes no
-/// memory.
+/// Whether the program breaks no rule of interference (I1 to I9) by these sets, or the first that it breaks so, with
+/// its place. Where the sets are those that `sets_of` gives of it, that is the verdict on the program itself. It takes
+/// no memory.
 ///
 /// It recurses as deep as the longest chain of operators is long.
 pub fn check_sets(checked: &Checked, sets: &Sets) -> Result<(), Refusal>
     requires { length checked.now.blocks ≤ 2 ^ 32 }
     ensures first { result ≡ outcome (rules_first sets.now (program_of checked.now)) tt }
-    ensures verdict { AreSets (program_of checked.now) sets.now → HaveEarlierParents (program_of checked.now) → IsVerdict (program_of checked.now) result }
+    ensures verdict { AreSets (program_of checked.now) sets.now → HaveEarlierParents (program_of checked.now)
+        → IsVerdict (program_of checked.now) result }
 {
     match rules_first(checked, sets) {
         None => Ok(()),

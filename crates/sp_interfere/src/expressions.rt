@@ -1,9 +1,11 @@
 //! The way through expressions, variables and arguments, to the rules at the calls in them.
 
 ghost use Rattle.std.specs.Prelude.{◌≡◌, ◌∷◌, [], map};
-ghost use Rattle.sp_tree.specs.CheckedOf.{expression_of, expression_form_of, variable_of, selector_of, actual_of, expressions, selectors, actuals, program_of};
+ghost use Rattle.sp_tree.specs.CheckedOf.{expression_of, expression_form_of, variable_of, selector_of, actual_of};
+ghost use Rattle.sp_tree.specs.CheckedOf.{expressions, selectors, actuals, program_of};
 ghost use Rattle.sp_interfere.specs.Rules.{site_first};
-ghost use Rattle.sp_interfere.specs.Walk.{expression_first, form_first, parameter_first, variable_first, selectors_first, actuals_first};
+ghost use Rattle.sp_interfere.specs.Walk.{expression_first, form_first, parameter_first, variable_first};
+ghost use Rattle.sp_interfere.specs.Walk.{selectors_first, actuals_first};
 
 use crate::sites::call_first;
 use sp_base::{Boxed, List};
@@ -19,7 +21,8 @@ pub fn expression_first(
     d: u32,
     first: Found,
 ) -> Found
-    ensures { result ≡ expression_first (site_first s.now (program_of c.now) in_function d) (expression_of e.now) first }
+    ensures { result ≡ expression_first (site_first s.now (program_of c.now) in_function d) (expression_of e.now)
+        first }
 {
     form_first(&e.form, c, s, in_function, d, first)
 }
@@ -33,7 +36,8 @@ fn boxed_first(
     d: u32,
     first: Found,
 ) -> Found
-    ensures { result ≡ expression_first (site_first s.now (program_of c.now) in_function d) (expression_of e.now) first }
+    ensures { result ≡ expression_first (site_first s.now (program_of c.now) in_function d) (expression_of e.now)
+        first }
 {
     expression_first(e.get(), c, s, in_function, d, first)
 }
@@ -47,7 +51,8 @@ fn form_first(
     d: u32,
     first: Found,
 ) -> Found
-    ensures { result ≡ form_first (site_first s.now (program_of c.now) in_function d) (expression_form_of form.now) first }
+    ensures { result ≡ form_first (site_first s.now (program_of c.now) in_function d) (expression_form_of form.now)
+        first }
 {
     match form {
         ExprForm::Number(_) => first,
@@ -74,7 +79,8 @@ fn parameter_first(
     d: u32,
     first: Found,
 ) -> Found
-    ensures { result ≡ parameter_first (site_first s.now (program_of c.now) in_function d) (expressions (map expression_of args.now)) first }
+    ensures { result ≡ parameter_first (site_first s.now (program_of c.now) in_function d)
+        (expressions (map expression_of args.now)) first }
 {
     match args {
         [] => first,
@@ -109,7 +115,8 @@ fn selector_first(
     d: u32,
     first: Found,
 ) -> Found
-    ensures { result ≡ selectors_first (site_first s.now (program_of c.now) in_function d) (selectors (map selector_of (x.now ∷ []))) first }
+    ensures { result ≡ selectors_first (site_first s.now (program_of c.now) in_function d)
+        (selectors (map selector_of (x.now ∷ []))) first }
 {
     match x {
         Selector::Index(e) => expression_first(e, c, s, in_function, d, first),
@@ -126,7 +133,8 @@ pub fn actuals_first(
     d: u32,
     first: Found,
 ) -> Found
-    ensures { result ≡ actuals_first (site_first s.now (program_of c.now) in_function d) (actuals (map actual_of args.now)) first }
+    ensures { result ≡ actuals_first (site_first s.now (program_of c.now) in_function d)
+        (actuals (map actual_of args.now)) first }
 {
     let mut first = first;
     for x in args.items() {
@@ -137,7 +145,8 @@ pub fn actuals_first(
 
 #[cycle(expression)]
 fn actual_first(x: &Actual, c: &Checked, s: &Sets, in_function: bool, d: u32, first: Found) -> Found
-    ensures { result ≡ actuals_first (site_first s.now (program_of c.now) in_function d) (actuals (map actual_of (x.now ∷ []))) first }
+    ensures { result ≡ actuals_first (site_first s.now (program_of c.now) in_function d)
+        (actuals (map actual_of (x.now ∷ []))) first }
 {
     match x {
         Actual::Value(e) => expression_first(e, c, s, in_function, d, first),

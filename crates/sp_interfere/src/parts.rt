@@ -30,7 +30,8 @@ fn clashes(s: &Sets, earlier: &[Stmt], n: u32) -> bool
 
 /// Whether the sets of the statement may reach beyond the variables that a union holds.
 fn is_wide(s: &Sets, n: u32) -> bool
-    ensures { result ≡ false → (x : ℕ) → (has (targets_of s.now n) x ≡ true) ⊎ (has (expressions_of s.now n) x ≡ true) → x < 8256 }
+    ensures { result ≡ false → (x : ℕ) → (has (targets_of s.now n) x ≡ true) ⊎ (has (expressions_of s.now n) x ≡ true)
+        → x < 8256 }
 {
     if s.targets(n).words() > 129 {
         return true;
@@ -78,8 +79,10 @@ fn number_of(t: &Stmt) -> u32
 
 /// Adds the sets of a statement.
 fn add_part(s: &Sets, n: u32, targets: &mut VarUnion, used: &mut VarUnion)
-    ensures targets { (numbers : List ℕ) → Joins targets.old (is_target s.now) numbers → Joins targets.new (is_target s.now) (numbers ++ n ∷ []) }
-    ensures used { (numbers : List ℕ) → Joins used.old (is_used s.now) numbers → Joins used.new (is_used s.now) (numbers ++ n ∷ []) }
+    ensures targets { (numbers : List ℕ) → Joins targets.old (is_target s.now) numbers
+        → Joins targets.new (is_target s.now) (numbers ++ n ∷ []) }
+    ensures used { (numbers : List ℕ) → Joins used.old (is_used s.now) numbers
+        → Joins used.new (is_used s.now) (numbers ++ n ∷ []) }
 {
     targets.add(s.targets(n));
     used.add(s.targets(n));

@@ -4,7 +4,8 @@ ghost use Rattle.std.specs.Prelude.{◌≡◌, ◌∷◌, [], Some, map, length,
 ghost use Rattle.std.specs.Option.{option_copied, option_map};
 ghost use Rattle.sp_tree.specs.CheckedOf.{actuals, actual_of, block_of, statement_of, statements, program_of};
 ghost use Rattle.sp_tree.specs.Sites.{CallsAt, LoopsAt, SpreadsAt, SplitsAt, StopsAt};
-ghost use Rattle.sp_interfere.specs.Rules.{is_among, parent_of, stands_in, inside_rule, called_first, passed_first, repeats_first, references, site_first};
+ghost use Rattle.sp_interfere.specs.Rules.{is_among, parent_of, stands_in, inside_rule, called_first, passed_first};
+ghost use Rattle.sp_interfere.specs.Rules.{repeats_first, references, site_first};
 
 use crate::asked::{has_declared, has_implicit, is_any};
 use crate::parts::parts_first;
@@ -68,7 +69,8 @@ fn is_passed(y: u32, earlier: &[Actual]) -> bool
 
 /// I4 at a parameter of a call, behind earlier ones.
 fn repeat_first(earlier: &[Actual], a: &Actual, s: &Sets, first: Found) -> Found
-    ensures { result ≡ repeats_first s.now (references (actuals (map actual_of earlier.now))) (actuals (map actual_of (a.now ∷ []))) first }
+    ensures { result ≡ repeats_first s.now (references (actuals (map actual_of earlier.now)))
+        (actuals (map actual_of (a.now ∷ []))) first }
 {
     match a {
         Actual::Value(_) => first,
@@ -146,7 +148,8 @@ pub fn call_first(
     d: u32,
     first: Found,
 ) -> Found
-    ensures { result ≡ site_first s.now (program_of c.now) in_function d (CallsAt f at (actuals (map actual_of args.now))) first }
+    ensures { result ≡ site_first s.now (program_of c.now) in_function d
+        (CallsAt f at (actuals (map actual_of args.now))) first }
 {
     let first = repeats_first(args.items(), s, first);
     let k = c.blocks.get(f as usize);
@@ -162,7 +165,8 @@ pub fn split_first(
     d: u32,
     first: Found,
 ) -> Found
-    ensures { result ≡ site_first s.now (program_of c.now) in_function d (SplitsAt (statements (map statement_of parts.now))) first }
+    ensures { result ≡ site_first s.now (program_of c.now) in_function d
+        (SplitsAt (statements (map statement_of parts.now))) first }
 {
     parts_first(parts.items(), s, first)
 }

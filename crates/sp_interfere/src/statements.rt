@@ -1,10 +1,12 @@
 //! The way through the statements of a block, to the rules at each of them.
 
 ghost use Rattle.std.specs.Prelude.{◌≡◌, map, option_map};
-ghost use Rattle.sp_tree.specs.CheckedOf.{expression_of, variable_of, width_of, statement_of, statement_form_of, statements, arms, arm_of, other, sends, receives, program_of};
+ghost use Rattle.sp_tree.specs.CheckedOf.{expression_of, variable_of, width_of, statement_of, statement_form_of};
+ghost use Rattle.sp_tree.specs.CheckedOf.{statements, arms, arm_of, other, sends, receives, program_of};
 ghost use Rattle.sp_tree.specs.Sites.{StopsAt};
 ghost use Rattle.sp_interfere.specs.Rules.{site_first};
-ghost use Rattle.sp_interfere.specs.Walk.{statement_first, statement_form_first, statements_first, arms_first, other_first, width_first, each_first, expression_first, variable_first};
+ghost use Rattle.sp_interfere.specs.Walk.{statement_first, statement_form_first, statements_first, arms_first};
+ghost use Rattle.sp_interfere.specs.Walk.{other_first, width_first, each_first, expression_first, variable_first};
 
 use crate::expressions::{actuals_first, expression_first, variable_first};
 use crate::sites::{call_first, loop_first, split_first, spread_first, stop_first};
@@ -36,7 +38,8 @@ fn values_first(
     d: u32,
     first: Found,
 ) -> Found
-    ensures { result ≡ each_first (expression_first (site_first s.now (program_of c.now) in_function d)) (map expression_of es.now) first }
+    ensures { result ≡ each_first (expression_first (site_first s.now (program_of c.now) in_function d))
+        (map expression_of es.now) first }
 {
     let mut first = first;
     for e in es {
@@ -53,7 +56,8 @@ fn variables_first(
     d: u32,
     first: Found,
 ) -> Found
-    ensures { result ≡ each_first (variable_first (site_first s.now (program_of c.now) in_function d)) (map variable_of vs.now) first }
+    ensures { result ≡ each_first (variable_first (site_first s.now (program_of c.now) in_function d))
+        (map variable_of vs.now) first }
 {
     let mut first = first;
     for v in vs {
@@ -148,7 +152,8 @@ fn other_first(
     d: u32,
     first: Found,
 ) -> Found
-    ensures { result ≡ other_first (site_first s.now (program_of c.now) in_function d) (other (option_map statement_of x.now)) first }
+    ensures { result ≡ other_first (site_first s.now (program_of c.now) in_function d)
+        (other (option_map statement_of x.now)) first }
 {
     match x {
         None => first,
@@ -165,7 +170,8 @@ fn statements_first(
     d: u32,
     first: Found,
 ) -> Found
-    ensures { result ≡ statements_first (site_first s.now (program_of c.now) in_function d) (statements (map statement_of xs.now)) first }
+    ensures { result ≡ statements_first (site_first s.now (program_of c.now) in_function d)
+        (statements (map statement_of xs.now)) first }
 {
     let mut first = first;
     for x in xs.items() {
@@ -202,7 +208,8 @@ fn form_first(
     d: u32,
     first: Found,
 ) -> Found
-    ensures { result ≡ statement_form_first (site_first s.now (program_of c.now) in_function d) at (statement_form_of x.now) first }
+    ensures { result ≡ statement_form_first (site_first s.now (program_of c.now) in_function d) at
+        (statement_form_of x.now) first }
 {
     match x {
         Form::Empty => first,

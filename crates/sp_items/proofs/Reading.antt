@@ -1,9 +1,11 @@
 -- Bytes read one after another: how far blanks, digits and a line go, and the number that digits spell.
-use Rattle.std.proofs.Common.{◌≡◌, ℕ, zero, suc, ◌+◌, ◌-◌, ◌*◌, ◌==◌, ◌<◌, ◌≤◌, Bool, true, false, List, [], ◌∷◌, drop, length, get_or, refl, ap, ◌∙◌, sym, arith, if◌then◌else◌}
+use Rattle.std.proofs.Common.{◌≡◌, ℕ, zero, suc, ◌+◌, ◌-◌, ◌*◌, ◌==◌, ◌<◌, ◌≤◌, Bool, true, false, List, [], ◌∷◌, drop}
+use Rattle.std.proofs.Common.{length, get_or, refl, ap, ◌∙◌, sym, arith, if◌then◌else◌}
 use Rattle.sp_tree.specs.Characters.{is_blank, is_digit}
 use Rattle.sp_tree.specs.Items.{blanks, digits, number_from, line_length}
 
-pub blanks_on : (bs : List ℕ) (i : ℕ) → i < length bs → is_blank (get_or bs i 0) ≡ true → blanks (drop i bs) ≡ suc (blanks (drop (suc i) bs))
+pub blanks_on : (bs : List ℕ) (i : ℕ) → i < length bs → is_blank (get_or bs i 0) ≡ true
+    → blanks (drop i bs) ≡ suc (blanks (drop (suc i) bs))
 blanks_on [] i h e = absurd (omega arith)
 blanks_on (b ∷ bs) zero h e = rw e refl
 blanks_on (b ∷ bs) (suc i) h e = blanks_on bs i (omega arith) e
@@ -19,7 +21,8 @@ blanks_end [] (suc i) h = refl
 blanks_end (b ∷ bs) zero h = absurd (omega arith)
 blanks_end (b ∷ bs) (suc i) h = blanks_end bs i (omega arith)
 
-pub digits_on : (bs : List ℕ) (i : ℕ) → i < length bs → is_digit (get_or bs i 0) ≡ true → digits (drop i bs) ≡ suc (digits (drop (suc i) bs))
+pub digits_on : (bs : List ℕ) (i : ℕ) → i < length bs → is_digit (get_or bs i 0) ≡ true
+    → digits (drop i bs) ≡ suc (digits (drop (suc i) bs))
 digits_on [] i h e = absurd (omega arith)
 digits_on (b ∷ bs) zero h e = rw e refl
 digits_on (b ∷ bs) (suc i) h e = digits_on bs i (omega arith) e
@@ -35,7 +38,8 @@ digits_end [] (suc i) h = refl
 digits_end (b ∷ bs) zero h = absurd (omega arith)
 digits_end (b ∷ bs) (suc i) h = digits_end bs i (omega arith)
 
-pub line_on : (bs : List ℕ) (i : ℕ) → i < length bs → (get_or bs i 0 == 10) ≡ false → line_length (drop i bs) ≡ suc (line_length (drop (suc i) bs))
+pub line_on : (bs : List ℕ) (i : ℕ) → i < length bs → (get_or bs i 0 == 10) ≡ false
+    → line_length (drop i bs) ≡ suc (line_length (drop (suc i) bs))
 line_on [] i h e = absurd (omega arith)
 line_on (b ∷ bs) zero h e = rw e refl
 line_on (b ∷ bs) (suc i) h e = line_on bs i (omega arith) e
@@ -51,7 +55,8 @@ line_end [] (suc i) h = refl
 line_end (b ∷ bs) zero h = absurd (omega arith)
 line_end (b ∷ bs) (suc i) h = line_end bs i (omega arith)
 
-pub number_on : (n : ℕ) (bs : List ℕ) (i : ℕ) → i < length bs → number_from n (drop i bs) ≡ number_from (n * 10 + (get_or bs i 0 - 48)) (drop (suc i) bs)
+pub number_on : (n : ℕ) (bs : List ℕ) (i : ℕ) → i < length bs
+    → number_from n (drop i bs) ≡ number_from (n * 10 + (get_or bs i 0 - 48)) (drop (suc i) bs)
 number_on n [] i h = absurd (omega arith)
 number_on n (b ∷ bs) zero h = refl
 number_on n (b ∷ bs) (suc i) h = number_on n bs i (omega arith)

@@ -1,3 +1,4 @@
+-- None of this belongs to what the program promises: it is for contracts between crates.
 -- What reading gives, as it is kept in memory. The contracts of sp_items and of the machine's input cite it.
 use Rattle.sp_items.specs.declared.Taken.{Taken}
 use Rattle.sp_items.specs.declared.Taken.TheVariants as taken

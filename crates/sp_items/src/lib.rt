@@ -22,7 +22,8 @@
 
 ghost use Rattle.std.specs.Prelude.{◌≡◌, ◌+◌, ◌<◌, ◌≤◌, ◌^◌, MatchOption, length, take, if◌then◌else◌};
 ghost use Rattle.sp_tree.specs.Characters.{is_blank, is_digit};
-ghost use Rattle.sp_tree.specs.Items.{blanks, digits, number_from, signed, number_in, number_after, digits_after, char_in, line_length, at_line_end, truth_text, byte};
+ghost use Rattle.sp_tree.specs.Items.{blanks, digits, number_from, signed, number_in, number_after, digits_after};
+ghost use Rattle.sp_tree.specs.Items.{char_in, line_length, at_line_end, truth_text, byte};
 ghost use Rattle.sp_items.specs.Taking.{taken_of};
 
 use sp_base::{Fault, MAXINT};
@@ -81,7 +82,8 @@ fn digits(bytes: &[u8]) -> usize
 /// The number that digits spell, or none where it is above the integers.
 #[tactic(auto, using(crate::proofs::Reading::number_on, crate::proofs::Reading::number_end, crate::proofs::Reading::number_grows))]
 fn number_of(digits: &[u8]) -> Option<u64>
-    ensures { MatchOption result (2 ^ 63 ≤ number_from 0 digits.now) (λ n. (n < 2 ^ 63) × (n ≡ number_from 0 digits.now)) }
+    ensures { MatchOption result (2 ^ 63 ≤ number_from 0 digits.now)
+        (λ n. (n < 2 ^ 63) × (n ≡ number_from 0 digits.now)) }
 {
     let mut n = 0u64;
     for b in digits {

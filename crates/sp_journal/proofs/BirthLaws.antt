@@ -1,5 +1,6 @@
 -- Laws of what a nameable journal gives.
-use Rattle.std.proofs.Common.{◌≡◌, ◌≢◌, ⊎_elim, ℕ, ◌+◌, ◌-◌, ◌^◌, ◌<◌, ◌≤◌, cond, List, [], ◌∷◌, ◌++◌, Some, None, refl, sym, ap, ◌∙◌, subst, arith}
+use Rattle.std.proofs.Common.{◌≡◌, ◌≢◌, ⊎_elim, ℕ, ◌+◌, ◌-◌, ◌^◌, ◌<◌, ◌≤◌, cond, List, [], ◌∷◌, ◌++◌, Some, None, refl}
+use Rattle.std.proofs.Common.{sym, ap, ◌∙◌, subst, arith}
 use Rattle.std.proofs.lemmas.Bool.{cases_eq, cases_lt, ne_eqb}
 use Rattle.sp_journal.specs.declared.entry.Birth.{Birth}
 use Rattle.sp_journal.specs.declared.entry.Opening.{Opening}
@@ -7,7 +8,8 @@ use Rattle.sp_journal.specs.declared.entry.Entry.{Entry}
 use Rattle.sp_journal.specs.declared.entry.Event.{Event}
 use Rattle.sp_journal.specs.declared.entry.Event.TheVariants as event
 use Rattle.sp_journal.specs.Names.{Name}
-use Rattle.sp_journal.specs.Births.{Births, at_start, after_event, after_entry, births_from, births, CanFollow, GivesNumbers, NameableFrom}
+use Rattle.sp_journal.specs.Births.{Births, at_start, after_event, after_entry, births_from, births, CanFollow}
+use Rattle.sp_journal.specs.Births.{GivesNumbers, NameableFrom}
 use Rattle.sp_journal.proofs.TextLaws.{IsSmall}
 use Rattle.sp_journal.proofs.Facts.{here, between, below, above}
 
@@ -59,15 +61,19 @@ lawful_start = record {
   one_opening = λ c d l h e. absurd (omega arith);
 }
 
-module _ (s : Births) (lawful : Lawful s) (p n : ℕ) (there : p < s.processes) (fits : s.processes + n ≤ 2 ^ 32) (fork : s.forks p < 2 ^ 32) where
+module _ (s : Births) (lawful : Lawful s) (p n : ℕ) (there : p < s.processes) (fits : s.processes + n ≤ 2 ^ 32)
+    (fork : s.forks p < 2 ^ 32) where
   abbrev pub after : Births
   after = after_event s p (event.Fork n)
 
   pub old_name : (q : ℕ) → q < s.processes → after.name q ≡ s.name q
-  old_name q l = ap (λ b. cond b ((s.forks p, q - s.processes) ∷ s.name p) (s.name q)) (below s.processes q (s.processes + n) l)
+  old_name q l = ap (λ b. cond b ((s.forks p, q - s.processes) ∷ s.name p) (s.name q))
+      (below s.processes q (s.processes + n) l)
 
-  pub new_name : (q : ℕ) → s.processes ≤ q → q < s.processes + n → after.name q ≡ (s.forks p, q - s.processes) ∷ s.name p
-  new_name q l h = ap (λ b. cond b ((s.forks p, q - s.processes) ∷ s.name p) (s.name q)) (between s.processes q (s.processes + n) l h)
+  pub new_name : (q : ℕ) → s.processes ≤ q → q < s.processes + n
+      → after.name q ≡ (s.forks p, q - s.processes) ∷ s.name p
+  new_name q l h = ap (λ b. cond b ((s.forks p, q - s.processes) ∷ s.name p) (s.name q))
+      (between s.processes q (s.processes + n) l h)
 
   abbrev pub its_birth : ℕ → Birth
   its_birth q = record { parent = p; fork = s.forks p; child = q - s.processes }
@@ -80,7 +86,8 @@ module _ (s : Births) (lawful : Lawful s) (p n : ℕ) (there : p < s.processes) 
 
   more_forks : (r : ℕ) → s.forks r ≤ after.forks r
   more_forks r = ⊎_elim
-      (λ (e : p ≡ r). subst (λ b. s.forks r ≤ cond b (s.forks p + 1) (s.forks r)) (sym (here p r e)) (let f : s.forks p ≡ s.forks r = ap s.forks e in omega arith))
+      (λ (e : p ≡ r). subst (λ b. s.forks r ≤ cond b (s.forks p + 1) (s.forks r)) (sym (here p r e))
+      (let f : s.forks p ≡ s.forks r = ap s.forks e in omega arith))
       (λ (e : p ≢ r). subst (λ b. s.forks r ≤ cond b (s.forks p + 1) (s.forks r)) (sym (ne_eqb p r e)) (omega arith))
       (cases_eq p r)
 
@@ -94,7 +101,8 @@ module _ (s : Births) (lawful : Lawful s) (p n : ℕ) (there : p < s.processes) 
       record {
         birth = b.birth;
         is = old_birth q l ∙ b.is;
-        named = old_name q l ∙ b.named ∙ ap (λ (x : Name). (b.birth.fork, b.birth.child) ∷ x) (sym (old_name b.birth.parent o));
+        named = old_name q l ∙ b.named ∙ ap (λ (x : Name). (b.birth.fork, b.birth.child) ∷ x)
+            (sym (old_name b.birth.parent o));
         older = b.older;
         made = let m = more_forks b.birth.parent in let k = b.made in omega arith;
         small_fork = b.small_fork;
@@ -125,7 +133,8 @@ module _ (s : Births) (lawful : Lawful s) (p n : ℕ) (there : p < s.processes) 
       child : 1 ≤ r → ⊥
       child z =
           let b = lawful.born r (omega arith) k in
-          let f : (s.forks p, q - s.processes) ∷ s.name p ≡ (b.birth.fork, b.birth.child) ∷ s.name b.birth.parent = same_names ∙ b.named in
+          let f : (s.forks p, q - s.processes) ∷ s.name p ≡ (b.birth.fork, b.birth.child) ∷ s.name b.birth.parent =
+          same_names ∙ b.named in
           let g : s.name p ≡ s.name b.birth.parent = rest_same _ _ _ _ f in
           let i : s.forks p ≡ b.birth.fork = ap (λ (x : ℕ × ℕ). x.0) (step_same _ _ _ _ f) in
           let o = b.older in
@@ -140,8 +149,10 @@ module _ (s : Births) (lawful : Lawful s) (p n : ℕ) (there : p < s.processes) 
     few_channels = lawful.few_channels;
     no_birth = old_birth 0 lawful.some ∙ lawful.no_birth;
     no_name = old_name 0 lawful.some ∙ lawful.no_name;
-    born = λ q z l. ⊎_elim (λ (o : q < s.processes). old_born q z o) (λ (o : s.processes ≤ q). new_born q o l) (cases_lt q s.processes);
-    unborn = λ q l. ap (λ b. cond b (Some (its_birth q)) (s.birth q)) (above s.processes q (s.processes + n) l) ∙ lawful.unborn q (omega arith);
+    born = λ q z l. ⊎_elim (λ (o : q < s.processes). old_born q z o) (λ (o : s.processes ≤ q). new_born q o l)
+        (cases_lt q s.processes);
+    unborn = λ q l. ap (λ b. cond b (Some (its_birth q)) (s.birth q)) (above s.processes q (s.processes + n) l)
+        ∙ lawful.unborn q (omega arith);
     one_name = one_name;
     small_names = λ q l. ⊎_elim
         (λ (a : q < s.processes). subst IsSmall (sym (old_name q a)) (lawful.small_names q a))
@@ -153,9 +164,11 @@ module _ (s : Births) (lawful : Lawful s) (p n : ℕ) (there : p < s.processes) 
     one_opening = lawful.one_opening;
   }
     where
-      both_new : (q r : ℕ) → s.processes ≤ q → s.processes ≤ r → q < s.processes + n → r < s.processes + n → after.name q ≡ after.name r → q ≡ r
+      both_new : (q r : ℕ) → s.processes ≤ q → s.processes ≤ r → q < s.processes + n → r < s.processes + n
+          → after.name q ≡ after.name r → q ≡ r
       both_new q r a b l h e =
-          let f : (s.forks p, q - s.processes) ∷ s.name p ≡ (s.forks p, r - s.processes) ∷ s.name p = sym (new_name q a l) ∙ e ∙ new_name r b h in
+          let f : (s.forks p, q - s.processes) ∷ s.name p ≡ (s.forks p, r - s.processes) ∷ s.name p =
+          sym (new_name q a l) ∙ e ∙ new_name r b h in
           let g : q - s.processes ≡ r - s.processes = ap (λ (x : ℕ × ℕ). x.1) (step_same _ _ _ _ f) in
           omega arith
 
@@ -171,7 +184,8 @@ module _ (s : Births) (lawful : Lawful s) (p n : ℕ) (there : p < s.processes) 
           (cases_lt r s.processes))
           (cases_lt q s.processes)
 
-module _ (s : Births) (lawful : Lawful s) (p : ℕ) (there : p < s.processes) (fits : s.channels < 2 ^ 32) (small : s.opens p < 2 ^ 32) where
+module _ (s : Births) (lawful : Lawful s) (p : ℕ) (there : p < s.processes) (fits : s.channels < 2 ^ 32)
+    (small : s.opens p < 2 ^ 32) where
   abbrev pub opened : Births
   opened = after_event s p event.Open
 
@@ -186,21 +200,24 @@ module _ (s : Births) (lawful : Lawful s) (p : ℕ) (there : p < s.processes) (f
 
   more_opens : (r : ℕ) → s.opens r ≤ opened.opens r
   more_opens r = ⊎_elim
-      (λ (e : p ≡ r). subst (λ b. s.opens r ≤ cond b (s.opens p + 1) (s.opens r)) (sym (here p r e)) (let f : s.opens p ≡ s.opens r = ap s.opens e in omega arith))
+      (λ (e : p ≡ r). subst (λ b. s.opens r ≤ cond b (s.opens p + 1) (s.opens r)) (sym (here p r e))
+      (let f : s.opens p ≡ s.opens r = ap s.opens e in omega arith))
       (λ (e : p ≢ r). subst (λ b. s.opens r ≤ cond b (s.opens p + 1) (s.opens r)) (sym (ne_eqb p r e)) (omega arith))
       (cases_eq p r)
 
   one_more_open : s.opens p < opened.opens p
   one_more_open = subst (λ b. s.opens p < cond b (s.opens p + 1) (s.opens p)) (sym (here p p refl)) (omega arith)
 
-  at_opening : (Q : ℕ → Opening → Type 0) → ((c : ℕ) → c < s.channels → Q c (s.opening c)) → ((c : ℕ) → Q c this) → (c : ℕ) → c < s.channels + 1 → Q c (opened.opening c)
+  at_opening : (Q : ℕ → Opening → Type 0) → ((c : ℕ) → c < s.channels → Q c (s.opening c)) → ((c : ℕ) → Q c this)
+      → (c : ℕ) → c < s.channels + 1 → Q c (opened.opening c)
   at_opening Q old new c l = ⊎_elim
       (λ (o : c < s.channels). subst (Q c) (sym (old_opening c o)) (old c o))
       (λ (o : s.channels ≤ c). subst (Q c) (sym (new_opening c o l)) (new c))
       (cases_lt c s.channels)
 
   -- the new opening is that of no earlier channel
-  new_channel : (c d : ℕ) → c < s.channels → s.channels ≤ d → d < s.channels + 1 → opened.opening c ≡ opened.opening d → ⊥
+  new_channel : (c d : ℕ) → c < s.channels → s.channels ≤ d → d < s.channels + 1 → opened.opening c ≡ opened.opening d
+      → ⊥
   new_channel c d l o h e =
       let f : s.opening c ≡ this = sym (old_opening c l) ∙ e ∙ new_opening d o h in
       let g : (s.opening c).nth ≡ s.opens p = ap (λ (x : Opening). x.nth) f in
@@ -215,12 +232,23 @@ module _ (s : Births) (lawful : Lawful s) (p : ℕ) (there : p < s.processes) (f
     few_channels = omega arith;
     no_birth = lawful.no_birth;
     no_name = lawful.no_name;
-    born = λ q z l. let b = lawful.born q z l in record { birth = b.birth; is = b.is; named = b.named; older = b.older; made = b.made; small_fork = b.small_fork; small_child = b.small_child };
+    born = λ q z l. let b = lawful.born q z l in
+        record {
+          birth = b.birth;
+          is = b.is;
+          named = b.named;
+          older = b.older;
+          made = b.made;
+          small_fork = b.small_fork;
+          small_child = b.small_child;
+        };
     unborn = lawful.unborn;
     one_name = lawful.one_name;
     small_names = lawful.small_names;
     owned = at_opening (λ c o. o.owner < s.processes) lawful.owned (λ c. there);
-    counted = at_opening (λ c o. o.nth < opened.opens o.owner) (λ c l. let a = lawful.counted c l in let b = more_opens (s.opening c).owner in omega arith) (λ c. one_more_open);
+    counted = at_opening (λ c o. o.nth < opened.opens o.owner)
+        (λ c l. let a = lawful.counted c l in let b = more_opens (s.opening c).owner in omega arith)
+        (λ c. one_more_open);
     small_nth = at_opening (λ c o. o.nth < 2 ^ 32) lawful.small_nth (λ c. small);
     one_opening = λ c d l h e. ⊎_elim
         (λ (a : c < s.channels). ⊎_elim
@@ -234,7 +262,8 @@ module _ (s : Births) (lawful : Lawful s) (p : ℕ) (there : p < s.processes) (f
         (cases_lt c s.channels);
   }
 
-by_event : (s : Births) → Lawful s → (p : ℕ) → p < s.processes → (e : Event) → GivesNumbers s p e → Lawful (after_event s p e)
+by_event : (s : Births) → Lawful s → (p : ℕ) → p < s.processes → (e : Event) → GivesNumbers s p e
+    → Lawful (after_event s p e)
 by_event s l p t (event.Fork n) g = fork_lawful s l p n t g.0 g.1
 by_event s l p t event.Open g = open_lawful s l p t g.0 g.1
 by_event s l p t (event.Send c) g = l
@@ -256,29 +285,36 @@ pub lawful : (es : List Entry) → NameableFrom at_start es → Lawful (births e
 lawful es f = lawful_from at_start es lawful_start f
 
 -- the last entry
-pub births_from_last : (s : Births) (es : List Entry) (e : Entry) → births_from s (es ++ e ∷ []) ≡ after_entry (births_from s es) e
+pub births_from_last : (s : Births) (es : List Entry) (e : Entry)
+    → births_from s (es ++ e ∷ []) ≡ after_entry (births_from s es) e
 births_from_last s [] e = refl
 births_from_last s (x ∷ es) e = births_from_last (after_entry s x) es e
 
 pub births_last : (es : List Entry) (e : Entry) → births (es ++ e ∷ []) ≡ after_entry (births es) e
 births_last es e = births_from_last at_start es e
 
-pub nameable_last : (s : Births) (es : List Entry) (e : Entry) → NameableFrom s es → CanFollow (births_from s es) e → NameableFrom s (es ++ e ∷ [])
+pub nameable_last : (s : Births) (es : List Entry) (e : Entry) → NameableFrom s es → CanFollow (births_from s es) e
+    → NameableFrom s (es ++ e ∷ [])
 nameable_last s [] e f g = (g, tt)
 nameable_last s (x ∷ es) e f g = (f.0, nameable_last (after_entry s x) es e f.1 g)
 
 module _ (s : Births) (lawful : Lawful s) (q : ℕ) (there : q < s.processes) where
   no_root : (b : Birth) → Some b ≡ s.birth q → 0 < q
-  no_root b e = ⊎_elim (λ (l : q < 1). let z : q ≡ 0 = omega arith in let f : s.birth q ≡ None = ap s.birth z ∙ lawful.no_birth in absurd (cc (e, f))) (λ (l : 1 ≤ q). omega arith) (cases_lt q 1)
+  no_root b e = ⊎_elim (λ (l : q < 1). let z : q ≡ 0 = omega arith in
+      let f : s.birth q ≡ None = ap s.birth z ∙ lawful.no_birth in absurd (cc (e, f))) (λ (l : 1 ≤ q). omega arith)
+      (cases_lt q 1)
 
   same_birth : (b d : Birth) → Some b ≡ s.birth q → s.birth q ≡ Some d → d ≡ b
   same_birth b d e f = cc
 
   pub parent_older : (b : Birth) → Some b ≡ s.birth q → b.parent < q
-  parent_older b e = let o = lawful.born q (no_root b e) there in subst (λ (x : Birth). x.parent < q) (same_birth b o.birth e o.is) o.older
+  parent_older b e = let o = lawful.born q (no_root b e) there in
+      subst (λ (x : Birth). x.parent < q) (same_birth b o.birth e o.is) o.older
 
   pub name_by_birth : (b : Birth) → Some b ≡ s.birth q → s.name q ≡ (b.fork, b.child) ∷ s.name b.parent
-  name_by_birth b e = let o = lawful.born q (no_root b e) there in subst (λ (x : Birth). s.name q ≡ (x.fork, x.child) ∷ s.name x.parent) (same_birth b o.birth e o.is) o.named
+  name_by_birth b e = let o = lawful.born q (no_root b e) there in
+      subst (λ (x : Birth). s.name q ≡ (x.fork, x.child) ∷ s.name x.parent) (same_birth b o.birth e o.is) o.named
 
   pub name_of_root : None ≡ s.birth q → s.name q ≡ []
-  name_of_root e = ⊎_elim (λ (l : q < 1). let z : q ≡ 0 = omega arith in ap s.name z ∙ lawful.no_name) (λ (l : 1 ≤ q). let o = lawful.born q l there in let f = o.is in absurd (cc (e, f))) (cases_lt q 1)
+  name_of_root e = ⊎_elim (λ (l : q < 1). let z : q ≡ 0 = omega arith in ap s.name z ∙ lawful.no_name)
+      (λ (l : 1 ≤ q). let o = lawful.born q l there in let f = o.is in absurd (cc (e, f))) (cases_lt q 1)

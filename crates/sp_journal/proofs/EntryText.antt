@@ -1,5 +1,6 @@
 -- The text of an entry has no line feed.
-use Rattle.std.proofs.Common.{◌≡◌, ℕ, ◌<◌, ◌≤◌, Bool, true, false, ◌&&◌, nat_le, List, [], ◌∷◌, ◌++◌, refl, arith, codes}
+use Rattle.std.proofs.Common.{◌≡◌, ℕ, ◌<◌, ◌≤◌, Bool, true, false, ◌&&◌, nat_le, List, [], ◌∷◌, ◌++◌, refl, arith}
+use Rattle.std.proofs.Common.{codes}
 use Rattle.std.proofs.lemmas.Bool.Decides.{nat_tests}
 use Rattle.std.specs.Fmt.{decimal}
 use Rattle.std.proofs.lemmas.Bool.{leb-true}
@@ -27,8 +28,11 @@ in_line (x ∷ xs) = nat_le 32 x && (nat_le x 122 && in_line xs)
 from_test : (xs : List ℕ) → in_line xs ≡ true → Within 32 122 xs
 from_test [] e = tt
 from_test (x ∷ xs) e =
-    let r = second_true (nat_le 32 x) (nat_le x 122 && in_line xs) e in
-    (leb-true 32 x (first_true (nat_le 32 x) (nat_le x 122 && in_line xs) e), leb-true x 122 (first_true (nat_le x 122) (in_line xs) r), from_test xs (second_true (nat_le x 122) (in_line xs) r))
+    let r = second_true (nat_le 32 x) (nat_le x 122 && in_line xs) e in (
+      leb-true 32 x (first_true (nat_le 32 x) (nat_le x 122 && in_line xs) e),
+      leb-true x 122 (first_true (nat_le x 122) (in_line xs) r),
+      from_test xs (second_true (nat_le x 122) (in_line xs) r),
+    )
 
 fault_within : (f : Fault) → Within 32 122 (fault_name f)
 fault_within f = from_test (fault_name f) (by f)
@@ -61,15 +65,19 @@ module _ (s : Births) (lawful : Lawful s) where
   offer_within : (w : Way) (c : ℕ) → c < s.channels → Within 32 122 (offer_text s w c)
   offer_within w c l = within_append 32 122 (way_text w ++ codes " ") (channel_text (chan_name (channel s c)))
       (within_append 32 122 (way_text w) (codes " ") (way_within w) (from_test (codes " ") refl))
-      (within_wider 35 57 32 122 (channel_text (chan_name (channel s c))) (omega arith) (omega arith) (channel_within (channel s c) (lawful.small_names (s.opening c).owner (lawful.owned c l)) (lawful.small_nth c l)))
+      (within_wider 35 57 32 122 (channel_text (chan_name (channel s c))) (omega arith) (omega arith)
+      (channel_within (channel s c) (lawful.small_names (s.opening c).owner (lawful.owned c l))
+      (lawful.small_nth c l)))
 
   event_within : (p : ℕ) (e : Event) → GivesNumbers s p e → Within 32 122 (event_text s e)
-  event_within p (event.Fork n) g = within_append 32 122 (codes "fork ") (decimal n) (from_test (codes "fork ") refl) (within_wider 48 57 32 122 (decimal n) (omega arith) (omega arith) (digits_within n (let a = g.0 in omega arith)))
+  event_within p (event.Fork n) g = within_append 32 122 (codes "fork ") (decimal n) (from_test (codes "fork ") refl)
+      (within_wider 48 57 32 122 (decimal n) (omega arith) (omega arith) (digits_within n (let a = g.0 in omega arith)))
   event_within p event.Open g = from_test (codes "open") refl
   event_within p (event.Send c) g = offer_within way.Send c g
   event_within p (event.Receive c) g = offer_within way.Receive c g
   event_within p event.End g = from_test (codes "end") refl
-  event_within p (event.Fault f) g = within_append 32 122 (codes "fault ") (fault_name f) (from_test (codes "fault ") refl) (fault_within f)
+  event_within p (event.Fault f) g = within_append 32 122 (codes "fault ") (fault_name f)
+      (from_test (codes "fault ") refl) (fault_within f)
   event_within p event.Laid g = from_test (codes "laid") refl
   event_within p event.Pause g = from_test (codes "pause") refl
 
@@ -79,5 +87,6 @@ module _ (s : Births) (lawful : Lawful s) where
       let n : List ℕ = name_text (proc_name (s.name e.process)) in
       without_low 10 32 122 (entry_text s e) (omega arith)
       (within_append 32 122 (n ++ codes " ") (event_text s e.event)
-      (within_append 32 122 n (codes " ") (within_wider 46 57 32 122 n (omega arith) (omega arith) (name_within (s.name e.process) (lawful.small_names e.process h.0))) (from_test (codes " ") refl))
+      (within_append 32 122 n (codes " ") (within_wider 46 57 32 122 n (omega arith) (omega arith)
+      (name_within (s.name e.process) (lawful.small_names e.process h.0))) (from_test (codes " ") refl))
       (event_within e.process e.event h.1))

@@ -1,5 +1,7 @@
 -- A ledger after one more entry.
-use Rattle.std.proofs.Common.{◌≡◌, ◌≢◌, ⊎_elim, ℕ, zero, suc, ◌+◌, ◌-◌, ◌<◌, ◌≤◌, cond, nat_eq, List, [], ◌∷◌, ◌++◌, length, length-append, get_or, Option, Some, slice_get, unwrap_or, refl, sym, ap, ◌∙◌, subst, arith}
+use Rattle.std.proofs.Common.{◌≡◌, ◌≢◌, ⊎_elim, ℕ, zero, suc, ◌+◌, ◌-◌, ◌<◌, ◌≤◌, cond, nat_eq, List, [], ◌∷◌, ◌++◌}
+use Rattle.std.proofs.Common.{length, length-append, get_or, Option, Some, slice_get, unwrap_or, refl, sym, ap, ◌∙◌}
+use Rattle.std.proofs.Common.{subst, arith}
 use Rattle.std.specs.Option.{option_map}
 use Rattle.std.specs.HashMap as hash
 use Rattle.std.proofs.lemmas.Bool.{cases_eq, cases_lt, ne_eqb}
@@ -15,10 +17,13 @@ use Rattle.sp_journal.specs.declared.ledger.Ledger.{Ledger}
 use Rattle.sp_journal.specs.Births.{Births, at_start, after_event, births, CanFollow, NameableFrom}
 use Rattle.sp_journal.specs.Ledger.{IsLedger, birth_in, nothing_made}
 use Rattle.sp_journal.proofs.Facts.{here}
-use Rattle.sp_journal.proofs.BirthLaws.{births_last, nameable_last, old_birth, new_birth, old_opening, new_opening, lawful}
+use Rattle.sp_journal.proofs.BirthLaws.{births_last, nameable_last, old_birth, new_birth, old_opening, new_opening}
+use Rattle.sp_journal.proofs.BirthLaws.{lawful}
 use Rattle.sp_journal.proofs.Families.{family_push_above, family_push_at, birth_of}
 
-pub pushed_all : {X : Type 0} (P : X → Type 0) (xs : List X) (y : X) → ((k : ℕ) (d : X) → k < length xs → P (get_or xs k d)) → P y → (k : ℕ) (d : X) → k < length (xs ++ y ∷ []) → P (get_or (xs ++ y ∷ []) k d)
+pub pushed_all : {X : Type 0} (P : X → Type 0) (xs : List X) (y : X)
+    → ((k : ℕ) (d : X) → k < length xs → P (get_or xs k d)) → P y → (k : ℕ) (d : X) → k < length (xs ++ y ∷ [])
+    → P (get_or (xs ++ y ∷ []) k d)
 pushed_all P [] y h p zero d l = p
 pushed_all P [] y h p (suc k) d l = absurd (omega arith)
 pushed_all P (x ∷ xs) y h p zero d l = h 0 d (omega arith)
@@ -33,7 +38,9 @@ module _ (l m : Ledger) (p : ℕ) (ledger : IsLedger l) where
       (processes : m.processes ≡ l.processes + n)
       (families : m.families ≡ l.families ++ record { first = l.processes; parent = p; fork = was.forks p } ∷ [])
       (openings : m.openings ≡ l.openings)
-      (made : (q : ℕ) → hash.get nat_eq m.made q ≡ cond (nat_eq p q) (Some (record { forks = was.forks p + 1; opens = was.opens p })) (hash.get nat_eq l.made q))
+      (made : (q : ℕ) → hash.get nat_eq m.made q
+      ≡ cond (nat_eq p q) (Some (record { forks = was.forks p + 1; opens = was.opens p }))
+      (hash.get nat_eq l.made q))
     where
       abbrev its_family : Family
       its_family = record { first = l.processes; parent = p; fork = was.forks p }
@@ -41,11 +48,13 @@ module _ (l m : Ledger) (p : ℕ) (ledger : IsLedger l) where
       now_is : births m.journal.entries ≡ after_event was p (event.Fork n)
       now_is = ap births journal ∙ births_last l.journal.entries (record { process = p; event = event.Fork n })
 
-      fork_families : (q : ℕ) → q < (after_event was p (event.Fork n)).processes → (after_event was p (event.Fork n)).birth q ≡ birth_in (l.families ++ its_family ∷ []) q
+      fork_families : (q : ℕ) → q < (after_event was p (event.Fork n)).processes
+          → (after_event was p (event.Fork n)).birth q ≡ birth_in (l.families ++ its_family ∷ []) q
       fork_families q h = ⊎_elim
           (λ (o : q < was.processes).
           let k : q < l.processes = let e = ledger.processes in omega arith in
-          old_birth was (lawful l.journal.entries ledger.nameable) p n next.0 next.1.0 next.1.1 q o ∙ ledger.families q o
+          old_birth was (lawful l.journal.entries ledger.nameable) p n next.0 next.1.0 next.1.1 q o
+          ∙ ledger.families q o
           ∙ ap (option_map (λ (f : Family). birth_of f q)) (sym (family_push_above l.families its_family q k)))
           (λ (o : was.processes ≤ q).
           let k : l.processes ≤ q = let e = ledger.processes in omega arith in
@@ -54,7 +63,8 @@ module _ (l m : Ledger) (p : ℕ) (ledger : IsLedger l) where
           ∙ ap (option_map (λ (f : Family). birth_of f q)) (sym (family_push_at l.families its_family q k)))
           (cases_lt q was.processes)
 
-      fork_made : (q : ℕ) → unwrap_or (hash.get nat_eq m.made q) nothing_made ≡ record { forks = (after_event was p (event.Fork n)).forks q; opens = was.opens q }
+      fork_made : (q : ℕ) → unwrap_or (hash.get nat_eq m.made q) nothing_made
+          ≡ record { forks = (after_event was p (event.Fork n)).forks q; opens = was.opens q }
       fork_made q = ap (λ (o : Option Made). unwrap_or o nothing_made) (made q) ∙ ⊎_elim
           (λ (e : p ≡ q).
           let f : was.opens p ≡ was.opens q = ap was.opens e in
@@ -64,14 +74,28 @@ module _ (l m : Ledger) (p : ℕ) (ledger : IsLedger l) where
 
       pub fork_ledger : IsLedger m
       fork_ledger = record {
-        nameable = subst (λ es. NameableFrom at_start es) (sym journal) (nameable_last at_start l.journal.entries _ ledger.nameable next);
+        nameable = subst (λ es. NameableFrom at_start es) (sym journal)
+            (nameable_last at_start l.journal.entries _ ledger.nameable next);
         processes = processes ∙ ap (λ (x : ℕ). x + n) ledger.processes ∙ ap (λ (s : Births). s.processes) (sym now_is);
         channels = ap length openings ∙ ledger.channels ∙ ap (λ (s : Births). s.channels) (sym now_is);
-        openings = subst (λ (s : Births). (c : ℕ) → c < s.channels → slice_get m.openings c ≡ Some (s.opening c)) (sym now_is) (subst (λ os. (c : ℕ) → c < was.channels → slice_get os c ≡ Some (was.opening c)) (sym openings) ledger.openings);
-        families = subst (λ (s : Births). (q : ℕ) → q < s.processes → s.birth q ≡ birth_in m.families q) (sym now_is) (subst (λ fs. (q : ℕ) → q < (after_event was p (event.Fork n)).processes → (after_event was p (event.Fork n)).birth q ≡ birth_in fs q) (sym families) fork_families);
-        in_order = subst (IsNonDecreasingBy (λ (f : Family). f.first)) (sym families) (IsNonDecreasingBy-push (λ (f : Family). f.first) l.families its_family ledger.in_order (λ d h. subst (λ x. (get_or l.families (length l.families - 1) d).first ≤ x) (sym ledger.processes) (ledger.begun (length l.families - 1) d (omega arith))));
-        begun = subst (λ (s : Births). (i : ℕ) (d : Family) → i < length m.families → (get_or m.families i d).first ≤ s.processes) (sym now_is) (subst (λ fs. (i : ℕ) (d : Family) → i < length fs → (get_or fs i d).first ≤ was.processes + n) (sym families) (pushed_all (λ f. f.first ≤ was.processes + n) l.families its_family (λ k d h. let b = ledger.begun k d h in omega arith) (let e = ledger.processes in omega arith)));
-        made = subst (λ (s : Births). (q : ℕ) → unwrap_or (hash.get nat_eq m.made q) nothing_made ≡ record { forks = s.forks q; opens = s.opens q }) (sym now_is) fork_made;
+        openings = subst (λ (s : Births). (c : ℕ) → c < s.channels → slice_get m.openings c ≡ Some (s.opening c))
+            (sym now_is) (subst (λ os. (c : ℕ) → c < was.channels → slice_get os c ≡ Some (was.opening c))
+            (sym openings) ledger.openings);
+        families = subst (λ (s : Births). (q : ℕ) → q < s.processes → s.birth q ≡ birth_in m.families q) (sym now_is)
+            (subst (λ fs. (q : ℕ) → q < (after_event was p (event.Fork n)).processes
+            → (after_event was p (event.Fork n)).birth q ≡ birth_in fs q) (sym families) fork_families);
+        in_order = subst (IsNonDecreasingBy (λ (f : Family). f.first)) (sym families)
+            (IsNonDecreasingBy-push (λ (f : Family). f.first) l.families its_family ledger.in_order
+            (λ d h. subst (λ x. (get_or l.families (length l.families - 1) d).first ≤ x) (sym ledger.processes)
+            (ledger.begun (length l.families - 1) d (omega arith))));
+        begun = subst (λ (s : Births). (i : ℕ) (d : Family) → i < length m.families
+            → (get_or m.families i d).first ≤ s.processes) (sym now_is)
+            (subst (λ fs. (i : ℕ) (d : Family) → i < length fs → (get_or fs i d).first ≤ was.processes + n)
+            (sym families) (pushed_all (λ f. f.first ≤ was.processes + n) l.families its_family
+            (λ k d h. let b = ledger.begun k d h in omega arith) (let e = ledger.processes in omega arith)));
+        made = subst (λ (s : Births). (q : ℕ)
+            → unwrap_or (hash.get nat_eq m.made q) nothing_made ≡ record { forks = s.forks q; opens = s.opens q })
+            (sym now_is) fork_made;
       }
 
   module _ (next : CanFollow was (record { process = p; event = event.Open }))
@@ -79,7 +103,9 @@ module _ (l m : Ledger) (p : ℕ) (ledger : IsLedger l) where
       (processes : m.processes ≡ l.processes)
       (families : m.families ≡ l.families)
       (openings : m.openings ≡ l.openings ++ record { owner = p; nth = was.opens p } ∷ [])
-      (made : (q : ℕ) → hash.get nat_eq m.made q ≡ cond (nat_eq p q) (Some (record { forks = was.forks p; opens = was.opens p + 1 })) (hash.get nat_eq l.made q))
+      (made : (q : ℕ) → hash.get nat_eq m.made q
+      ≡ cond (nat_eq p q) (Some (record { forks = was.forks p; opens = was.opens p + 1 }))
+      (hash.get nat_eq l.made q))
     where
       abbrev its_opening : Opening
       its_opening = record { owner = p; nth = was.opens p }
@@ -87,7 +113,8 @@ module _ (l m : Ledger) (p : ℕ) (ledger : IsLedger l) where
       then_is : births m.journal.entries ≡ after_event was p event.Open
       then_is = ap births journal ∙ births_last l.journal.entries (record { process = p; event = event.Open })
 
-      open_made : (q : ℕ) → unwrap_or (hash.get nat_eq m.made q) nothing_made ≡ record { forks = was.forks q; opens = (after_event was p event.Open).opens q }
+      open_made : (q : ℕ) → unwrap_or (hash.get nat_eq m.made q) nothing_made
+          ≡ record { forks = was.forks q; opens = (after_event was p event.Open).opens q }
       open_made q = ap (λ (o : Option Made). unwrap_or o nothing_made) (made q) ∙ ⊎_elim
           (λ (e : p ≡ q).
           let f : was.forks p ≡ was.forks q = ap was.forks e in
@@ -95,27 +122,40 @@ module _ (l m : Ledger) (p : ℕ) (ledger : IsLedger l) where
           (λ (e : p ≢ q). rw (ne_eqb p q e) (ledger.made q))
           (cases_eq p q)
 
-      open_openings : (c : ℕ) → c < was.channels + 1 → slice_get (l.openings ++ its_opening ∷ []) c ≡ Some ((after_event was p event.Open).opening c)
+      open_openings : (c : ℕ) → c < was.channels + 1
+          → slice_get (l.openings ++ its_opening ∷ []) c ≡ Some ((after_event was p event.Open).opening c)
       open_openings c h = ⊎_elim
           (λ (o : c < was.channels).
           get_before_last l.openings its_opening c (let e = ledger.channels in omega arith) ∙ ledger.openings c o
-          ∙ ap (λ (x : Opening). Some x) (sym (old_opening was (lawful l.journal.entries ledger.nameable) p next.0 next.1.0 next.1.1 c o)))
+          ∙ ap (λ (x : Opening). Some x) (sym
+          (old_opening was (lawful l.journal.entries ledger.nameable) p next.0 next.1.0 next.1.1 c o)))
           (λ (o : was.channels ≤ c).
           let e : c ≡ length l.openings = let e = ledger.channels in omega arith in
           ap (slice_get (l.openings ++ its_opening ∷ [])) e ∙ get_last l.openings its_opening
-          ∙ ap (λ (x : Opening). Some x) (sym (new_opening was (lawful l.journal.entries ledger.nameable) p next.0 next.1.0 next.1.1 c o h)))
+          ∙ ap (λ (x : Opening). Some x) (sym
+          (new_opening was (lawful l.journal.entries ledger.nameable) p next.0 next.1.0 next.1.1 c o h)))
           (cases_lt c was.channels)
 
       pub open_ledger : IsLedger m
       open_ledger = record {
-        nameable = subst (λ es. NameableFrom at_start es) (sym journal) (nameable_last at_start l.journal.entries _ ledger.nameable next);
+        nameable = subst (λ es. NameableFrom at_start es) (sym journal)
+            (nameable_last at_start l.journal.entries _ ledger.nameable next);
         processes = processes ∙ ledger.processes ∙ ap (λ (s : Births). s.processes) (sym then_is);
-        channels = ap length openings ∙ length-append l.openings (its_opening ∷ []) ∙ ap (λ (x : ℕ). x + 1) ledger.channels ∙ ap (λ (s : Births). s.channels) (sym then_is);
-        openings = subst (λ (s : Births). (c : ℕ) → c < s.channels → slice_get m.openings c ≡ Some (s.opening c)) (sym then_is) (subst (λ os. (c : ℕ) → c < was.channels + 1 → slice_get os c ≡ Some ((after_event was p event.Open).opening c)) (sym openings) open_openings);
-        families = subst (λ (s : Births). (q : ℕ) → q < s.processes → s.birth q ≡ birth_in m.families q) (sym then_is) (subst (λ fs. (q : ℕ) → q < was.processes → was.birth q ≡ birth_in fs q) (sym families) ledger.families);
+        channels = ap length openings ∙ length-append l.openings (its_opening ∷ [])
+            ∙ ap (λ (x : ℕ). x + 1) ledger.channels ∙ ap (λ (s : Births). s.channels) (sym then_is);
+        openings = subst (λ (s : Births). (c : ℕ) → c < s.channels → slice_get m.openings c ≡ Some (s.opening c))
+            (sym then_is) (subst (λ os. (c : ℕ) → c < was.channels + 1
+            → slice_get os c ≡ Some ((after_event was p event.Open).opening c)) (sym openings) open_openings);
+        families = subst (λ (s : Births). (q : ℕ) → q < s.processes → s.birth q ≡ birth_in m.families q) (sym then_is)
+            (subst (λ fs. (q : ℕ) → q < was.processes → was.birth q ≡ birth_in fs q) (sym families) ledger.families);
         in_order = subst (IsNonDecreasingBy (λ (f : Family). f.first)) (sym families) ledger.in_order;
-        begun = subst (λ (s : Births). (i : ℕ) (d : Family) → i < length m.families → (get_or m.families i d).first ≤ s.processes) (sym then_is) (subst (λ fs. (i : ℕ) (d : Family) → i < length fs → (get_or fs i d).first ≤ was.processes) (sym families) ledger.begun);
-        made = subst (λ (s : Births). (q : ℕ) → unwrap_or (hash.get nat_eq m.made q) nothing_made ≡ record { forks = s.forks q; opens = s.opens q }) (sym then_is) open_made;
+        begun = subst (λ (s : Births). (i : ℕ) (d : Family) → i < length m.families
+            → (get_or m.families i d).first ≤ s.processes) (sym then_is)
+            (subst (λ fs. (i : ℕ) (d : Family) → i < length fs → (get_or fs i d).first ≤ was.processes) (sym families)
+            ledger.begun);
+        made = subst (λ (s : Births). (q : ℕ)
+            → unwrap_or (hash.get nat_eq m.made q) nothing_made ≡ record { forks = s.forks q; opens = s.opens q })
+            (sym then_is) open_made;
       }
 
   module _ (e : Event) (next : CanFollow was (record { process = p; event = e })) (gives : after_event was p e ≡ was)
@@ -129,12 +169,21 @@ module _ (l m : Ledger) (p : ℕ) (ledger : IsLedger l) where
       -- an event that gives nothing
       pub other_ledger : IsLedger m
       other_ledger = record {
-        nameable = subst (λ es. NameableFrom at_start es) (sym journal) (nameable_last at_start l.journal.entries _ ledger.nameable next);
+        nameable = subst (λ es. NameableFrom at_start es) (sym journal)
+            (nameable_last at_start l.journal.entries _ ledger.nameable next);
         processes = processes ∙ ledger.processes ∙ ap (λ (s : Births). s.processes) (sym stays);
         channels = ap length openings ∙ ledger.channels ∙ ap (λ (s : Births). s.channels) (sym stays);
-        openings = subst (λ (s : Births). (c : ℕ) → c < s.channels → slice_get m.openings c ≡ Some (s.opening c)) (sym stays) (subst (λ os. (c : ℕ) → c < was.channels → slice_get os c ≡ Some (was.opening c)) (sym openings) ledger.openings);
-        families = subst (λ (s : Births). (q : ℕ) → q < s.processes → s.birth q ≡ birth_in m.families q) (sym stays) (subst (λ fs. (q : ℕ) → q < was.processes → was.birth q ≡ birth_in fs q) (sym families) ledger.families);
+        openings = subst (λ (s : Births). (c : ℕ) → c < s.channels → slice_get m.openings c ≡ Some (s.opening c))
+            (sym stays) (subst (λ os. (c : ℕ) → c < was.channels → slice_get os c ≡ Some (was.opening c)) (sym openings)
+            ledger.openings);
+        families = subst (λ (s : Births). (q : ℕ) → q < s.processes → s.birth q ≡ birth_in m.families q) (sym stays)
+            (subst (λ fs. (q : ℕ) → q < was.processes → was.birth q ≡ birth_in fs q) (sym families) ledger.families);
         in_order = subst (IsNonDecreasingBy (λ (f : Family). f.first)) (sym families) ledger.in_order;
-        begun = subst (λ (s : Births). (i : ℕ) (d : Family) → i < length m.families → (get_or m.families i d).first ≤ s.processes) (sym stays) (subst (λ fs. (i : ℕ) (d : Family) → i < length fs → (get_or fs i d).first ≤ was.processes) (sym families) ledger.begun);
-        made = subst (λ (s : Births). (q : ℕ) → unwrap_or (hash.get nat_eq m.made q) nothing_made ≡ record { forks = s.forks q; opens = s.opens q }) (sym stays) (λ q. ap (λ (o : Option Made). unwrap_or o nothing_made) (made q) ∙ ledger.made q);
+        begun = subst (λ (s : Births). (i : ℕ) (d : Family) → i < length m.families
+            → (get_or m.families i d).first ≤ s.processes) (sym stays)
+            (subst (λ fs. (i : ℕ) (d : Family) → i < length fs → (get_or fs i d).first ≤ was.processes) (sym families)
+            ledger.begun);
+        made = subst (λ (s : Births). (q : ℕ)
+            → unwrap_or (hash.get nat_eq m.made q) nothing_made ≡ record { forks = s.forks q; opens = s.opens q })
+            (sym stays) (λ q. ap (λ (o : Option Made). unwrap_or o nothing_made) (made q) ∙ ledger.made q);
       }

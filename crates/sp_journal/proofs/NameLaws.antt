@@ -33,7 +33,8 @@ pairs_differ [] [] e = refl
 pairs_differ [] (b ∷ q) e = absurd (not_empty (pairs_of q) _ e)
 pairs_differ (a ∷ p) [] e = absurd (not_empty (pairs_of p) _ (sym e))
 pairs_differ (a ∷ p) (b ∷ q) e =
-    let r = ends_alike (pairs_of p) (pairs_of q) (record { fork = a.0; child = a.1 }) (record { fork = b.0; child = b.1 }) e in
+    let r = ends_alike (pairs_of p) (pairs_of q) (record { fork = a.0; child = a.1 })
+    (record { fork = b.0; child = b.1 }) e in
     let s = pairs_differ p q r.0 in
     λ i. ((r.1 i).fork, (r.1 i).child) ∷ s i
 

@@ -1,5 +1,6 @@
 -- No two journals have one text.
-use Rattle.std.proofs.Common.{◌≡◌, ◌≢◌, ⊎_elim, ℕ, ◌+◌, ◌<◌, ◌^◌, List, [], ◌∷◌, ◌++◌, Option, Some, None, refl, sym, ap, ◌∙◌, subst, arith, append_assoc, codes, find}
+use Rattle.std.proofs.Common.{◌≡◌, ◌≢◌, ⊎_elim, ℕ, ◌+◌, ◌<◌, ◌^◌, List, [], ◌∷◌, ◌++◌, Option, Some, None, refl, sym}
+use Rattle.std.proofs.Common.{ap, ◌∙◌, subst, arith, append_assoc, codes, find}
 use Rattle.std.specs.Fmt.{decimal}
 use Rattle.std.specs.Str.{bytes_eq}
 use Rattle.std.proofs.lemmas.Fmt.{decimal_injective}
@@ -64,16 +65,21 @@ told_of t = after (first_split 32 t)
     after (Some p) = p.1
 
 module _ (s : Births) (lawful : Lawful s) where
-  channels_differ : (c d : ℕ) → c < s.channels → d < s.channels → channel_text (chan_name (channel s c)) ≡ channel_text (chan_name (channel s d)) → c ≡ d
+  channels_differ : (c d : ℕ) → c < s.channels → d < s.channels
+      → channel_text (chan_name (channel s c)) ≡ channel_text (chan_name (channel s d)) → c ≡ d
   channels_differ c d l h e =
       let o = lawful.owned c l in
       let p = lawful.owned d h in
-      let f = channel_texts_differ (channel s c) (channel s d) (lawful.small_names _ o) (lawful.small_names _ p) (lawful.small_nth c l) (lawful.small_nth d h) e in
+      let f = channel_texts_differ (channel s c) (channel s d) (lawful.small_names _ o) (lawful.small_names _ p)
+      (lawful.small_nth c l) (lawful.small_nth d h) e in
       let owner = lawful.one_name (s.opening c).owner (s.opening d).owner o p f.0 in
       lawful.one_opening c d l h (λ i. record { owner = owner i; nth = f.1 i })
 
-  events_differ : (p q : ℕ) (e d : Event) → GivesNumbers s p e → GivesNumbers s q d → event_text s e ≡ event_text s d → e ≡ d
-  events_differ p q (event.Fork n) (event.Fork m) g h f = ap event.Fork (decimal_injective n m (let a = g.0 in let b = lawful.some in omega arith) (let a = h.0 in let b = lawful.some in omega arith) (ap told_of f))
+  events_differ : (p q : ℕ) (e d : Event) → GivesNumbers s p e → GivesNumbers s q d → event_text s e ≡ event_text s d
+      → e ≡ d
+  events_differ p q (event.Fork n) (event.Fork m) g h f =
+      ap event.Fork (decimal_injective n m (let a = g.0 in let b = lawful.some in omega arith)
+      (let a = h.0 in let b = lawful.some in omega arith) (ap told_of f))
   events_differ p q (event.Fork n) event.Open a b e = absurd (let k : 213 ≡ 223 = ap two e in omega arith)
   events_differ p q (event.Fork n) (event.Send d) a b e = absurd (let k : 213 ≡ 216 = ap two e in omega arith)
   events_differ p q (event.Fork n) (event.Receive d) a b e = absurd (let k : 213 ≡ 215 = ap two e in omega arith)
@@ -100,7 +106,8 @@ module _ (s : Births) (lawful : Lawful s) where
   events_differ p q (event.Receive c) (event.Fork m) a b e = absurd (let k : 215 ≡ 213 = ap two e in omega arith)
   events_differ p q (event.Receive c) event.Open a b e = absurd (let k : 215 ≡ 223 = ap two e in omega arith)
   events_differ p q (event.Receive c) (event.Send d) a b e = absurd (let k : 215 ≡ 216 = ap two e in omega arith)
-  events_differ p q (event.Receive c) (event.Receive d) g h f = ap event.Receive (channels_differ c d g h (ap told_of f))
+  events_differ p q (event.Receive c) (event.Receive d) g h f =
+      ap event.Receive (channels_differ c d g h (ap told_of f))
   events_differ p q (event.Receive c) event.End a b e = absurd (let k : 215 ≡ 211 = ap two e in omega arith)
   events_differ p q (event.Receive c) (event.Fault g) a b e = absurd (let k : 215 ≡ 199 = ap two e in omega arith)
   events_differ p q (event.Receive c) event.Laid a b e = absurd (let k : 215 ≡ 205 = ap two e in omega arith)
@@ -138,16 +145,20 @@ module _ (s : Births) (lawful : Lawful s) where
   events_differ p q event.Pause event.Laid a b e = absurd (let k : 209 ≡ 205 = ap two e in omega arith)
   events_differ p q event.Pause event.Pause g h f = refl
 
-  pub split_entry : (e : Entry) → CanFollow s e → first_split 32 (entry_text s e) ≡ Some (name_text (proc_name (s.name e.process)), event_text s e.event)
+  pub split_entry : (e : Entry) → CanFollow s e
+      → first_split 32 (entry_text s e) ≡ Some (name_text (proc_name (s.name e.process)), event_text s e.event)
   split_entry e h =
       let n : List ℕ = name_text (proc_name (s.name e.process)) in
       ap (first_split 32) (append_assoc n (32 ∷ []) (event_text s e.event))
-      ∙ first_at 32 n (event_text s e.event) (without_low 32 46 57 n (omega arith) (name_within (s.name e.process) (lawful.small_names e.process h.0)))
+      ∙ first_at 32 n (event_text s e.event)
+      (without_low 32 46 57 n (omega arith) (name_within (s.name e.process) (lawful.small_names e.process h.0)))
 
   entries_differ : (e d : Entry) → CanFollow s e → CanFollow s d → entry_text s e ≡ entry_text s d → e ≡ d
   entries_differ e d g h f =
       let k = sym (split_entry e g) ∙ ap (first_split 32) f ∙ split_entry d h in
-      let p = lawful.one_name e.process d.process g.0 h.0 (name_texts_differ _ _ (lawful.small_names e.process g.0) (lawful.small_names d.process h.0) (parts_first _ _ _ _ k)) in
+      let p = lawful.one_name e.process d.process g.0 h.0
+      (name_texts_differ _ _ (lawful.small_names e.process g.0) (lawful.small_names d.process h.0)
+      (parts_first _ _ _ _ k)) in
       let v = events_differ e.process d.process e.event d.event g.1 h.1 (parts_second _ _ _ _ k) in
       λ i. record { process = p i; event = v i }
 
@@ -155,12 +166,14 @@ no_entry : (s : Births) → Lawful s → (e : Entry) (es : List Entry) → CanFo
 no_entry s l e es h f = none-some _ (ap (first_split 10) f ∙ entry_line s l e h (entries_text (after_entry s e) es))
 
 -- entries that can come next and have one text
-pub same_entries : (s : Births) → Lawful s → (es ds : List Entry) → NameableFrom s es → NameableFrom s ds → entries_text s es ≡ entries_text s ds → es ≡ ds
+pub same_entries : (s : Births) → Lawful s → (es ds : List Entry) → NameableFrom s es → NameableFrom s ds
+    → entries_text s es ≡ entries_text s ds → es ≡ ds
 same_entries s l [] [] g h f = refl
 same_entries s l [] (d ∷ ds) g h f = absurd (no_entry s l d ds h.0 f)
 same_entries s l (e ∷ es) [] g h f = absurd (no_entry s l e es g.0 (sym f))
 same_entries s l (e ∷ es) (d ∷ ds) g h f =
-    let k = sym (entry_line s l e g.0 (entries_text (after_entry s e) es)) ∙ ap (first_split 10) f ∙ entry_line s l d h.0 (entries_text (after_entry s d) ds) in
+    let k = sym (entry_line s l e g.0 (entries_text (after_entry s e) es)) ∙ ap (first_split 10) f
+    ∙ entry_line s l d h.0 (entries_text (after_entry s d) ds) in
     let one : e ≡ d = entries_differ s l e d g.0 h.0 (parts_first _ _ _ _ k) in
     let rest = same_entries (after_entry s e) (lawful_after s e l g.0) es ds g.1
     (subst (λ (x : Entry). NameableFrom (after_entry s x) ds) (sym one) h.1)
@@ -170,6 +183,7 @@ same_entries s l (e ∷ es) (d ∷ ds) g h f =
 -- two texts of journals, in whatever versions
 pub one_journal : (v w : Version) (j k : Journal) (bytes : List ℕ) → IsTextOf v j bytes → IsTextOf w k bytes → j ≡ k
 one_journal v w j k bytes t u =
-    let f = sym (line_of_version v (entries_text at_start j.entries)) ∙ ap (first_split 10) (sym t.text ∙ u.text) ∙ line_of_version w (entries_text at_start k.entries) in
+    let f = sym (line_of_version v (entries_text at_start j.entries)) ∙ ap (first_split 10) (sym t.text ∙ u.text)
+    ∙ line_of_version w (entries_text at_start k.entries) in
     let e = same_entries at_start lawful_start j.entries k.entries t.nameable u.nameable (parts_second _ _ _ _ f) in
     λ i. record { entries = e i }

@@ -7,15 +7,18 @@ use Rattle.sp_journal.specs.Births.{Births, after_event}
 
 -- an event other than fork and open gives nothing
 pub quiet : (s : Births) (p : ℕ) (e : Event)
-    → ((x : ℕ) × (e ≡ event.Send x)) ⊎ (((x : ℕ) × (e ≡ event.Receive x)) ⊎ ((e ≡ event.End) ⊎ (((x : Fault) × (e ≡ event.Fault x)) ⊎ ((e ≡ event.Laid) ⊎ (e ≡ event.Pause)))))
+    → ((x : ℕ) × (e ≡ event.Send x)) ⊎ (((x : ℕ) × (e ≡ event.Receive x))
+    ⊎ ((e ≡ event.End) ⊎ (((x : Fault) × (e ≡ event.Fault x)) ⊎ ((e ≡ event.Laid) ⊎ (e ≡ event.Pause)))))
     → after_event s p e ≡ s
 quiet s p e h =
     ⊎_elim (λ (w : (x : ℕ) × (e ≡ event.Send x)). ap (after_event s p) w.1)
-    (λ (h : ((x : ℕ) × (e ≡ event.Receive x)) ⊎ ((e ≡ event.End) ⊎ (((x : Fault) × (e ≡ event.Fault x)) ⊎ ((e ≡ event.Laid) ⊎ (e ≡ event.Pause))))).
+    (λ (h : ((x : ℕ) × (e ≡ event.Receive x))
+    ⊎ ((e ≡ event.End) ⊎ (((x : Fault) × (e ≡ event.Fault x)) ⊎ ((e ≡ event.Laid) ⊎ (e ≡ event.Pause))))).
     ⊎_elim (λ (w : (x : ℕ) × (e ≡ event.Receive x)). ap (after_event s p) w.1)
     (λ (h : (e ≡ event.End) ⊎ (((x : Fault) × (e ≡ event.Fault x)) ⊎ ((e ≡ event.Laid) ⊎ (e ≡ event.Pause)))).
     ⊎_elim (λ (w : e ≡ event.End). ap (after_event s p) w)
     (λ (h : ((x : Fault) × (e ≡ event.Fault x)) ⊎ ((e ≡ event.Laid) ⊎ (e ≡ event.Pause))).
     ⊎_elim (λ (w : (x : Fault) × (e ≡ event.Fault x)). ap (after_event s p) w.1)
     (λ (h : (e ≡ event.Laid) ⊎ (e ≡ event.Pause)).
-    ⊎_elim (λ (w : e ≡ event.Laid). ap (after_event s p) w) (λ (w : e ≡ event.Pause). ap (after_event s p) w) h) h) h) h) h
+    ⊎_elim (λ (w : e ≡ event.Laid). ap (after_event s p) w) (λ (w : e ≡ event.Pause). ap (after_event s p) w) h) h) h)
+    h) h

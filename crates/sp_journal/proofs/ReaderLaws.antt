@@ -1,5 +1,6 @@
 -- How the texts of names and entries come apart, and what a reader finds by the parts.
-use Rattle.std.proofs.Common.{◌≡◌, ⊎_elim, ℕ, zero, suc, ◌+◌, ◌-◌, ◌^◌, ◌<◌, ◌≤◌, List, [], ◌∷◌, Option, Some, None, refl, sym, ap, ◌∙◌, subst, arith, append_assoc, codes}
+use Rattle.std.proofs.Common.{◌≡◌, ⊎_elim, ℕ, zero, suc, ◌+◌, ◌-◌, ◌^◌, ◌<◌, ◌≤◌, List, [], ◌∷◌, Option, Some, None}
+use Rattle.std.proofs.Common.{refl, sym, ap, ◌∙◌, subst, arith, append_assoc, codes}
 use Rattle.std.specs.Fmt.{decimal}
 use Rattle.std.specs.Str.{IsAscii}
 use Rattle.std.specs.HashMap.{get_by_text}
@@ -16,7 +17,8 @@ use Rattle.sp_journal.specs.Texts.{entry_text, event_text}
 use Rattle.sp_journal.specs.Splits.{first_split, last_split}
 use Rattle.sp_journal.specs.Reader.{IsReader, family_text, known}
 use Rattle.sp_journal.proofs.SplitLaws.{Within, without_low, first_at}
-use Rattle.sp_journal.proofs.TextLaws.{name_within, family_within, channel_within, child_split, parts_first, parts_second, none_parts}
+use Rattle.sp_journal.proofs.TextLaws.{name_within, family_within, channel_within, child_split, parts_first}
+use Rattle.sp_journal.proofs.TextLaws.{parts_second, none_parts}
 use Rattle.sp_journal.proofs.BirthLaws.{Lawful, Born, lawful}
 use Rattle.sp_journal.proofs.OneText.{split_entry}
 
@@ -40,12 +42,14 @@ module _ (r : Reader) (reader : IsReader r) where
   laws = lawful r.ledger.journal.entries reader.ledger.nameable
 
   module _ (q : ℕ) (there : q < (known r).processes) where
-    of_child : (x y : List ℕ) → last_split 46 (name_text (proc_name ((known r).name q))) ≡ Some (x, y) → 1 ≤ q → Parts r q x y
+    of_child : (x y : List ℕ) → last_split 46 (name_text (proc_name ((known r).name q))) ≡ Some (x, y) → 1 ≤ q
+        → Parts r q x y
     of_child x y e z =
         let b : Born (known r) q = laws.born q z there in
         let small : b.birth.child < 2 ^ 32 = let a = b.small_child in let f = laws.few in omega arith in
         let f : Some (family_text ((known r).name b.birth.parent) b.birth.fork, decimal b.birth.child) ≡ Some (x, y) =
-        sym (child_split ((known r).name b.birth.parent) b.birth.fork b.birth.child small) ∙ sym (ap (λ (n : Name). last_split 46 (name_text (proc_name n))) b.named) ∙ e in
+        sym (child_split ((known r).name b.birth.parent) b.birth.fork b.birth.child small)
+        ∙ sym (ap (λ (n : Name). last_split 46 (name_text (proc_name n))) b.named) ∙ e in
         let parent : b.birth.parent < (known r).processes = let o = b.older in omega arith in
         record {
           first = q - b.birth.child;
@@ -54,7 +58,10 @@ module _ (r : Reader) (reader : IsReader r) where
           number = sym (parts_second _ _ x y f);
           small = small;
           sum = let a = b.small_child in omega arith;
-          ascii = subst IsAscii (parts_first _ _ x y f) (ascii_within 46 57 (family_text ((known r).name b.birth.parent) b.birth.fork) (omega arith) (family_within ((known r).name b.birth.parent) b.birth.fork (laws.small_names b.birth.parent parent) b.small_fork));
+          ascii = subst IsAscii (parts_first _ _ x y f)
+              (ascii_within 46 57 (family_text ((known r).name b.birth.parent) b.birth.fork) (omega arith)
+              (family_within ((known r).name b.birth.parent) b.birth.fork (laws.small_names b.birth.parent parent)
+              b.small_fork));
         }
 
     no_root : (x y : List ℕ) → last_split 46 (name_text (proc_name ((known r).name q))) ≡ Some (x, y) → q < 1 → ⊥
@@ -73,13 +80,17 @@ module _ (r : Reader) (reader : IsReader r) where
         (λ (z : 1 ≤ q).
         let b : Born (known r) q = laws.born q z there in
         let small : b.birth.child < 2 ^ 32 = let a = b.small_child in let f = laws.few in omega arith in
-        absurd (none_parts _ _ (sym e ∙ ap (λ (n : Name). last_split 46 (name_text (proc_name n))) b.named ∙ child_split ((known r).name b.birth.parent) b.birth.fork b.birth.child small)))
+        absurd (none_parts _ _ (sym e ∙ ap (λ (n : Name). last_split 46 (name_text (proc_name n))) b.named
+        ∙ child_split ((known r).name b.birth.parent) b.birth.fork b.birth.child small)))
         (cases_lt q 1)
 
   pub channel_small : (c : ℕ) → c < (known r).channels → Within 35 57 (channel_text (chan_name (channel (known r) c)))
-  channel_small c l = channel_within (channel (known r) c) (laws.small_names ((known r).opening c).owner (laws.owned c l)) (laws.small_nth c l)
+  channel_small c l = channel_within (channel (known r) c)
+      (laws.small_names ((known r).opening c).owner (laws.owned c l)) (laws.small_nth c l)
 
-  pub entry_split : (e : Entry) → CanFollow (known r) e → first_split 32 (entry_text (known r) e) ≡ Some (name_text (proc_name ((known r).name e.process)), event_text (known r) e.event)
+  pub entry_split : (e : Entry) → CanFollow (known r) e
+      → first_split 32 (entry_text (known r) e)
+      ≡ Some (name_text (proc_name ((known r).name e.process)), event_text (known r) e.event)
   entry_split e h = split_entry (known r) laws e h
 
 -- what an event's text is made of

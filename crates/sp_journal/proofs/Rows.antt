@@ -1,5 +1,6 @@
 -- Worked journals: names, what their processes know, whether they are ordered, and their turns.
-use Rattle.std.proofs.Common.{◌≡◌, ℕ, List, [], ◌∷◌, ◌++◌, Bool, true, false, Option, Some, None, refl, sym, ◌∙◌, ap, take}
+use Rattle.std.proofs.Common.{◌≡◌, ℕ, List, [], ◌∷◌, ◌++◌, Bool, true, false, Option, Some, None, refl, sym, ◌∙◌, ap}
+use Rattle.std.proofs.Common.{take}
 use Rattle.std.proofs.lemmas.Bool.{false≢true}
 use Rattle.sp_journal.specs.declared.entry.Way.TheVariants as way
 use Rattle.sp_journal.specs.declared.entry.Event.{Event}
@@ -70,5 +71,28 @@ raced h =
 
 -- with one worker the processes come in this order
 in_turn : IsFirstInFirstOut two_senders
-in_turn =
-    ([], refl, ([], refl, (2 ∷ 3 ∷ [], refl, (3 ∷ [], refl, (1 ∷ 2 ∷ [], refl, (2 ∷ [], refl, (3 ∷ 1 ∷ [], refl, (1 ∷ [], refl, ([], refl, ([], refl, tt))))))))))
+in_turn = (
+  [],
+  refl,
+  (
+    [],
+    refl,
+    (
+      2 ∷ 3 ∷ [],
+      refl,
+      (
+        3 ∷ [],
+        refl,
+        (
+          1 ∷ 2 ∷ [],
+          refl,
+          (
+            2 ∷ [],
+            refl,
+            (3 ∷ 1 ∷ [], refl, (1 ∷ [], refl, ([], refl, ([], refl, tt)))),
+          ),
+        ),
+      ),
+    ),
+  ),
+)

@@ -20,7 +20,8 @@ within_append lo hi (x ∷ xs) ys a b = (a.0, a.1, within_append lo hi xs ys a.2
 
 pub within_wider : (lo hi low high : ℕ) (xs : List ℕ) → low ≤ lo → hi ≤ high → Within lo hi xs → Within low high xs
 within_wider lo hi low high [] l h w = tt
-within_wider lo hi low high (x ∷ xs) l h w = (let a = w.0 in omega arith, let a = w.1 in omega arith, within_wider lo hi low high xs l h w.2)
+within_wider lo hi low high (x ∷ xs) l h w =
+    (let a = w.0 in omega arith, let a = w.1 in omega arith, within_wider lo hi low high xs l h w.2)
 
 pub without_low : (c lo hi : ℕ) (xs : List ℕ) → c < lo → Within lo hi xs → Without c xs
 without_low c lo hi [] l w = tt

@@ -1,3 +1,4 @@
+-- None of this belongs to what the program promises: it is for contracts between crates.
 -- How far a text has been read: the entries so far, and that every journal with this text begins with them. No public
 -- contract cites these; the proof of the reader keeps them from line to line.
 use Rattle.std.specs.Prelude.{◌≡◌, ℕ, List, ◌++◌}
@@ -17,4 +18,5 @@ pub record Left (v : Version) (s : Births) (rest : List ℕ) (more : List Entry)
 pub record Begun (bytes : List ℕ) (v : Version) (es : List Entry) (rest : List ℕ) : Type 0 where
   pub whole : IsTextOf v (record { entries = es }) (journal_text v (record { entries = es }))
   pub joined : bytes ≡ journal_text v (record { entries = es }) ++ rest
-  pub begins : (w : Version) (k : Journal) → IsTextOf w k bytes → (w ≡ v) × (more : List Entry) × (k.entries ≡ es ++ more) × Left v (births es) rest more
+  pub begins : (w : Version) (k : Journal) → IsTextOf w k bytes → (w ≡ v) × (more : List Entry)
+      × (k.entries ≡ es ++ more) × Left v (births es) rest more

@@ -1,7 +1,9 @@
+-- All of this belongs to what the program promises (docs/promise.txt).
 -- What a journal's entries give to processes and channels: numbers, births and names. The contracts of `Journal` and
 -- `Ledger` cite it, and the kernel, the judge and the reports speak of processes by it. A fold over the entries, since
 -- numbers are given in the order of entries.
-use Rattle.std.specs.Prelude.{ℕ, ◌+◌, ◌-◌, ◌^◌, ◌<◌, ◌≤◌, Bool, cond, ◌&&◌, ◌==◌, nat_lt, nat_le, List, [], ◌∷◌, Option, Some, None}
+use Rattle.std.specs.Prelude.{ℕ, ◌+◌, ◌-◌, ◌^◌, ◌<◌, ◌≤◌, Bool, cond, ◌&&◌, ◌==◌, nat_lt, nat_le, List, [], ◌∷◌, Option}
+use Rattle.std.specs.Prelude.{Some, None}
 use Rattle.sp_journal.specs.declared.entry.Way.TheVariants as way
 use Rattle.sp_journal.specs.declared.entry.Event.{Event}
 use Rattle.sp_journal.specs.declared.entry.Event.TheVariants as event
@@ -10,7 +12,8 @@ use Rattle.sp_journal.specs.declared.entry.Journal.{Journal}
 use Rattle.sp_journal.specs.declared.entry.Birth.{Birth}
 use Rattle.sp_journal.specs.declared.entry.Opening.{Opening}
 use Rattle.sp_journal.specs.Maps.{at_key}
-use Rattle.sp_journal.specs.Names.{Name, Channel, Happening, Opened, Forked, Offered, Ended, Faulted, Laid, Paused, Occurrence}
+use Rattle.sp_journal.specs.Names.{Name, Channel, Happening, Opened, Forked, Offered, Ended, Faulted, Laid, Paused}
+use Rattle.sp_journal.specs.Names.{Occurrence}
 
 -- what the entries so far have given
 pub record Births : Type 0 where
@@ -47,7 +50,8 @@ is_next s n q = nat_le s.processes q && nat_lt q (s.processes + n)
 abbrev pub after_event : Births → ℕ → Event → Births
 after_event s p (event.Fork n) = record s {
   processes = s.processes + n;
-  birth = λ q. cond (is_next s n q) (Some (record { parent = p; fork = s.forks p; child = q - s.processes })) (s.birth q);
+  birth = λ q. cond (is_next s n q) (Some (record { parent = p; fork = s.forks p; child = q - s.processes }))
+      (s.birth q);
   name = λ q. cond (is_next s n q) ((s.forks p, q - s.processes) ∷ s.name p) (s.name q);
   forks = at_key ◌==◌ p (s.forks p + 1) s.forks;
 }

@@ -1,6 +1,8 @@
+-- None of this belongs to what the program promises: it is for contracts between crates.
 -- What the tables of a ledger hold: what `births` says of the journal so far. The contracts of `Ledger` keep it, and
 -- the judge, the kernel and the reports look names up under it.
-use Rattle.std.specs.Prelude.{◌≡◌, ℕ, ◌-◌, ◌<◌, ◌≤◌, cond, nat_le, nat_eq, List, [], ◌∷◌, length, Option, Some, None, slice_get, slice_index_or, unwrap_or}
+use Rattle.std.specs.Prelude.{◌≡◌, ℕ, ◌-◌, ◌<◌, ◌≤◌, cond, nat_le, nat_eq, List, [], ◌∷◌, length, Option, Some, None}
+use Rattle.std.specs.Prelude.{slice_get, slice_index_or, unwrap_or}
 use Rattle.std.specs.Option.{option_map}
 use Rattle.std.specs.HashMap as hash
 use Rattle.std.specs.List.Sorted.{IsNonDecreasingBy}
@@ -30,8 +32,12 @@ pub record IsLedger (l : Ledger) : Type 0 where
   pub nameable : IsNameable l.journal
   pub processes : l.processes ≡ (births l.journal.entries).processes
   pub channels : length l.openings ≡ (births l.journal.entries).channels
-  pub openings : (c : ℕ) → c < (births l.journal.entries).channels → slice_get l.openings c ≡ Some ((births l.journal.entries).opening c)
-  pub families : (q : ℕ) → q < (births l.journal.entries).processes → (births l.journal.entries).birth q ≡ birth_in l.families q
+  pub openings : (c : ℕ) → c < (births l.journal.entries).channels
+      → slice_get l.openings c ≡ Some ((births l.journal.entries).opening c)
+  pub families : (q : ℕ) → q < (births l.journal.entries).processes
+      → (births l.journal.entries).birth q ≡ birth_in l.families q
   pub in_order : IsNonDecreasingBy (λ (f : Family). f.first) l.families
-  pub begun : (i : ℕ) (d : Family) → i < length l.families → (slice_index_or l.families i d).first ≤ (births l.journal.entries).processes
-  pub made : (p : ℕ) → unwrap_or (hash.get nat_eq l.made p) nothing_made ≡ record { forks = (births l.journal.entries).forks p; opens = (births l.journal.entries).opens p }
+  pub begun : (i : ℕ) (d : Family) → i < length l.families
+      → (slice_index_or l.families i d).first ≤ (births l.journal.entries).processes
+  pub made : (p : ℕ) → unwrap_or (hash.get nat_eq l.made p) nothing_made
+      ≡ record { forks = (births l.journal.entries).forks p; opens = (births l.journal.entries).opens p }

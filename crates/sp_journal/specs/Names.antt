@@ -1,3 +1,4 @@
+-- Some of this belongs to what the program promises (docs/promise.txt).
 -- Names of processes and channels in the form in which definitions use them, and what a journal says by names. The
 -- meaning, the judge and the reports speak of runs so. The newest step stands first, since definitions go from a
 -- process to its parent.

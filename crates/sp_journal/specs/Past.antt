@@ -1,9 +1,12 @@
+-- Some of this belongs to what the program promises (docs/promise.txt).
 -- What each process knows of a journal, and which journals are ordered. They speak of entries by names alone. The
 -- contracts of the judge and of `sp_race` cite them: a verdict rests on what a process could know when it offered.
-use Rattle.std.specs.Prelude.{◌≡◌, ℕ, suc, zero, ◌+◌, Bool, true, false, cond, ◌||◌, ◌==◌, List, [], ◌∷◌, ◌++◌, length, Option, Some, None, slice_get}
+use Rattle.std.specs.Prelude.{◌≡◌, ℕ, suc, zero, ◌+◌, Bool, true, false, cond, ◌||◌, ◌==◌, List, [], ◌∷◌, ◌++◌, length}
+use Rattle.std.specs.Prelude.{Option, Some, None, slice_get}
 use Rattle.sp_journal.specs.declared.entry.Journal.{Journal}
 use Rattle.sp_journal.specs.Maps.{at_key}
-use Rattle.sp_journal.specs.Names.{Name, Channel, same_name, same_channel, Happening, Opened, Forked, Offered, Ended, Faulted, Laid, Paused, Occurrence}
+use Rattle.sp_journal.specs.Names.{Name, Channel, same_name, same_channel, Happening, Opened, Forked, Offered, Ended}
+use Rattle.sp_journal.specs.Names.{Faulted, Laid, Paused, Occurrence}
 use Rattle.sp_journal.specs.Births.{occurrences}
 
 -- the set of indices that each process knows (its past), the pending offer of each channel with its index, how many
@@ -35,7 +38,12 @@ now j p n i = j.past p i || n == i
 
 -- an offer that waits adds nothing; one that meets gives both sides what both know and the indices of both offers
 abbrev pub met_now : Judged → Name → ℕ → Channel → Option (Name × ℕ) → Judged
-met_now j p n c None = record { past = j.past; pending = at_key same_channel c (Some (p, n)) j.pending; forks = j.forks; completed = j.completed }
+met_now j p n c None = record {
+  past = j.past;
+  pending = at_key same_channel c (Some (p, n)) j.pending;
+  forks = j.forks;
+  completed = j.completed;
+}
 met_now j p n c (Some o) =
     record {
       past = learn o.0 (λ i. now j p n i || now j o.0 o.1 i) (learn p (λ i. now j p n i || now j o.0 o.1 i) j.past);
@@ -47,10 +55,25 @@ met_now j p n c (Some o) =
 -- the entry of index n: open and fork add their own index, an end adds it to the child's past, a pause, a fault and a
 -- laid process add nothing
 abbrev pub judged_by : Judged → ℕ → Name → Happening → Judged
-judged_by j n p Opened = record { past = learn p (λ i. n == i) j.past; pending = j.pending; forks = j.forks; completed = j.completed }
-judged_by j n p (Forked k) = record { past = teach p (j.forks p) (now j p n) 0 k (learn p (λ i. n == i) j.past); pending = j.pending; forks = at_key same_name p (j.forks p + 1) j.forks; completed = j.completed }
+judged_by j n p Opened = record {
+  past = learn p (λ i. n == i) j.past;
+  pending = j.pending;
+  forks = j.forks;
+  completed = j.completed;
+}
+judged_by j n p (Forked k) = record {
+  past = teach p (j.forks p) (now j p n) 0 k (learn p (λ i. n == i) j.past);
+  pending = j.pending;
+  forks = at_key same_name p (j.forks p + 1) j.forks;
+  completed = j.completed;
+}
 judged_by j n p (Offered w c) = met_now j p n c (j.pending c)
-judged_by j n p Ended = record { past = report p (now j p n) (learn p (λ i. n == i) j.past); pending = j.pending; forks = j.forks; completed = j.completed }
+judged_by j n p Ended = record {
+  past = report p (now j p n) (learn p (λ i. n == i) j.past);
+  pending = j.pending;
+  forks = j.forks;
+  completed = j.completed;
+}
 judged_by j n p (Faulted f) = j
 judged_by j n p Laid = j
 judged_by j n p Paused = j
@@ -69,7 +92,9 @@ judged es = judged_from nothing_judged 0 es
 -- at an offer: each earlier offer of this way on this channel was completed, and who offers knows the index of its
 -- completion
 abbrev pub KnowsCompletions : Judged → List Occurrence → Name → Happening → Type 0
-KnowsCompletions j done p (Offered w c) = (i : ℕ) (z : Name) → slice_get done i ≡ Some (record { who = z; what = Offered w c }) → (m : ℕ) × (j.completed i ≡ Some m) × (j.past p m ≡ true)
+KnowsCompletions j done p (Offered w c) = (i : ℕ) (z : Name)
+    → slice_get done i ≡ Some (record { who = z; what = Offered w c }) → (m : ℕ) × (j.completed i ≡ Some m)
+    × (j.past p m ≡ true)
 KnowsCompletions j done p Opened = Unit {0}
 KnowsCompletions j done p (Forked k) = Unit {0}
 KnowsCompletions j done p Ended = Unit {0}
@@ -79,7 +104,8 @@ KnowsCompletions j done p Paused = Unit {0}
 
 abbrev pub CompletedFrom : Judged → List Occurrence → List Occurrence → Type 0
 CompletedFrom j done [] = Unit {0}
-CompletedFrom j done (e ∷ es) = KnowsCompletions j done e.who e.what × CompletedFrom (judged_by j (length done) e.who e.what) (done ++ e ∷ []) es
+CompletedFrom j done (e ∷ es) = KnowsCompletions j done e.who e.what
+    × CompletedFrom (judged_by j (length done) e.who e.what) (done ++ e ∷ []) es
 
 -- for any two sends on one channel, and any two receives on one channel: the earlier one was completed, and the later
 -- one's process knew the index of that completion just before it offered

@@ -1,3 +1,4 @@
+-- All of this belongs to what the program promises (docs/promise.txt).
 -- Journals in which the process of every entry is the one that had been ready longest before it. The laws of
 -- `sp_history` and the contracts of the runner promise such a journal of a run by one worker.
 use Rattle.std.specs.Prelude.{◌≡◌, ℕ, suc, zero, ◌-◌, cond, ◌==◌, List, [], ◌∷◌, ◌++◌, Option, Some, None}
@@ -37,7 +38,10 @@ offered l p c (Some z) = joined_by (record l { pending = at_key ◌==◌ c None 
 -- after the last child the parent becomes ready
 abbrev pub reported : Line → Option Birth → Line
 reported l None = l
-reported l (Some b) = record l { ready = l.ready ++ cond (l.awaited b.parent == 1) (b.parent ∷ []) []; awaited = at_key ◌==◌ b.parent (l.awaited b.parent - 1) l.awaited }
+reported l (Some b) = record l {
+  ready = l.ready ++ cond (l.awaited b.parent == 1) (b.parent ∷ []) [];
+  awaited = at_key ◌==◌ b.parent (l.awaited b.parent - 1) l.awaited;
+}
 
 -- after this event of process p, which is ready no more
 abbrev pub queued : Births → Line → ℕ → Event → Line
@@ -53,7 +57,8 @@ queued s l p event.Pause = joined_by l (p ∷ [])
 -- further entries, each by the process that has been ready longest
 abbrev pub InTurnFrom : Births → Line → List Entry → Type 0
 InTurnFrom s l [] = Unit {0}
-InTurnFrom s l (e ∷ es) = (rest : List ℕ) × (l.ready ≡ e.process ∷ rest) × InTurnFrom (after_entry s e) (queued s (record l { ready = rest }) e.process e.event) es
+InTurnFrom s l (e ∷ es) = (rest : List ℕ) × (l.ready ≡ e.process ∷ rest)
+    × InTurnFrom (after_entry s e) (queued s (record l { ready = rest }) e.process e.event) es
 
 -- first in, first out: the process of every entry is the one that had been ready longest before it
 abbrev pub IsFirstInFirstOut : Journal → Type 0

@@ -1,3 +1,4 @@
+-- None of this belongs to what the program promises: it is for contracts between crates.
 -- What a reader of a journal's text keeps, and what it makes of a line. No public contract cites these; the parts of
 -- the reader promise them to each other, so that each line is looked at once.
 use Rattle.std.specs.Prelude.{◌≡◌, ℕ, ◌-◌, ◌<◌, List, ◌∷◌, ◌++◌, Option, Some, None}
@@ -24,8 +25,10 @@ known r = births r.ledger.journal.entries
 -- by the text of each fork that has children the number of the first one, and by the name of each channel its number
 pub record IsReader (r : Reader) : Type 0 where
   pub ledger : IsLedger r.ledger
-  pub families : (q : ℕ) (b : Birth) → q < (known r).processes → (known r).birth q ≡ Some b → get_by_text r.families (family_text ((known r).name b.parent) b.fork) ≡ Some (q - b.child)
-  pub channels : (c : ℕ) → c < (known r).channels → get_by_text r.channels (channel_text (chan_name (channel (known r) c))) ≡ Some c
+  pub families : (q : ℕ) (b : Birth) → q < (known r).processes → (known r).birth q ≡ Some b
+      → get_by_text r.families (family_text ((known r).name b.parent) b.fork) ≡ Some (q - b.child)
+  pub channels : (c : ℕ) → c < (known r).channels
+      → get_by_text r.channels (channel_text (chan_name (channel (known r) c))) ≡ Some c
 
 -- what can come next, in this version
 abbrev pub CanCome : Version → Births → Entry → Type 0
@@ -33,5 +36,6 @@ CanCome v s e = CanFollow s e × CanHold v e.event
 
 -- the line is the text of this entry, which can come next, and of no other; or it is the text of none
 abbrev pub IsNext : Version → Births → List ℕ → Option Entry → Type 0
-IsNext v s line (Some e) = CanCome v s e × (line ≡ entry_text s e) × ((d : Entry) → CanCome v s d → line ≡ entry_text s d → d ≡ e)
+IsNext v s line (Some e) = CanCome v s e × (line ≡ entry_text s e)
+    × ((d : Entry) → CanCome v s d → line ≡ entry_text s d → d ≡ e)
 IsNext v s line None = (d : Entry) → CanCome v s d → line ≡ entry_text s d → ⊥

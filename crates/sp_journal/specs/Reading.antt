@@ -1,3 +1,4 @@
+-- Some of this belongs to what the program promises (docs/promise.txt).
 -- What reading the text of a journal answers: the contract of `read_journal`. It says both that the answer is right
 -- and that there is no other, so that a text stands for one journal.
 use Rattle.std.specs.Prelude.{◌≡◌, ℕ, List, codes, Option, Some, None, Result, Ok, Err}

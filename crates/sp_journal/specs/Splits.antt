@@ -1,3 +1,4 @@
+-- None of this belongs to what the program promises: it is for contracts between crates.
 -- Cutting a text at a byte, for the parts of the reader. No public contract cites these; they are recursive, so that
 -- proofs go by the bytes of a line.
 use Rattle.std.specs.Prelude.{ℕ, cond, ◌==◌, List, [], ◌∷◌, Option, Some, None, find}
@@ -33,7 +34,8 @@ last_split c (x ∷ xs) = or_here (last_split c xs)
 
 -- each fault once
 abbrev pub all_faults : List Fault
-all_faults = fault.F1 ∷ fault.F2 ∷ fault.F3 ∷ fault.F4 ∷ fault.F5 ∷ fault.F6 ∷ fault.F7 ∷ fault.F8 ∷ fault.F9 ∷ fault.F10 ∷ fault.F11 ∷ fault.F12 ∷ fault.F13 ∷ fault.F14 ∷ fault.F15 ∷ fault.F16 ∷ fault.F17 ∷ fault.F18 ∷ []
+all_faults = fault.F1 ∷ fault.F2 ∷ fault.F3 ∷ fault.F4 ∷ fault.F5 ∷ fault.F6 ∷ fault.F7 ∷ fault.F8 ∷ fault.F9
+    ∷ fault.F10 ∷ fault.F11 ∷ fault.F12 ∷ fault.F13 ∷ fault.F14 ∷ fault.F15 ∷ fault.F16 ∷ fault.F17 ∷ fault.F18 ∷ []
 
 -- the fault of this name
 abbrev pub fault_named : List ℕ → Option Fault

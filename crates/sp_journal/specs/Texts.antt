@@ -1,3 +1,4 @@
+-- All of this belongs to what the program promises (docs/promise.txt).
 -- The texts of a journal: a heading, and then a line for each entry. Printing and reading promise the same definition,
 -- which makes the two inverse; the reports print entries by it too.
 use Rattle.std.specs.Prelude.{◌≡◌, ℕ, ◌+◌, List, [], ◌∷◌, ◌++◌, length, codes, decimal}
@@ -78,7 +79,9 @@ pub record IsTextOf (v : Version) (j : Journal) (bytes : List ℕ) : Type 0 wher
 -- line n is the first that is not the text of a next entry, or it is the first line and no heading
 pub data IsFirstBad (n : ℕ) (bytes : List ℕ) : Type 0 where
   bad_heading : n ≡ 1 → ((v : Version) (rest : List ℕ) → bytes ≡ heading v ++ rest → ⊥) → IsFirstBad n bytes
-  bad_entry : (v : Version) (j : Journal) (text rest : List ℕ) → IsTextOf v j text → bytes ≡ text ++ rest → (rest ≡ [] → ⊥)
+  bad_entry : (v : Version) (j : Journal) (text rest : List ℕ) → IsTextOf v j text → bytes ≡ text ++ rest
+      → (rest ≡ [] → ⊥)
       → n ≡ length j.entries + 2
-      → ((e : Entry) (more : List ℕ) → CanFollow (births j.entries) e → CanHold v e.event → rest ≡ (entry_text (births j.entries) e ++ codes "\n") ++ more → ⊥)
+      → ((e : Entry) (more : List ℕ) → CanFollow (births j.entries) e → CanHold v e.event
+      → rest ≡ (entry_text (births j.entries) e ++ codes "\n") ++ more → ⊥)
       → IsFirstBad n bytes

@@ -155,9 +155,11 @@ impl Ledger {
 
     fn add_fork(&mut self, process: u32, count: u32) -> Result<(), Memory>
         requires ledger { IsLedger self.old }
-        requires next { CanFollow (births self.old.journal.entries) (record { process = process; event = Event.Fork count }) }
+        requires next { CanFollow (births self.old.journal.entries)
+            (record { process = process; event = Event.Fork count }) }
         ensures ledger { IsLedger self.new }
-        ensures added { OnOk result (self.new.journal.entries ≡ self.old.journal.entries ++ record { process = process; event = Event.Fork count } ∷ []) }
+        ensures added { OnOk result (self.new.journal.entries ≡ self.old.journal.entries
+            ++ record { process = process; event = Event.Fork count } ∷ []) }
         ensures kept { OnErr result (self.new.journal ≡ self.old.journal) }
     {
         let made = self.made(process);
@@ -191,7 +193,8 @@ impl Ledger {
         requires ledger { IsLedger self.old }
         requires next { CanFollow (births self.old.journal.entries) (record { process = process; event = Event.Open }) }
         ensures ledger { IsLedger self.new }
-        ensures added { OnOk result (self.new.journal.entries ≡ self.old.journal.entries ++ record { process = process; event = Event.Open } ∷ []) }
+        ensures added { OnOk result (self.new.journal.entries ≡ self.old.journal.entries
+            ++ record { process = process; event = Event.Open } ∷ []) }
         ensures kept { OnErr result (self.new.journal ≡ self.old.journal) }
     {
         let made = self.made(process);

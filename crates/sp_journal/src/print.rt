@@ -55,7 +55,8 @@ impl Ledger {
     fn put_event(&self, out: &mut Vec<u8>, entry: Entry) -> Result<(), Memory>
         requires ledger { IsLedger self.now }
         requires next { CanFollow (births self.now.journal.entries) entry }
-        ensures ok { OnOk result (out.new.items ≡ out.old.items ++ event_text (births self.now.journal.entries) entry.event) }
+        ensures ok { OnOk result (out.new.items ≡ out.old.items
+            ++ event_text (births self.now.journal.entries) entry.event) }
         ensures kept { take (length out.old.items) out.new.items ≡ out.old.items }
     {
         match entry.event {
@@ -80,7 +81,8 @@ impl Ledger {
     fn put_offer(&self, out: &mut Vec<u8>, way: Way, number: u32) -> Result<(), Memory>
         requires ledger { IsLedger self.now }
         requires there { number < (births self.now.journal.entries).channels }
-        ensures ok { OnOk result (out.new.items ≡ out.old.items ++ offer_text (births self.now.journal.entries) way number) }
+        ensures ok { OnOk result (out.new.items ≡ out.old.items
+            ++ offer_text (births self.now.journal.entries) way number) }
         ensures kept { take (length out.old.items) out.new.items ≡ out.old.items }
     {
         let channel = self.channel(number)?;

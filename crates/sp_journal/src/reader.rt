@@ -1,7 +1,8 @@
 //! A journal as it is read from its text, line by line. The reader finds an entry by the parts of its line, and takes
 //! only what prints as it was read.
 
-ghost use Rattle.std.specs.Prelude.{◌≡◌, ◌+◌, ◌++◌, ◌∷◌, [], ◌<◌, ◌^◌, ◌↔◌, ℕ, IsTrue, Some, IfOk, OnOk, codes, decimal};
+ghost use Rattle.std.specs.Prelude.{◌≡◌, ◌+◌, ◌++◌, ◌∷◌, [], ◌<◌, ◌^◌, ◌↔◌, ℕ, IsTrue, Some, IfOk, OnOk, codes};
+ghost use Rattle.std.specs.Prelude.{decimal};
 ghost use Rattle.sp_base.specs.declared.fault.Fault.{Fault};
 ghost use Rattle.sp_base.specs.Faults.{fault_name};
 ghost use Rattle.sp_base.specs.Names.{name_text, channel_text};
@@ -118,7 +119,8 @@ impl Reader {
     /// The entry of this text. Other bytes may give any answer.
     fn entry(&self, line: &[u8]) -> Option<Entry>
         requires { IsReader self.now }
-        ensures { (e : Entry) → CanFollow (known self.now) e → line.now ≡ entry_text (known self.now) e → result ≡ Some e }
+        ensures { (e : Entry) → CanFollow (known self.now) e → line.now ≡ entry_text (known self.now) e
+            → result ≡ Some e }
     {
         let (name, rest) = split_first(line, b' ')?;
         let process = self.process(name)?;

@@ -1,5 +1,7 @@
 -- The judge's tables after one more entry.
-use Rattle.std.proofs.Common.{◌≡◌, ◌⊎◌, inl, inr, ⊎_elim, ℕ, zero, suc, ◌+◌, ◌<◌, ◌≤◌, Bool, true, false, cond, max, ◌&&◌, ◌==◌, nat_le, nat_lt, List, [], ◌∷◌, ◌++◌, take, length, length-append, Option, Some, None, slice_get, slice_set, unwrap_or, refl, sym, ap, ◌∙◌, subst, arith, eq-eqb}
+use Rattle.std.proofs.Common.{◌≡◌, ◌⊎◌, inl, inr, ⊎_elim, ℕ, zero, suc, ◌+◌, ◌<◌, ◌≤◌, Bool, true, false, cond, max}
+use Rattle.std.proofs.Common.{◌&&◌, ◌==◌, nat_le, nat_lt, List, [], ◌∷◌, ◌++◌, take, length, length-append, Option}
+use Rattle.std.proofs.Common.{Some, None, slice_get, slice_set, unwrap_or, refl, sym, ap, ◌∙◌, subst, arith, eq-eqb}
 use Rattle.std.proofs.lemmas.Bool.{and_from, and_right}
 use Rattle.std.proofs.lemmas.Option.{same_Some}
 use Rattle.sp_base.proofs.Facts.{below_or_at}
@@ -37,32 +39,47 @@ push_last [] y = refl
 push_last (x ∷ xs) y = push_last xs y
 
 -- what is said of an offer that waits, and of a last offer, still stands
-waits_stay : (s : Births) (os : List Occurrence) (e : Occurrence) (o : Option Offer) (x : Option (Name × ℕ)) → ((y : Name × ℕ) → x ≡ Some y → y.1 ≤ length os) → Waits s os o x → Waits s (os ++ e ∷ []) o x
+waits_stay : (s : Births) (os : List Occurrence) (e : Occurrence) (o : Option Offer) (x : Option (Name × ℕ))
+    → ((y : Name × ℕ) → x ≡ Some y → y.1 ≤ length os) → Waits s os o x → Waits s (os ++ e ∷ []) o x
 waits_stay s os e None None low w = w
 waits_stay s os e None (Some y) low w = w
 waits_stay s os e (Some o) None low w = w
-waits_stay s os e (Some o) (Some y) low w = (w.0, w.1, w.2 ∙ ap (λ xs. made xs y.0) (sym (take_low os e y.1 (low y refl))))
+waits_stay s os e (Some o) (Some y) low w = (
+  w.0,
+  w.1,
+  w.2
+      ∙ ap (λ xs. made xs y.0) (sym (take_low os e y.1 (low y refl))),
+)
 
 module _ (s : Births) (os : List Occurrence) (e : Occurrence) (w : Way) (d : Channel) where
-  old_or_last : (i : ℕ) (z : Name) → OfferIn (os ++ e ∷ []) i z w d → ((i < length os) × OfferIn os i z w d) ⊎ ((i ≡ length os) × (e.what ≡ Offered w d))
+  old_or_last : (i : ℕ) (z : Name) → OfferIn (os ++ e ∷ []) i z w d → ((i < length os) × OfferIn os i z w d)
+      ⊎ ((i ≡ length os) × (e.what ≡ Offered w d))
   old_or_last i z o = ⊎_elim
       (λ (l : i < length os). inl (l, sym (push_low os e i l) ∙ o))
-      (λ (l : i ≡ length os). inr (l, ap (λ (x : Occurrence). x.what) (same_Some e _ (sym (push_last os e) ∙ subst (λ k. OfferIn (os ++ e ∷ []) k z w d) l o))))
-      (below_or_at i (length os) (let a = get_within (os ++ e ∷ []) i _ o in let b = length-append os (e ∷ []) in omega arith))
+      (λ (l : i ≡ length os). inr (
+        l,
+        ap (λ (x : Occurrence). x.what)
+            (same_Some e _ (sym (push_last os e) ∙ subst (λ k. OfferIn (os ++ e ∷ []) k z w d) l o)),
+      ))
+      (below_or_at i (length os) (let a = get_within (os ++ e ∷ []) i _ o in let b = length-append os (e ∷ []) in
+      omega arith))
 
   pub last_stays : (e.what ≡ Offered w d → ⊥) → (o : Option Offer) → IsLast s os w d o → IsLast s (os ++ e ∷ []) w d o
-  last_stays off None h = λ i z a. ⊎_elim (λ (x : (i < length os) × OfferIn os i z w d). h i z x.1) (λ (x : (i ≡ length os) × (e.what ≡ Offered w d)). off x.1) (old_or_last i z a)
+  last_stays off None h = λ i z a. ⊎_elim (λ (x : (i < length os) × OfferIn os i z w d). h i z x.1)
+      (λ (x : (i ≡ length os) × (e.what ≡ Offered w d)). off x.1) (old_or_last i z a)
   last_stays off (Some o) h =
       let l = get_within os h.0 _ h.2 in (
         h.0,
         h.1,
         push_low os e h.0 l ∙ h.2,
         h.3 ∙ ap (λ xs. made xs (s.name o.process)) (sym (take_low os e h.0 (omega arith))),
-        λ k y a. ⊎_elim (λ (x : (k < length os) × OfferIn os k y w d). h.4 k y x.1) (λ (x : (k ≡ length os) × (e.what ≡ Offered w d)). absurd (off x.1)) (old_or_last k y a),
+        λ k y a. ⊎_elim (λ (x : (k < length os) × OfferIn os k y w d). h.4 k y x.1)
+            (λ (x : (k ≡ length os) × (e.what ≡ Offered w d)). absurd (off x.1)) (old_or_last k y a),
       )
 
   -- the new entry is the last offer
-  pub new_last : (o : Offer) → o.process < s.processes → e ≡ record { who = s.name o.process; what = Offered w d } → o.place ≡ made os (s.name o.process) → IsLast s (os ++ e ∷ []) w d (Some o)
+  pub new_last : (o : Offer) → o.process < s.processes → e ≡ record { who = s.name o.process; what = Offered w d }
+      → o.place ≡ made os (s.name o.process) → IsLast s (os ++ e ∷ []) w d (Some o)
   new_last o there is place = (
     length os,
     there,
@@ -71,7 +88,9 @@ module _ (s : Births) (os : List Occurrence) (e : Occurrence) (w : Way) (d : Cha
     λ k y a. (let b = get_within (os ++ e ∷ []) k _ a in let c = length-append os (e ∷ []) in omega arith),
   )
 
-module _ (all : List Entry) (nameable : NameableFrom at_start all) (quiet : IsQuiet (named (births all) all)) (lawful : Lawful (births all)) (at : ℕ) (e : Entry) (inside : slice_get all at ≡ Some e) (until : List ℕ) (b : Bench) (h : Holds (births all) until (take at all) b) where
+module _ (all : List Entry) (nameable : NameableFrom at_start all) (quiet : IsQuiet (named (births all) all))
+    (lawful : Lawful (births all)) (at : ℕ) (e : Entry) (inside : slice_get all at ≡ Some e) (until : List ℕ)
+    (b : Bench) (h : Holds (births all) until (take at all) b) where
   abbrev s : Births
   s = births all
 
@@ -100,61 +119,95 @@ module _ (all : List Entry) (nameable : NameableFrom at_start all) (quiet : IsQu
   abbrev pub Live : ℕ → Type 0
   Live q = (q < s.processes) × IsAsked until (at + 1) q
 
-  pub clocks_more : (b' : Bench) → ((r q : ℕ) → r < s.processes → Live q → clock_at b'.clocks.items r q ≡ counted_by (counts os) (judged os) os (s.name p) (happening s e.event) (s.name r) (s.name q))
-      → (r q : ℕ) → r < s.processes → q < s.processes → IsAsked until (length (take (at + 1) all)) q → clock_at b'.clocks.items r q ≡ counts (named s (take (at + 1) all)) (s.name r) (s.name q)
-  clocks_more b' f r q l k asked = f r q l (k, let n = front.next_length all nameable quiet lawful at e inside in omega arith) ∙ sym (ap (λ xs. counts xs (s.name r) (s.name q)) grown ∙ ap (λ g. g (s.name r) (s.name q)) (counts_last os o))
+  pub clocks_more : (b' : Bench) → ((r q : ℕ) → r < s.processes → Live q
+      → clock_at b'.clocks.items r q ≡ counted_by (counts os) (judged os) os (s.name p) (happening s e.event) (s.name r)
+      (s.name q))
+      → (r q : ℕ) → r < s.processes → q < s.processes → IsAsked until (length (take (at + 1) all)) q
+      → clock_at b'.clocks.items r q ≡ counts (named s (take (at + 1) all)) (s.name r) (s.name q)
+  clocks_more b' f r q l k asked = f r q l (
+    k,
+    let n = front.next_length all nameable quiet lawful at e inside in
+        omega arith,
+  ) ∙ sym (ap (λ xs. counts xs (s.name r) (s.name q)) grown
+      ∙ ap (λ g. g (s.name r) (s.name q)) (counts_last os o))
 
-  made_now : (r : ℕ) → made (named s (take (at + 1) all)) (s.name r) ≡ cond (same_name (s.name p) (s.name r) && is_counted (happening s e.event)) (suc (made os (s.name r))) (made os (s.name r))
+  made_now : (r : ℕ) → made (named s (take (at + 1) all)) (s.name r)
+      ≡ cond (same_name (s.name p) (s.name r) && is_counted (happening s e.event)) (suc (made os (s.name r)))
+      (made os (s.name r))
   made_now r = ap (λ xs. made xs (s.name r)) grown ∙ made_last os o (s.name r)
 
-  pub made_counted : is_counted (happening s e.event) ≡ true → (r : ℕ) → r < s.processes → slice_get (slice_set b.made.items p (number_at b.made.items p + 1)) r ≡ Some (made (named s (take (at + 1) all)) (s.name r))
+  pub made_counted : is_counted (happening s e.event) ≡ true → (r : ℕ) → r < s.processes
+      → slice_get (slice_set b.made.items p (number_at b.made.items p + 1)) r
+      ≡ Some (made (named s (take (at + 1) all)) (s.name r))
   made_counted counted r l =
       get_set b.made.items p (number_at b.made.items p + 1) r (let a = h.all_made in let c = here in omega arith)
       ∙ (⊎_elim
       (λ (i : p ≡ r).
-      let t : same_name (s.name p) (s.name r) && is_counted (happening s e.event) ≡ true = ap (λ x. same_name (s.name p) (s.name x) && is_counted (happening s e.event)) (sym i) ∙ and_from (same_name (s.name p) (s.name p)) (is_counted (happening s e.event)) (name_itself (s.name p)) counted in
+      let t : same_name (s.name p) (s.name r)
+      && is_counted (happening s e.event) ≡ true =
+      ap (λ x. same_name (s.name p) (s.name x) && is_counted (happening s e.event)) (sym i)
+      ∙ and_from (same_name (s.name p) (s.name p)) (is_counted (happening s e.event)) (name_itself (s.name p))
+      counted in
       let m : number_at b.made.items p ≡ made os (s.name r) = its_made ∙ ap (λ x. made os (s.name x)) i in
       ap (λ x. cond x (Some (number_at b.made.items p + 1)) (slice_get b.made.items r)) (eq-eqb p r i)
       ∙ ap (λ x. Some x) (one_more (number_at b.made.items p) (made os (s.name r)) m)
       ∙ sym (ap (λ x. Some x) (made_now r ∙ ap (λ x. cond x (suc (made os (s.name r))) (made os (s.name r))) t)))
       (λ (i : p == r ≡ false).
-      let t : same_name (s.name p) (s.name r) && is_counted (happening s e.event) ≡ false = ap (λ x. x && is_counted (happening s e.event)) (sym (same_process s lawful p r here l) ∙ i) in
+      let t : same_name (s.name p) (s.name r)
+      && is_counted (happening s e.event) ≡ false =
+      ap (λ x. x && is_counted (happening s e.event)) (sym (same_process s lawful p r here l) ∙ i) in
       ap (λ x. cond x (Some (number_at b.made.items p + 1)) (slice_get b.made.items r)) i
-      ∙ h.made_is r l ∙ sym (ap (λ x. Some x) (made_now r ∙ ap (λ x. cond x (suc (made os (s.name r))) (made os (s.name r))) t)))
+      ∙ h.made_is r l ∙ sym (ap (λ x. Some x)
+      (made_now r ∙ ap (λ x. cond x (suc (made os (s.name r))) (made os (s.name r))) t)))
       (index_or_not p r))
     where
       one_more : (x y : ℕ) → x ≡ y → x + 1 ≡ suc y
       one_more x y f = omega arith
 
-  pub made_kept : is_counted (happening s e.event) ≡ false → (r : ℕ) → r < s.processes → slice_get b.made.items r ≡ Some (made (named s (take (at + 1) all)) (s.name r))
-  made_kept counted r l = h.made_is r l ∙ sym (ap (λ x. Some x) (made_now r ∙ ap (λ x. cond x (suc (made os (s.name r))) (made os (s.name r))) (and_right (same_name (s.name p) (s.name r)) (is_counted (happening s e.event)) counted)))
+  pub made_kept : is_counted (happening s e.event) ≡ false → (r : ℕ) → r < s.processes
+      → slice_get b.made.items r ≡ Some (made (named s (take (at + 1) all)) (s.name r))
+  made_kept counted r l = h.made_is r l ∙ sym
+      (ap (λ x. Some x) (made_now r ∙ ap (λ x. cond x (suc (made os (s.name r))) (made os (s.name r)))
+      (and_right (same_name (s.name p) (s.name r)) (is_counted (happening s e.event)) counted)))
 
   pub places_length : length (b.places.items ++ number_at b.made.items p ∷ []) ≡ length (take (at + 1) all)
   places_length =
       let a = length-append b.places.items (number_at b.made.items p ∷ []) in
       let c = h.all_places in
-      let d : length (take (at + 1) all) ≡ length (take at all) + 1 = ap length (take_next all at e inside) ∙ length-append (take at all) (e ∷ []) in
+      let d : length (take (at + 1) all) ≡ length (take at all) + 1 = ap length (take_next all at e inside)
+      ∙ length-append (take at all) (e ∷ []) in
       omega arith
 
-  pub places_more : (i : ℕ) (x : Entry) → slice_get (take (at + 1) all) i ≡ Some x → slice_get (b.places.items ++ number_at b.made.items p ∷ []) i ≡ Some (made (take i (named s (take (at + 1) all))) (s.name x.process))
+  pub places_more : (i : ℕ) (x : Entry) → slice_get (take (at + 1) all) i ≡ Some x
+      → slice_get (b.places.items ++ number_at b.made.items p ∷ []) i
+      ≡ Some (made (take i (named s (take (at + 1) all))) (s.name x.process))
   places_more i x f =
-      let g : slice_get (take at all ++ e ∷ []) i ≡ Some x = ap (λ ys. slice_get ys i) (sym (take_next all at e inside)) ∙ f in
+      let g : slice_get (take at all ++ e ∷ []) i ≡ Some x = ap (λ ys. slice_get ys i) (sym (take_next all at e inside))
+      ∙ f in
       ap_made i x (⊎_elim
       (λ (l : i < length (take at all)).
       push_low b.places.items (number_at b.made.items p) i (let c = h.all_places in omega arith)
       ∙ h.places i x (sym (push_low (take at all) e i l) ∙ g)
-      ∙ ap (λ ys. Some (made ys (s.name x.process))) (sym (take_low os o i (let n = named_length s (take at all) in omega arith))))
+      ∙ ap (λ ys. Some (made ys (s.name x.process)))
+      (sym (take_low os o i (let n = named_length s (take at all) in omega arith))))
       (λ (l : i ≡ length (take at all)).
-      let is : e ≡ x = same_Some e x (sym (push_last (take at all) e) ∙ subst (λ k. slice_get (take at all ++ e ∷ []) k ≡ Some x) l g) in
+      let is : e ≡ x = same_Some e x (sym (push_last (take at all) e)
+      ∙ subst (λ k. slice_get (take at all ++ e ∷ []) k ≡ Some x) l g) in
       let n = named_length s (take at all) in
       let k : i ≡ length b.places.items = let c = h.all_places in omega arith in
       let m : i ≡ length os = omega arith in
-      subst (λ k. slice_get (b.places.items ++ number_at b.made.items p ∷ []) k ≡ Some (number_at b.made.items p)) (sym k) (push_last b.places.items (number_at b.made.items p))
+      subst (λ k. slice_get (b.places.items ++ number_at b.made.items p ∷ []) k ≡ Some (number_at b.made.items p))
+      (sym k) (push_last b.places.items (number_at b.made.items p))
       ∙ ap (λ y. Some y) (its_made ∙ ap (λ (y : Entry). made os (s.name y.process)) is)
-      ∙ ap (λ ys. Some (made ys (s.name x.process))) (sym (ap (λ k. take k (os ++ o ∷ [])) m ∙ take_low os o (length os) (omega arith) ∙ take_all os)))
-      (below_or_at i (length (take at all)) (let a = get_within (take at all ++ e ∷ []) i x g in let c = length-append (take at all) (e ∷ []) in omega arith)))
+      ∙ ap (λ ys. Some (made ys (s.name x.process)))
+      (sym (ap (λ k. take k (os ++ o ∷ [])) m ∙ take_low os o (length os) (omega arith) ∙ take_all os)))
+      (below_or_at i (length (take at all)) (let a = get_within (take at all ++ e ∷ []) i x g in
+      let c = length-append (take at all) (e ∷ []) in omega arith)))
     where
-      ap_made : (i : ℕ) (x : Entry) → slice_get (b.places.items ++ number_at b.made.items p ∷ []) i ≡ Some (made (take i (os ++ o ∷ [])) (s.name x.process)) → slice_get (b.places.items ++ number_at b.made.items p ∷ []) i ≡ Some (made (take i (named s (take (at + 1) all))) (s.name x.process))
+      ap_made : (i : ℕ) (x : Entry) → slice_get (b.places.items ++ number_at b.made.items p ∷ []) i
+          ≡ Some (made (take i (os ++ o ∷ [])) (s.name x.process))
+          → slice_get (b.places.items ++ number_at b.made.items p ∷ []) i
+          ≡ Some (made (take i (named s (take (at + 1) all))) (s.name x.process))
       ap_made i x f = f ∙ ap (λ xs. Some (made (take i xs) (s.name x.process))) (sym grown)
 
   pending_low : (d : Channel) (y : Name × ℕ) → (judged os).pending d ≡ Some y → y.1 ≤ length os
@@ -164,21 +217,29 @@ module _ (all : List Entry) (nameable : NameableFrom at_start all) (quiet : IsQu
       omega arith
 
   -- a line on which the entry makes no offer
-  pub line_stays : (d : Channel) (l : Line) → ((w : Way) → o.what ≡ Offered w d → ⊥) → (judged_by (judged os) (length os) o.who o.what).pending d ≡ (judged os).pending d → IsLine s os d l → IsLine s (named s (take (at + 1) all)) d l
+  pub line_stays : (d : Channel) (l : Line) → ((w : Way) → o.what ≡ Offered w d → ⊥)
+      → (judged_by (judged os) (length os) o.who o.what).pending d ≡ (judged os).pending d → IsLine s os d l
+      → IsLine s (named s (take (at + 1) all)) d l
   line_stays d l off same i = subst (λ xs. IsLine s xs d l) (sym grown) (record {
-    waiting = subst (Waits s (os ++ o ∷ []) l.waiting) (sym (ap (λ (j : Judged). j.pending d) (judged_last os o) ∙ same)) (waits_stay s os o l.waiting ((judged os).pending d) (pending_low d) i.waiting);
+    waiting = subst (Waits s (os ++ o ∷ []) l.waiting)
+        (sym (ap (λ (j : Judged). j.pending d) (judged_last os o) ∙ same))
+        (waits_stay s os o l.waiting ((judged os).pending d) (pending_low d) i.waiting);
     sent = last_stays s os o way.Send d (off way.Send) l.sent i.sent;
     received = last_stays s os o way.Receive d (off way.Receive) l.received i.received;
   })
 
-  pub lines_stay : ((d : Channel) (w : Way) → o.what ≡ Offered w d → ⊥) → (judged_by (judged os) (length os) o.who o.what).pending ≡ (judged os).pending
-      → (c : ℕ) → c < s.channels → (l : Line) × (slice_get b.lines.items c ≡ Some l) × IsLine s (named s (take (at + 1) all)) (channel s c) l
-  lines_stay off same c k = let x = h.lines c k in (x.0, x.1, line_stays (channel s c) x.0 (off (channel s c)) (ap (λ f. f (channel s c)) same) x.2)
+  pub lines_stay : ((d : Channel) (w : Way) → o.what ≡ Offered w d → ⊥)
+      → (judged_by (judged os) (length os) o.who o.what).pending ≡ (judged os).pending
+      → (c : ℕ) → c < s.channels → (l : Line) × (slice_get b.lines.items c ≡ Some l)
+      × IsLine s (named s (take (at + 1) all)) (channel s c) l
+  lines_stay off same c k = let x = h.lines c k in
+      (x.0, x.1, line_stays (channel s c) x.0 (off (channel s c)) (ap (λ f. f (channel s c)) same) x.2)
 
   -- the clocks, by numbers
 
   pub clock_is : (r q : ℕ) → r < s.processes → Live q → clock_at b.clocks.items r q ≡ counts os (s.name r) (s.name q)
-  clock_is r q l k = h.clocks r q l k.0 (let n = front.at_length all nameable quiet lawful at e inside in let a = k.1 in omega arith)
+  clock_is r q l k = h.clocks r q l k.0 (let n = front.at_length all nameable quiet lawful at e inside in let a = k.1 in
+      omega arith)
 
   abbrev m : ℕ
   m = number_at b.made.items p + 1
@@ -193,8 +254,10 @@ module _ (all : List Entry) (nameable : NameableFrom at_start all) (quiet : IsQu
       let n = m_is in
       λ i. cond (t i) (max (c i) (n i)) (c i)
 
-  pub own_raised_is : (c' : ℕ → ℕ → ℕ) → ((r q : ℕ) → IsAsked until (at + 1) q → c' r q ≡ cond (p == r) (with_own (clock_at b.clocks.items) p m q) (clock_at b.clocks.items r q))
-      → (r q : ℕ) → r < s.processes → Live q → c' r q ≡ becomes (s.name p) (mine (counts os) os (s.name p)) (counts os) (s.name r) (s.name q)
+  pub own_raised_is : (c' : ℕ → ℕ → ℕ) → ((r q : ℕ) → IsAsked until (at + 1) q
+      → c' r q ≡ cond (p == r) (with_own (clock_at b.clocks.items) p m q) (clock_at b.clocks.items r q))
+      → (r q : ℕ) → r < s.processes → Live q
+      → c' r q ≡ becomes (s.name p) (mine (counts os) os (s.name p)) (counts os) (s.name r) (s.name q)
   own_raised_is c' is r q l k =
       let t = same_process s lawful p r here l in
       let x = own_is q k in
@@ -202,54 +265,74 @@ module _ (all : List Entry) (nameable : NameableFrom at_start all) (quiet : IsQu
       is r q k.1 ∙ (λ i. cond (t i) (x i) (y i))
 
   -- what the entry's process knows with its own entry
-  own_itself : (c' : ℕ → ℕ → ℕ) → ((r q : ℕ) → IsAsked until (at + 1) q → c' r q ≡ cond (p == r) (with_own (clock_at b.clocks.items) p m q) (clock_at b.clocks.items r q))
+  own_itself : (c' : ℕ → ℕ → ℕ) → ((r q : ℕ) → IsAsked until (at + 1) q
+      → c' r q ≡ cond (p == r) (with_own (clock_at b.clocks.items) p m q) (clock_at b.clocks.items r q))
       → (q : ℕ) → Live q → c' p q ≡ mine (counts os) os (s.name p) (s.name q)
-  own_itself c' is q k = is p q k.1 ∙ ap (λ x. cond x (with_own (clock_at b.clocks.items) p m q) (clock_at b.clocks.items p q)) (eq-eqb p p refl) ∙ own_is q k
+  own_itself c' is q k = is p q k.1 ∙ ap (λ x. cond x (with_own (clock_at b.clocks.items) p m q)
+      (clock_at b.clocks.items p q)) (eq-eqb p p refl) ∙ own_is q k
 
   pub forked_is : (n : ℕ) → e.event ≡ event.Fork n → (c1 c2 : ℕ → ℕ → ℕ)
-      → ((r q : ℕ) → IsAsked until (at + 1) q → c1 r q ≡ cond (p == r) (with_own (clock_at b.clocks.items) p m q) (clock_at b.clocks.items r q))
+      → ((r q : ℕ) → IsAsked until (at + 1) q
+      → c1 r q ≡ cond (p == r) (with_own (clock_at b.clocks.items) p m q) (clock_at b.clocks.items r q))
       → ((r q : ℕ) → c2 r q ≡ cond (nat_le b.next r && nat_lt r (b.next + n)) (max (c1 r q) (c1 p q)) (c1 r q))
-      → (r q : ℕ) → r < s.processes → Live q → c2 r q ≡ counted_by (counts os) (judged os) os (s.name p) (Forked n) (s.name r) (s.name q)
+      → (r q : ℕ) → r < s.processes → Live q
+      → c2 r q ≡ counted_by (counts os) (judged os) os (s.name p) (Forked n) (s.name r) (s.name q)
   forked_is n is c1 c2 one two r q l k =
       two r q ∙ (λ i. cond (nat_le (first_is i) r && nat_lt r (first_is i + n)) (max (c1 r q) (c1 p q)) (c1 r q))
-      ∙ shares_is s lawful p ((judged os).forks (s.name p)) (births (take at all)).processes n fits children Live (mine (counts os) os (s.name p)) (c1 p) (own_itself c1 one) n 0 (omega arith) (becomes (s.name p) (mine (counts os) os (s.name p)) (counts os)) c1 (own_raised_is c1 one) r q l k
+      ∙ shares_is s lawful p ((judged os).forks (s.name p)) (births (take at all)).processes n fits children Live
+      (mine (counts os) os (s.name p)) (c1 p) (own_itself c1 one) n 0 (omega arith)
+      (becomes (s.name p) (mine (counts os) os (s.name p)) (counts os)) c1 (own_raised_is c1 one) r q l k
     where
       first_is : b.next ≡ (births (take at all)).processes + 0
       first_is = let a = h.next in omega arith
 
       after : Stays (after_event (births (take at all)) p (event.Fork n)) s
-      after = subst (λ v. Stays (after_event (births (take at all)) p v) s) is (front.stays_after all nameable quiet lawful at e inside)
+      after = subst (λ v. Stays (after_event (births (take at all)) p v) s) is
+          (front.stays_after all nameable quiet lawful at e inside)
 
       fits : (births (take at all)).processes + n ≤ s.processes
       fits = after.processes
 
-      children : (i : ℕ) → i < n → s.name ((births (take at all)).processes + i) ≡ ((judged os).forks (s.name p), i) ∷ s.name p
+      children : (i : ℕ) → i < n → s.name ((births (take at all)).processes + i) ≡ ((judged os).forks (s.name p), i)
+          ∷ s.name p
       children i l =
           let f = front.forks_named all nameable quiet lawful at e inside p here in
-          children_named (births (take at all)) s p n (front.follows all nameable quiet lawful at e inside).0 (front.stays_on all nameable quiet lawful at e inside) after i l
+          children_named (births (take at all)) s p n (front.follows all nameable quiet lawful at e inside).0
+          (front.stays_on all nameable quiet lawful at e inside) after i l
           ∙ (λ j. (sym f j, i) ∷ s.name p)
 
   pub ended_root_is : None ≡ s.birth p → (c1 : ℕ → ℕ → ℕ)
-      → ((r q : ℕ) → IsAsked until (at + 1) q → c1 r q ≡ cond (p == r) (with_own (clock_at b.clocks.items) p m q) (clock_at b.clocks.items r q))
-      → (r q : ℕ) → r < s.processes → Live q → c1 r q ≡ counted_by (counts os) (judged os) os (s.name p) Ended (s.name r) (s.name q)
+      → ((r q : ℕ) → IsAsked until (at + 1) q
+      → c1 r q ≡ cond (p == r) (with_own (clock_at b.clocks.items) p m q) (clock_at b.clocks.items r q))
+      → (r q : ℕ) → r < s.processes → Live q
+      → c1 r q ≡ counted_by (counts os) (judged os) os (s.name p) Ended (s.name r) (s.name q)
   ended_root_is none c1 one r q l k =
       own_raised_is c1 one r q l k
-      ∙ ap (λ (x : Name). gives_back x (mine (counts os) os (s.name p)) (becomes (s.name p) (mine (counts os) os (s.name p)) (counts os)) (s.name r) (s.name q)) (sym (name_of_root s lawful p here none))
+      ∙ ap (λ (x : Name). gives_back x (mine (counts os) os (s.name p))
+      (becomes (s.name p) (mine (counts os) os (s.name p)) (counts os)) (s.name r) (s.name q))
+      (sym (name_of_root s lawful p here none))
 
   pub ended_is : (t : Birth) → Some t ≡ s.birth p → t.parent < s.processes → (c1 c2 : ℕ → ℕ → ℕ)
-      → ((r q : ℕ) → IsAsked until (at + 1) q → c1 r q ≡ cond (p == r) (with_own (clock_at b.clocks.items) p m q) (clock_at b.clocks.items r q))
+      → ((r q : ℕ) → IsAsked until (at + 1) q
+      → c1 r q ≡ cond (p == r) (with_own (clock_at b.clocks.items) p m q) (clock_at b.clocks.items r q))
       → ((r q : ℕ) → c2 r q ≡ cond (t.parent == r) (max (c1 t.parent q) (c1 p q)) (c1 r q))
-      → (r q : ℕ) → r < s.processes → Live q → c2 r q ≡ counted_by (counts os) (judged os) os (s.name p) Ended (s.name r) (s.name q)
+      → (r q : ℕ) → r < s.processes → Live q
+      → c2 r q ≡ counted_by (counts os) (judged os) os (s.name p) Ended (s.name r) (s.name q)
   ended_is t born there c1 c2 one two r q l k =
       two r q ∙ swap
-      ∙ (λ i. cond (test i) (max (own_raised_is c1 one r q l k i) (own_itself c1 one q k i)) (own_raised_is c1 one r q l k i))
-      ∙ ap (λ (x : Name). gives_back x (mine (counts os) os (s.name p)) (becomes (s.name p) (mine (counts os) os (s.name p)) (counts os)) (s.name r) (s.name q)) (sym (name_by_birth s lawful p here t born))
+      ∙ (λ i. cond (test i) (max (own_raised_is c1 one r q l k i) (own_itself c1 one q k i))
+      (own_raised_is c1 one r q l k i))
+      ∙ ap (λ (x : Name). gives_back x (mine (counts os) os (s.name p))
+      (becomes (s.name p) (mine (counts os) os (s.name p)) (counts os)) (s.name r) (s.name q))
+      (sym (name_by_birth s lawful p here t born))
     where
       test : t.parent == r ≡ same_name (s.name t.parent) (s.name r)
       test = same_process s lawful t.parent r there l
 
-      swap : cond (t.parent == r) (max (c1 t.parent q) (c1 p q)) (c1 r q) ≡ cond (t.parent == r) (max (c1 r q) (c1 p q)) (c1 r q)
+      swap : cond (t.parent == r) (max (c1 t.parent q) (c1 p q)) (c1 r q)
+          ≡ cond (t.parent == r) (max (c1 r q) (c1 p q)) (c1 r q)
       swap = ⊎_elim
           (λ (i : t.parent ≡ r). ap (λ x. cond (t.parent == r) (max (c1 x q) (c1 p q)) (c1 r q)) i)
-          (λ (i : t.parent == r ≡ false). ap (λ x. cond x (max (c1 t.parent q) (c1 p q)) (c1 r q)) i ∙ sym (ap (λ x. cond x (max (c1 r q) (c1 p q)) (c1 r q)) i))
+          (λ (i : t.parent == r ≡ false). ap (λ x. cond x (max (c1 t.parent q) (c1 p q)) (c1 r q)) i
+          ∙ sym (ap (λ x. cond x (max (c1 r q) (c1 p q)) (c1 r q)) i))
           (index_or_not t.parent r)

@@ -1,5 +1,7 @@
 -- A clock while the pairs of another one are taken in.
-use Rattle.std.proofs.Common.{◌≡◌, ◌≢◌, ⊎_elim, ℕ, Bool, true, false, cond, max, ◌==◌, List, [], ◌∷◌, Some, None, Option, ◌⊎◌, inl, inr, is_some, filter, unwrap_or, refl, sym, ap, ◌∙◌, subst, eqb-true, eq-eqb}
+use Rattle.std.proofs.Common.{◌≡◌, ◌≢◌, ⊎_elim, ℕ, Bool, true, false, cond, max, ◌==◌, List, [], ◌∷◌, Some, None}
+use Rattle.std.proofs.Common.{Option, ◌⊎◌, inl, inr, is_some, filter, unwrap_or, refl, sym, ap, ◌∙◌, subst, eqb-true}
+use Rattle.std.proofs.Common.{eq-eqb}
 use Rattle.std.specs.Ordering.{nat_cmp, eq_by_cmp, is_eq}
 use Rattle.std.specs.Cmp.{nat_cmp_total, tied_itself}
 use Rattle.std.specs.FinMap.{nat_cmp-IsAntisymmetric}
@@ -31,7 +33,8 @@ other_test q k d = by (is_at (nat_cmp q) k) refl
     by true e = absurd (d (nat_cmp-IsAntisymmetric q k (tie_of (nat_cmp q k) e)))
     by false e = refl
 
-no_pair : (q : ℕ) (es : List (ℕ × ℕ)) → AllByRecursion (λ k. eq_by_cmp nat_cmp q k ≡ false) (keys_of es) → count_in es q ≡ 0
+no_pair : (q : ℕ) (es : List (ℕ × ℕ)) → AllByRecursion (λ k. eq_by_cmp nat_cmp q k ≡ false) (keys_of es)
+    → count_in es q ≡ 0
 no_pair q [] a = refl
 no_pair q (e ∷ es) a = ap (λ b. unwrap_or (cond b (Some e.1) (lookup (is_at (nat_cmp q)) es)) 0) a.0 ∙ no_pair q es a.1
 
@@ -44,20 +47,25 @@ pub ordered_single : (es : List (ℕ × ℕ)) → IsStrictlySortedBy nat_cmp (ke
 ordered_single es s = distinct_single es (IsDistinct-from_sorted nat_cmp (keys_of es) s)
 
 -- one more pair was taken in
-pub taken : (old new : ℕ → ℕ) (k v : ℕ) (es : List (ℕ × ℕ)) → count_in es k ≡ 0 → ((q : ℕ) → new q ≡ cond (k == q) (max (old q) v) (old q)) → (q : ℕ) → max (new q) (count_in es q) ≡ max (old q) (count_in ((k, v) ∷ es) q)
+pub taken : (old new : ℕ → ℕ) (k v : ℕ) (es : List (ℕ × ℕ)) → count_in es k ≡ 0
+    → ((q : ℕ) → new q ≡ cond (k == q) (max (old q) v) (old q)) → (q : ℕ)
+    → max (new q) (count_in es q) ≡ max (old q) (count_in ((k, v) ∷ es) q)
 taken old new k v es none is q = ⊎_elim here there (cases_eq k q)
   where
     here : k ≡ q → max (new q) (count_in es q) ≡ max (old q) (count_in ((k, v) ∷ es) q)
     here e =
         let a : new q ≡ max (old q) v = is q ∙ ap (λ b. cond b (max (old q) v) (old q)) (eq-eqb k q e) in
         let b : count_in es q ≡ 0 = subst (λ x. count_in es x ≡ 0) e none in
-        let c : count_in ((k, v) ∷ es) q ≡ v = ap (λ b. unwrap_or (cond b (Some v) (lookup (is_at (nat_cmp q)) es)) 0) (subst (λ x. is_at (nat_cmp q) x ≡ true) (sym e) (same_test q)) in
+        let c : count_in ((k, v) ∷ es) q ≡ v =
+        ap (λ b. unwrap_or (cond b (Some v) (lookup (is_at (nat_cmp q)) es)) 0)
+        (subst (λ x. is_at (nat_cmp q) x ≡ true) (sym e) (same_test q)) in
         (λ i. max (a i) (b i)) ∙ max-zero (max (old q) v) ∙ ap (max (old q)) (sym c)
 
     there : k ≢ q → max (new q) (count_in es q) ≡ max (old q) (count_in ((k, v) ∷ es) q)
     there d =
         let a : new q ≡ old q = is q ∙ ap (λ b. cond b (max (old q) v) (old q)) (not_same (k == q) refl) in
-        let c : count_in ((k, v) ∷ es) q ≡ count_in es q = ap (λ b. unwrap_or (cond b (Some v) (lookup (is_at (nat_cmp q)) es)) 0) (other_test q k (λ e. d (sym e))) in
+        let c : count_in ((k, v) ∷ es) q ≡ count_in es q =
+        ap (λ b. unwrap_or (cond b (Some v) (lookup (is_at (nat_cmp q)) es)) 0) (other_test q k (λ e. d (sym e))) in
         λ i. max (a i) (sym c i)
       where
         not_same : (b : Bool) → k == q ≡ b → b ≡ false
@@ -82,18 +90,22 @@ pair_put f g p v is q e =
     ap is_some (is q ∙ ap (λ b. cond b (Some v) (f q)) (subst (λ x. is_at (nat_cmp p) x ≡ true) (sym e) (same_test p)))
 
 -- a row of pairs, of which those of this process were kept
-pub kept_count : (p : ℕ × ℕ → Bool) (q : ℕ) → ((v : ℕ) → p (q, v) ≡ true) → (es : List (ℕ × ℕ)) → count_in (filter p es) q ≡ count_in es q
+pub kept_count : (p : ℕ × ℕ → Bool) (q : ℕ) → ((v : ℕ) → p (q, v) ≡ true) → (es : List (ℕ × ℕ))
+    → count_in (filter p es) q ≡ count_in es q
 kept_count p q keeps [] = refl
 kept_count p q keeps (e ∷ es) = by (p e) refl (is_at (nat_cmp q) e.0) refl (kept_count p q keeps es)
   where
     same : is_at (nat_cmp q) e.0 ≡ true → q ≡ e.0
     same t = nat_cmp-IsAntisymmetric q e.0 (tie_of (nat_cmp q e.0) t)
 
-    skip : (t : Bool) → is_at (nat_cmp q) e.0 ≡ t → t ≡ false → (xs : List (ℕ × ℕ)) → count_in (e ∷ xs) q ≡ count_in xs q
+    skip : (t : Bool) → is_at (nat_cmp q) e.0 ≡ t → t ≡ false → (xs : List (ℕ × ℕ))
+        → count_in (e ∷ xs) q ≡ count_in xs q
     skip t is off xs = ap (λ b. unwrap_or (cond b (Some e.1) (lookup (is_at (nat_cmp q)) xs)) 0) (is ∙ off)
 
-    by : (b : Bool) → p e ≡ b → (t : Bool) → is_at (nat_cmp q) e.0 ≡ t → count_in (filter p es) q ≡ count_in es q → count_in (cond b (e ∷ filter p es) (filter p es)) q ≡ count_in (e ∷ es) q
-    by true k true t rest = ap (λ b. unwrap_or (cond b (Some e.1) (lookup (is_at (nat_cmp q)) (filter p es))) 0) t ∙ sym (ap (λ b. unwrap_or (cond b (Some e.1) (lookup (is_at (nat_cmp q)) es)) 0) t)
+    by : (b : Bool) → p e ≡ b → (t : Bool) → is_at (nat_cmp q) e.0 ≡ t → count_in (filter p es) q ≡ count_in es q
+        → count_in (cond b (e ∷ filter p es) (filter p es)) q ≡ count_in (e ∷ es) q
+    by true k true t rest = ap (λ b. unwrap_or (cond b (Some e.1) (lookup (is_at (nat_cmp q)) (filter p es))) 0) t
+        ∙ sym (ap (λ b. unwrap_or (cond b (Some e.1) (lookup (is_at (nat_cmp q)) es)) 0) t)
     by true k false t rest = skip false t refl (filter p es) ∙ rest ∙ sym (skip false t refl es)
     by false k true t rest = absurd (true≢false (sym (keeps e.1) ∙ ap (λ (x : ℕ). p (x, e.1)) (same t) ∙ k))
     by false k false t rest = rest ∙ sym (skip false t refl es)

@@ -1,5 +1,6 @@
 -- From the tables before the first entry to the verdict.
-use Rattle.std.proofs.Common.{◌≡◌, ℕ, zero, suc, ◌+◌, ◌<◌, ◌≤◌, List, [], ◌∷◌, take, length, Option, Some, None, slice_get, refl, sym, ap, ◌∙◌, subst, arith}
+use Rattle.std.proofs.Common.{◌≡◌, ℕ, zero, suc, ◌+◌, ◌<◌, ◌≤◌, List, [], ◌∷◌, take, length, Option, Some, None}
+use Rattle.std.proofs.Common.{slice_get, refl, sym, ap, ◌∙◌, subst, arith}
 use Rattle.sp_base.specs.declared.name.ChanName.{ChanName}
 use Rattle.sp_journal.specs.declared.entry.Entry.{Entry}
 use Rattle.sp_journal.specs.declared.entry.Journal.{Journal}
@@ -20,7 +21,8 @@ use Rattle.sp_judge.specs.Races.{IsFault, IsJudged, IsVerdict}
 use Rattle.sp_judge.proofs.Numbers.{all_named}
 use Rattle.sp_judge.proofs.Fronts.{named_get, get_within}
 use Rattle.sp_judge.proofs.Fronts as front
-use Rattle.sp_judge.proofs.VerdictLaws.{known_more, known_at, named_take, offer_happens, nothing_unknown, first_race, channel_there}
+use Rattle.sp_judge.proofs.VerdictLaws.{known_more, known_at, named_take, offer_happens, nothing_unknown, first_race}
+use Rattle.sp_judge.proofs.VerdictLaws.{channel_there}
 
 pub tame_of : (j : Journal) → IsNameable j → IsQuiet (occurrences j) → IsTame j.entries
 tame_of j n q = record { nameable = n; quiet = subst IsQuiet (all_named j.entries n) q }
@@ -31,13 +33,17 @@ take_whole [] (suc n) l = refl
 take_whole (x ∷ xs) zero l = absurd (omega arith)
 take_whole (x ∷ xs) (suc n) l = ap (λ ys. x ∷ ys) (take_whole xs n (omega arith))
 
-pub all_ordered : (j : Journal) → IsNameable j → (n : ℕ) → length j.entries ≤ n → AreKnown (named (births j.entries) (take n j.entries)) → AreOrdered (occurrences j)
-all_ordered j nameable n l known = known_ordered (occurrences j) (subst AreKnown (ap (named (births j.entries)) (take_whole j.entries n l) ∙ sym (all_named j.entries nameable)) known)
+pub all_ordered : (j : Journal) → IsNameable j → (n : ℕ) → length j.entries ≤ n
+    → AreKnown (named (births j.entries) (take n j.entries)) → AreOrdered (occurrences j)
+all_ordered j nameable n l known = known_ordered (occurrences j)
+    (subst AreKnown (ap (named (births j.entries)) (take_whole j.entries n l) ∙ sym (all_named j.entries nameable))
+    known)
 
 nothing_offered : {A : Type 0} (o : Occurrence) → ◌≡◌ {A = Option Occurrence} None (Some o) → A
 nothing_offered o e = absurd (cc)
 
-pub blank_holds : (all : List Entry) (b : Bench) → IsBlank b (births all).processes (births all).channels → (until : List ℕ) → Holds (births all) until [] b
+pub blank_holds : (all : List Entry) (b : Bench) → IsBlank b (births all).processes (births all).channels
+    → (until : List ℕ) → Holds (births all) until [] b
 blank_holds all b k until = record {
   all_clocks = k.all_clocks;
   all_made = k.all_made;
@@ -45,7 +51,11 @@ blank_holds all b k until = record {
   all_places = ap length k.no_places;
   clocks = λ p q l h asked. k.clocks p q;
   made_is = k.made_is;
-  lines = λ c l. (record { waiting = None; sent = None; received = None }, k.lines c l, record { waiting = tt; sent = λ i z o. nothing_offered _ o; received = λ i z o. nothing_offered _ o });
+  lines = λ c l. (
+    record { waiting = None; sent = None; received = None },
+    k.lines c l,
+    record { waiting = tt; sent = λ i z o. nothing_offered _ o; received = λ i z o. nothing_offered _ o },
+  );
   places = λ i e h. none_entry e h;
   next = k.next;
 }
@@ -60,8 +70,11 @@ module _ (all : List Entry) (t : IsTame all) (at : ℕ) where
   law : Lawful s
   law = lawful all t.nameable
 
-  pub known_next : (e : Entry) → slice_get all at ≡ Some e → AreKnown (named s (take at all)) → KnowsOffers (judged (named s (take at all))) (named s (take at all)) (s.name e.process) (happening s e.event) → AreKnown (named s (take (at + 1) all))
-  known_next e inside known k = subst AreKnown (sym (front.grown all t.nameable t.quiet law at e inside)) (known_more (named s (take at all)) (occurrence s e) known k)
+  pub known_next : (e : Entry) → slice_get all at ≡ Some e → AreKnown (named s (take at all))
+      → KnowsOffers (judged (named s (take at all))) (named s (take at all)) (s.name e.process) (happening s e.event)
+      → AreKnown (named s (take (at + 1) all))
+  known_next e inside known k = subst AreKnown (sym (front.grown all t.nameable t.quiet law at e inside))
+      (known_more (named s (take at all)) (occurrence s e) known k)
 
   module _ (known : AreKnown (named s (take at all))) (r : Racer) (racing : IsRacing all at (Some r)) where
     abbrev e : Entry
@@ -73,16 +86,26 @@ module _ (all : List Entry) (t : IsTame all) (at : ℕ) where
     pub not_unknown : ((i : ℕ) → i < at → IsUnknown s (named s (take at all)) all r.process r.way r.channel i → ⊥) → ⊥
     not_unknown none = racing.1 (nothing_unknown all t.nameable t.quiet law at e racing.0 r.way r.channel refl none)
 
-    pub race_judged : (i : ℕ) → IsFirstUnknown s (named s (take at all)) all at r.process r.way r.channel i → (name : ChanName) → name ≡ chan_name (channel s r.channel) → IsJudged (named s all) (verdict.Race r.way name i at)
-    race_judged i f name is = (λ o. racing.1 (in_order o), (channel s r.channel, is, first_race all t.nameable t.quiet law at e racing.0 r.way r.channel refl i f known))
+    pub race_judged : (i : ℕ) → IsFirstUnknown s (named s (take at all)) all at r.process r.way r.channel i
+        → (name : ChanName) → name ≡ chan_name (channel s r.channel)
+        → IsJudged (named s all) (verdict.Race r.way name i at)
+    race_judged i f name is = (
+      λ o. racing.1 (in_order o),
+      (channel s r.channel, is, first_race all t.nameable t.quiet law at e racing.0 r.way r.channel refl i f known),
+    )
       where
-        in_order : AreOrdered (named s all) → KnowsOffers (judged (named s (take at all))) (named s (take at all)) (s.name r.process) (Offered r.way (channel s r.channel))
+        in_order : AreOrdered (named s all) → KnowsOffers (judged (named s (take at all))) (named s (take at all))
+            (s.name r.process) (Offered r.way (channel s r.channel))
         in_order o =
-            let k = known_at (named s all) at (occurrence s e) (named_get s all at e racing.0) (ordered_known (named s all) o) in
-            subst (KnowsOffers (judged (named s (take at all))) (named s (take at all)) (s.name r.process)) (offer_happens s r.way r.channel)
-            (subst (λ xs. KnowsOffers (judged xs) xs (s.name r.process) (happening s (offer_event r.way r.channel))) (sym (named_take s all at)) k)
+            let k = known_at (named s all) at (occurrence s e) (named_get s all at e racing.0)
+            (ordered_known (named s all) o) in
+            subst (KnowsOffers (judged (named s (take at all))) (named s (take at all)) (s.name r.process))
+            (offer_happens s r.way r.channel)
+            (subst (λ xs. KnowsOffers (judged xs) xs (s.name r.process) (happening s (offer_event r.way r.channel)))
+            (sym (named_take s all at)) k)
 
 -- where nothing races
-pub none_racing : (es : List Entry) (at : ℕ) (r : Option Racer) → IsRacing es at r → ((x : Racer) → r ≡ Some x → ⊥) → IsRacing es at None
+pub none_racing : (es : List Entry) (at : ℕ) (r : Option Racer) → IsRacing es at r → ((x : Racer) → r ≡ Some x → ⊥)
+    → IsRacing es at None
 none_racing es at None f off = f
 none_racing es at (Some x) f off = absurd (off x refl)

@@ -1,5 +1,7 @@
 -- The judge's tables after an offer, and what an offer's process knows before it.
-use Rattle.std.proofs.Common.{◌≡◌, ◌≢◌, ⊎_elim, ℕ, suc, ◌+◌, ◌<◌, ◌≤◌, Bool, true, false, cond, max, ◌==◌, List, [], ◌∷◌, ◌++◌, take, length, Option, Some, None, slice_get, slice_set, refl, sym, ap, ◌∙◌, subst, arith, eq-eqb}
+use Rattle.std.proofs.Common.{◌≡◌, ◌≢◌, ⊎_elim, ℕ, suc, ◌+◌, ◌<◌, ◌≤◌, Bool, true, false, cond, max, ◌==◌, List, []}
+use Rattle.std.proofs.Common.{◌∷◌, ◌++◌, take, length, Option, Some, None, slice_get, slice_set, refl, sym, ap, ◌∙◌}
+use Rattle.std.proofs.Common.{subst, arith, eq-eqb}
 use Rattle.std.proofs.Math.Nat.{max-eq_left, max_comm, le-max_left, le-max_right}
 use Rattle.std.proofs.lemmas.Bool.{eqb-false}
 use Rattle.std.proofs.lemmas.Option.{same_Some}
@@ -36,24 +38,30 @@ with_own_more c p n q = by (p == q)
 
 -- who met took in what both know
 met_gains : (c : ℕ → ℕ → ℕ) (p n z m r q : ℕ) → p ≢ z → let w = max (with_own c p n q) (with_own c z m q) in
-    met_at c p n z m r q ≡ cond (z == r) (max (cond (p == r) (max (c r q) w) (c r q)) w) (cond (p == r) (max (c r q) w) (c r q))
+    met_at c p n z m r q ≡ cond (z == r) (max (cond (p == r) (max (c r q) w) (c r q)) w)
+    (cond (p == r) (max (c r q) w) (c r q))
 met_gains c p n z m r q d = ⊎_elim
     (λ (e : z ≡ r).
     let zr = eq-eqb z r e in
     let pr : p == r ≡ false = not_same (λ f. d (f ∙ sym e)) in
-    let low : c r q ≤ w = (let a = with_own_more c z m q in let b = le-max_right (with_own c p n q) (with_own c z m q) in let f = ap (λ x. c x q) e in omega arith) in
+    let low : c r q ≤ w = (let a = with_own_more c z m q in
+    let b = le-max_right (with_own c p n q) (with_own c z m q) in let f = ap (λ x. c x q) e in omega arith) in
     ap (λ x. cond x w (cond (z == r) w (c r q))) pr ∙ ap (λ x. cond x w (c r q)) zr
-    ∙ sym (ap (λ x. cond x (max (cond (p == r) (max (c r q) w) (c r q)) w) (cond (p == r) (max (c r q) w) (c r q))) zr ∙ ap (λ x. max (cond x (max (c r q) w) (c r q)) w) pr ∙ max_comm (c r q) w ∙ max-eq_left low))
+    ∙ sym (ap (λ x. cond x (max (cond (p == r) (max (c r q) w) (c r q)) w) (cond (p == r) (max (c r q) w) (c r q))) zr
+    ∙ ap (λ x. max (cond x (max (c r q) w) (c r q)) w) pr ∙ max_comm (c r q) w ∙ max-eq_left low))
     (λ (zr : z == r ≡ false).
     ⊎_elim
     (λ (e : p ≡ r).
     let pr = eq-eqb p r e in
-    let low : c r q ≤ w = (let a = with_own_more c p n q in let b = le-max_left (with_own c p n q) (with_own c z m q) in let f = ap (λ x. c x q) e in omega arith) in
+    let low : c r q ≤ w = (let a = with_own_more c p n q in let b = le-max_left (with_own c p n q) (with_own c z m q) in
+    let f = ap (λ x. c x q) e in omega arith) in
     ap (λ x. cond x w (cond (z == r) w (c r q))) pr
-    ∙ sym (ap (λ x. cond x (max (cond (p == r) (max (c r q) w) (c r q)) w) (cond (p == r) (max (c r q) w) (c r q))) zr ∙ ap (λ x. cond x (max (c r q) w) (c r q)) pr ∙ max_comm (c r q) w ∙ max-eq_left low))
+    ∙ sym (ap (λ x. cond x (max (cond (p == r) (max (c r q) w) (c r q)) w) (cond (p == r) (max (c r q) w) (c r q))) zr
+    ∙ ap (λ x. cond x (max (c r q) w) (c r q)) pr ∙ max_comm (c r q) w ∙ max-eq_left low))
     (λ (pr : p == r ≡ false).
     ap (λ x. cond x w (cond (z == r) w (c r q))) pr ∙ ap (λ x. cond x w (c r q)) zr
-    ∙ sym (ap (λ x. cond x (max (cond (p == r) (max (c r q) w) (c r q)) w) (cond (p == r) (max (c r q) w) (c r q))) zr ∙ ap (λ x. cond x (max (c r q) w) (c r q)) pr))
+    ∙ sym (ap (λ x. cond x (max (cond (p == r) (max (c r q) w) (c r q)) w) (cond (p == r) (max (c r q) w) (c r q))) zr
+    ∙ ap (λ x. cond x (max (c r q) w) (c r q)) pr))
     (index_or_not p r))
     (index_or_not z r)
   where
@@ -63,8 +71,11 @@ met_gains c p n z m r q d = ⊎_elim
     not_same : (p ≡ r → ⊥) → p == r ≡ false
     not_same f = ⊎_elim (λ (e : p ≡ r). absurd (f e)) (λ (e : p == r ≡ false). e) (index_or_not p r)
 
-module _ (all : List Entry) (nameable : NameableFrom at_start all) (quiet : IsQuiet (named (births all) all)) (lawful : Lawful (births all)) (at : ℕ) (e : Entry) (inside : slice_get all at ≡ Some e) (until : List ℕ) (b : Bench) (h : Holds (births all) until (take at all) b)
-    (w : Way) (c : ℕ) (is : happening (births all) e.event ≡ Offered w (channel (births all) c)) (is_open : c < (births all).channels) (l : Line) (line : slice_get b.lines.items c ≡ Some l) where
+module _ (all : List Entry) (nameable : NameableFrom at_start all) (quiet : IsQuiet (named (births all) all))
+    (lawful : Lawful (births all)) (at : ℕ) (e : Entry) (inside : slice_get all at ≡ Some e) (until : List ℕ)
+    (b : Bench) (h : Holds (births all) until (take at all) b)
+    (w : Way) (c : ℕ) (is : happening (births all) e.event ≡ Offered w (channel (births all) c))
+    (is_open : c < (births all).channels) (l : Line) (line : slice_get b.lines.items c ≡ Some l) where
   abbrev s : Births
   s = births all
 
@@ -93,46 +104,72 @@ module _ (all : List Entry) (nameable : NameableFrom at_start all) (quiet : IsQu
   occurrence_is = λ i. record { who = s.name p; what = is i }
 
   new_sent : IsLast s (os ++ occurrence s e ∷ []) w d (Some offer)
-  new_sent = new_last s os (occurrence s e) w d offer this_there occurrence_is (its_made all nameable quiet lawful at e inside until b h)
+  new_sent = new_last s os (occurrence s e) w d offer this_there occurrence_is
+      (its_made all nameable quiet lawful at e inside until b h)
 
-  other_way : (v : Way) → (v ≡ w → ⊥) → (o : Option Offer) → IsLast s os v d o → IsLast s (os ++ occurrence s e ∷ []) v d o
+  other_way : (v : Way) → (v ≡ w → ⊥) → (o : Option Offer) → IsLast s os v d o
+      → IsLast s (os ++ occurrence s e ∷ []) v d o
   other_way v off o f = last_stays s os (occurrence s e) v d (λ g. off (sym (ap (way_of v) (sym is ∙ g)))) o f
 
-  lines_with : (waiting : Option Offer) → Waits s (os ++ occurrence s e ∷ []) waiting ((judged_by (judged os) (length os) (s.name p) (Offered w d)).pending d) → (v : Way) → v ≡ w → IsLine s (named s (take (at + 1) all)) d (then_line v offer waiting l)
-  lines_with waiting f v same = subst (λ xs. IsLine s xs d (then_line v offer waiting l)) (sym (grown all nameable quiet lawful at e inside until b h)) (by v same)
+  lines_with : (waiting : Option Offer) → Waits s (os ++ occurrence s e ∷ []) waiting
+      ((judged_by (judged os) (length os) (s.name p) (Offered w d)).pending d) → (v : Way) → v ≡ w
+      → IsLine s (named s (take (at + 1) all)) d (then_line v offer waiting l)
+  lines_with waiting f v same = subst (λ xs. IsLine s xs d (then_line v offer waiting l))
+      (sym (grown all nameable quiet lawful at e inside until b h)) (by v same)
     where
       wait : Waits s (os ++ occurrence s e ∷ []) waiting ((judged (os ++ occurrence s e ∷ [])).pending d)
-      wait = subst (Waits s (os ++ occurrence s e ∷ []) waiting) (sym (ap (λ (j : Judged). j.pending d) (judged_last os (occurrence s e) ∙ ap (judged_by (judged os) (length os) (s.name p)) is))) f
+      wait = subst (Waits s (os ++ occurrence s e ∷ []) waiting)
+          (sym (ap (λ (j : Judged). j.pending d)
+          (judged_last os (occurrence s e) ∙ ap (judged_by (judged os) (length os) (s.name p)) is))) f
 
       by : (v : Way) → v ≡ w → IsLine s (os ++ occurrence s e ∷ []) d (then_line v offer waiting l)
-      by way.Send g = record { waiting = wait; sent = subst (λ x. IsLast s (os ++ occurrence s e ∷ []) x d (Some offer)) (sym g) new_sent; received = other_way way.Receive (λ x. send_receive (sym (x ∙ sym g))) l.received its_line.received }
+      by way.Send g = record {
+        waiting = wait;
+        sent = subst (λ x. IsLast s (os ++ occurrence s e ∷ []) x d (Some offer)) (sym g) new_sent;
+        received = other_way way.Receive (λ x. send_receive (sym (x ∙ sym g))) l.received its_line.received;
+      }
         where
           send_receive : way.Send ≡ way.Receive → ⊥
           send_receive x = absurd (cc)
-      by way.Receive g = record { waiting = wait; sent = other_way way.Send (λ x. send_receive (x ∙ sym g)) l.sent its_line.sent; received = subst (λ x. IsLast s (os ++ occurrence s e ∷ []) x d (Some offer)) (sym g) new_sent }
+      by way.Receive g = record {
+        waiting = wait;
+        sent = other_way way.Send (λ x. send_receive (x ∙ sym g)) l.sent its_line.sent;
+        received = subst (λ x. IsLast s (os ++ occurrence s e ∷ []) x d (Some offer)) (sym g) new_sent;
+      }
         where
           send_receive : way.Send ≡ way.Receive → ⊥
           send_receive x = absurd (cc)
 
-  met_same : (x : Option (Name × ℕ)) (f : Channel) → same_channel d f ≡ false → (met_now (judged os) (s.name p) (length os) d x).pending f ≡ (judged os).pending f
+  met_same : (x : Option (Name × ℕ)) (f : Channel) → same_channel d f ≡ false
+      → (met_now (judged os) (s.name p) (length os) d x).pending f ≡ (judged os).pending f
   met_same None f n = ap (λ y. cond y (Some (s.name p, length os)) ((judged os).pending f)) n
   met_same (Some y) f n = ap (λ y. cond y None ((judged os).pending f)) n
 
-  pub offer_lines : (waiting : Option Offer) → Waits s (os ++ occurrence s e ∷ []) waiting ((judged_by (judged os) (length os) (s.name p) (Offered w d)).pending d)
-      → (k : ℕ) → k < s.channels → (x : Line) × (slice_get (slice_set b.lines.items c (then_line w offer waiting l)) k ≡ Some x) × IsLine s (named s (take (at + 1) all)) (channel s k) x
+  pub offer_lines : (waiting : Option Offer)
+      → Waits s (os ++ occurrence s e ∷ []) waiting
+      ((judged_by (judged os) (length os) (s.name p) (Offered w d)).pending d)
+      → (k : ℕ) → k < s.channels → (x : Line)
+      × (slice_get (slice_set b.lines.items c (then_line w offer waiting l)) k ≡ Some x)
+      × IsLine s (named s (take (at + 1) all)) (channel s k) x
   offer_lines waiting f k inside' = ⊎_elim
       (λ (g : c ≡ k). (
         then_line w offer waiting l,
-        get_set b.lines.items c (then_line w offer waiting l) k c_inside ∙ ap (λ x. cond x (Some (then_line w offer waiting l)) (slice_get b.lines.items k)) (eq-eqb c k g),
-        subst (λ x. IsLine s (named s (take (at + 1) all)) (channel s x) (then_line w offer waiting l)) g (lines_with waiting f w refl),
+        get_set b.lines.items c (then_line w offer waiting l) k c_inside
+            ∙ ap (λ x. cond x (Some (then_line w offer waiting l)) (slice_get b.lines.items k)) (eq-eqb c k g),
+        subst (λ x. IsLine s (named s (take (at + 1) all)) (channel s x) (then_line w offer waiting l)) g
+            (lines_with waiting f w refl),
       ))
       (λ (g : c == k ≡ false).
       let x = h.lines k inside' in
       let apart : channel s c ≡ channel s k → ⊥ = λ y. eqb-false c k g (one_channel s lawful c k is_open inside' y) in (
         x.0,
-        get_set b.lines.items c (then_line w offer waiting l) k c_inside ∙ ap (λ y. cond y (Some (then_line w offer waiting l)) (slice_get b.lines.items k)) g ∙ x.1,
-        line_stays all nameable quiet lawful at e inside until b h (channel s k) x.0 (λ v y. apart (ap (channel_of d) (sym is ∙ y)))
-            (ap (λ y. (judged_by (judged os) (length os) (s.name p) y).pending (channel s k)) is ∙ met_same ((judged os).pending d) (channel s k) (unlike (same_channel d (channel s k)) refl (λ y. apart (channel_is d (channel s k) y)))) x.2,
+        get_set b.lines.items c (then_line w offer waiting l) k c_inside
+            ∙ ap (λ y. cond y (Some (then_line w offer waiting l)) (slice_get b.lines.items k)) g ∙ x.1,
+        line_stays all nameable quiet lawful at e inside until b h (channel s k) x.0
+            (λ v y. apart (ap (channel_of d) (sym is ∙ y)))
+            (ap (λ y. (judged_by (judged os) (length os) (s.name p) y).pending (channel s k)) is
+            ∙ met_same ((judged os).pending d) (channel s k)
+            (unlike (same_channel d (channel s k)) refl (λ y. apart (channel_is d (channel s k) y)))) x.2,
       ))
       (index_or_not c k)
     where
@@ -143,7 +180,8 @@ module _ (all : List Entry) (nameable : NameableFrom at_start all) (quiet : IsQu
       unlike true y n = absurd (n y)
       unlike false y n = y
 
-  counted_is : counted_by (counts os) (judged os) os (s.name p) (happening s e.event) ≡ met_counts (counts os) os (s.name p) ((judged os).pending d)
+  counted_is : counted_by (counts os) (judged os) os (s.name p) (happening s e.event)
+      ≡ met_counts (counts os) os (s.name p) ((judged os).pending d)
   counted_is = ap (counted_by (counts os) (judged os) os (s.name p)) is
 
   -- no offer waits: this one does
@@ -155,21 +193,34 @@ module _ (all : List Entry) (nameable : NameableFrom at_start all) (quiet : IsQu
         by None f = refl
         by (Some y) f = absurd f
 
-    pub waits_now : Waits s (os ++ occurrence s e ∷ []) (Some offer) ((judged_by (judged os) (length os) (s.name p) (Offered w d)).pending d)
-    waits_now = subst (Waits s (os ++ occurrence s e ∷ []) (Some offer)) (sym pending) (this_there, refl, its_made all nameable quiet lawful at e inside until b h ∙ ap (λ xs. made xs (s.name p)) (sym (take_low os (occurrence s e) (length os) (omega arith) ∙ take_all os)))
+    pub waits_now : Waits s (os ++ occurrence s e ∷ []) (Some offer)
+        ((judged_by (judged os) (length os) (s.name p) (Offered w d)).pending d)
+    waits_now = subst (Waits s (os ++ occurrence s e ∷ []) (Some offer)) (sym pending) (
+      this_there,
+      refl,
+      its_made all nameable quiet lawful at e inside until b h
+          ∙ ap (λ xs. made xs (s.name p)) (sym (take_low os (occurrence s e) (length os) (omega arith) ∙ take_all os)),
+    )
       where
         pending : (judged_by (judged os) (length os) (s.name p) (Offered w d)).pending d ≡ Some (s.name p, length os)
-        pending = ap (λ x. (met_now (judged os) (s.name p) (length os) d x).pending d) pending_none ∙ ap (λ x. cond x (Some (s.name p, length os)) ((judged os).pending d)) (channel_itself d)
+        pending = ap (λ x. (met_now (judged os) (s.name p) (length os) d x).pending d) pending_none
+            ∙ ap (λ x. cond x (Some (s.name p, length os)) ((judged os).pending d)) (channel_itself d)
 
-    pub clocks_wait : (r q : ℕ) → r < s.processes → Asked q → clock_at b.clocks.items r q ≡ counted_by (counts os) (judged os) os (s.name p) (happening s e.event) (s.name r) (s.name q)
-    clocks_wait r q a k = clock_is all nameable quiet lawful at e inside until b h r q a k ∙ sym (ap (λ f. f (s.name r) (s.name q)) (counted_is ∙ ap (met_counts (counts os) os (s.name p)) pending_none))
+    pub clocks_wait : (r q : ℕ) → r < s.processes → Asked q
+        → clock_at b.clocks.items r q ≡ counted_by (counts os) (judged os) os (s.name p) (happening s e.event)
+        (s.name r) (s.name q)
+    clocks_wait r q a k = clock_is all nameable quiet lawful at e inside until b h r q a k
+        ∙ sym (ap (λ f. f (s.name r) (s.name q)) (counted_is ∙ ap (met_counts (counts os) os (s.name p)) pending_none))
 
   -- an offer waits: they meet
   module _ (z : Offer) (waiting : l.waiting ≡ Some z) where
-    pub its_pending : (y : Name × ℕ) × ((judged os).pending d ≡ Some y) × (z.process < s.processes) × (s.name z.process ≡ y.0) × (z.place ≡ made (take y.1 os) y.0)
-    its_pending = by ((judged os).pending d) (subst (λ x. Waits s os x ((judged os).pending d)) waiting its_line.waiting)
+    pub its_pending : (y : Name × ℕ) × ((judged os).pending d ≡ Some y) × (z.process < s.processes)
+        × (s.name z.process ≡ y.0) × (z.place ≡ made (take y.1 os) y.0)
+    its_pending = by ((judged os).pending d)
+        (subst (λ x. Waits s os x ((judged os).pending d)) waiting its_line.waiting)
       where
-        by : (x : Option (Name × ℕ)) → Waits s os (Some z) x → (y : Name × ℕ) × (x ≡ Some y) × (z.process < s.processes) × (s.name z.process ≡ y.0) × (z.place ≡ made (take y.1 os) y.0)
+        by : (x : Option (Name × ℕ)) → Waits s os (Some z) x → (y : Name × ℕ) × (x ≡ Some y) × (z.process < s.processes)
+            × (s.name z.process ≡ y.0) × (z.place ≡ made (take y.1 os) y.0)
         by None f = absurd f
         by (Some y) f = (y, refl, f.0, f.1, f.2)
 
@@ -180,19 +231,26 @@ module _ (all : List Entry) (nameable : NameableFrom at_start all) (quiet : IsQu
     z_there = its_pending.2
 
     pub apart : p ≢ z.process
-    apart f = front.waits_not all nameable quiet lawful at e inside d y.1 (its_pending.1 ∙ (λ i. Some ((sym its_pending.3 ∙ ap s.name (sym f)) i, y.1)))
+    apart f = front.waits_not all nameable quiet lawful at e inside d y.1
+        (its_pending.1 ∙ (λ i. Some ((sym its_pending.3 ∙ ap s.name (sym f)) i, y.1)))
 
-    pub waits_no_more : Waits s (os ++ occurrence s e ∷ []) None ((judged_by (judged os) (length os) (s.name p) (Offered w d)).pending d)
+    pub waits_no_more : Waits s (os ++ occurrence s e ∷ []) None
+        ((judged_by (judged os) (length os) (s.name p) (Offered w d)).pending d)
     waits_no_more = subst (Waits s (os ++ occurrence s e ∷ []) None) (sym pending) tt
       where
         pending : (judged_by (judged os) (length os) (s.name p) (Offered w d)).pending d ≡ None
-        pending = ap (λ x. (met_now (judged os) (s.name p) (length os) d x).pending d) its_pending.1 ∙ ap (λ x. cond x None ((judged os).pending d)) (channel_itself d)
+        pending = ap (λ x. (met_now (judged os) (s.name p) (length os) d x).pending d) its_pending.1
+            ∙ ap (λ x. cond x None ((judged os).pending d)) (channel_itself d)
 
-    pub clocks_met : (c' : ℕ → ℕ → ℕ) → ((r q : ℕ) → IsAsked until (at + 1) q → c' r q ≡ met_at (clock_at b.clocks.items) p (number_at b.made.items p + 1) z.process (z.place + 1) r q)
-        → (r q : ℕ) → r < s.processes → Asked q → c' r q ≡ counted_by (counts os) (judged os) os (s.name p) (happening s e.event) (s.name r) (s.name q)
+    pub clocks_met : (c' : ℕ → ℕ → ℕ) → ((r q : ℕ) → IsAsked until (at + 1) q
+        → c' r q ≡ met_at (clock_at b.clocks.items) p (number_at b.made.items p + 1) z.process (z.place + 1) r q)
+        → (r q : ℕ) → r < s.processes → Asked q
+        → c' r q ≡ counted_by (counts os) (judged os) os (s.name p) (happening s e.event) (s.name r) (s.name q)
     clocks_met c' met r q a k =
-        met r q k.1 ∙ met_gains (clock_at b.clocks.items) p (number_at b.made.items p + 1) z.process (z.place + 1) r q apart
-        ∙ (λ i. cond (tz i) (max (cond (tp i) (max (x i) (whole i)) (x i)) (whole i)) (cond (tp i) (max (x i) (whole i)) (x i)))
+        met r q k.1 ∙ met_gains (clock_at b.clocks.items) p (number_at b.made.items p + 1) z.process (z.place + 1) r q
+        apart
+        ∙ (λ i. cond (tz i) (max (cond (tp i) (max (x i) (whole i)) (x i)) (whole i))
+        (cond (tp i) (max (x i) (whole i)) (x i)))
         ∙ sym (ap (λ f. f (s.name r) (s.name q)) (counted_is ∙ ap (met_counts (counts os) os (s.name p)) its_pending.1))
       where
         tz : z.process == r ≡ same_name y.0 (s.name r)
@@ -204,15 +262,21 @@ module _ (all : List Entry) (nameable : NameableFrom at_start all) (quiet : IsQu
         x : clock_at b.clocks.items r q ≡ counts os (s.name r) (s.name q)
         x = clock_is all nameable quiet lawful at e inside until b h r q a k
 
-        theirs_is : with_own (clock_at b.clocks.items) z.process (z.place + 1) q ≡ theirs (counts os) os y.0 y.1 (s.name q)
+        theirs_is : with_own (clock_at b.clocks.items) z.process (z.place + 1) q
+            ≡ theirs (counts os) os y.0 y.1 (s.name q)
         theirs_is =
-            let t : z.process == q ≡ same_name y.0 (s.name q) = same_process s lawful z.process q z_there k.0 ∙ ap (λ n. same_name n (s.name q)) its_pending.3 in
-            let u : clock_at b.clocks.items z.process q ≡ counts os y.0 (s.name q) = clock_is all nameable quiet lawful at e inside until b h z.process q z_there k ∙ ap (λ n. counts os n (s.name q)) its_pending.3 in
+            let t : z.process == q ≡ same_name y.0 (s.name q) = same_process s lawful z.process q z_there k.0
+            ∙ ap (λ n. same_name n (s.name q)) its_pending.3 in
+            let u : clock_at b.clocks.items z.process q ≡ counts os y.0 (s.name q) =
+            clock_is all nameable quiet lawful at e inside until b h z.process q z_there k
+            ∙ ap (λ n. counts os n (s.name q)) its_pending.3 in
             let v : z.place + 1 ≡ suc (made (take y.1 os) y.0) = one_more z.place _ its_pending.4 in
             λ i. cond (t i) (max (u i) (v i)) (u i)
           where
             one_more : (a b : ℕ) → a ≡ b → a + 1 ≡ suc b
             one_more a b f = omega arith
 
-        whole : max (with_own (clock_at b.clocks.items) p (number_at b.made.items p + 1) q) (with_own (clock_at b.clocks.items) z.process (z.place + 1) q) ≡ both (mine (counts os) os (s.name p)) (theirs (counts os) os y.0 y.1) (s.name q)
+        whole : max (with_own (clock_at b.clocks.items) p (number_at b.made.items p + 1) q)
+            (with_own (clock_at b.clocks.items) z.process (z.place + 1) q)
+            ≡ both (mine (counts os) os (s.name p)) (theirs (counts os) os y.0 y.1) (s.name q)
         whole = λ i. max (own_is all nameable quiet lawful at e inside until b h q k i) (theirs_is i)

@@ -1,5 +1,6 @@
 -- An ordered run that has an end ends alike in every schedule; and a journal and an end have one verdict alone.
-use Rattle.std.proofs.Common.{◌≡◌, ◌⊎◌, inl, inr, ⊎_elim, ℕ, zero, suc, Bool, true, false, cond, List, [], ◌∷◌, ◌++◌, append-nil, Option, Some, None, refl, sym, ap, ◌∙◌, subst, arith}
+use Rattle.std.proofs.Common.{◌≡◌, ◌⊎◌, inl, inr, ⊎_elim, ℕ, zero, suc, Bool, true, false, cond, List, [], ◌∷◌, ◌++◌}
+use Rattle.std.proofs.Common.{append-nil, Option, Some, None, refl, sym, ap, ◌∙◌, subst, arith}
 use Rattle.std.proofs.lemmas.Option.{none-some, same_Some}
 use Rattle.sp_base.specs.declared.fault.Fault.{Fault}
 use Rattle.sp_base.specs.declared.name.ChanName.{ChanName}
@@ -12,14 +13,17 @@ use Rattle.sp_journal.specs.declared.outcome.Verdict.TheVariants as verdict
 use Rattle.sp_journal.specs.Names.{chan_name}
 use Rattle.sp_journal.specs.Past.{AreOrdered}
 use Rattle.sp_tree.specs.Interference.{IsFreeOfInterference}
-use Rattle.sp_meaning.specs.Model.{Name, Channel, same_name, Language, Moves, Opens, Forks, Offering, Ends, Fails, Works, Ended, Change, Becomes, Writes, changed, after}
-use Rattle.sp_meaning.specs.Steps.{ActOf, ConditionOf, Outcome, Advances, Faulty, Lives, acts, cost, passed, puts, unless, outcome, result_of, step_with, Sound}
+use Rattle.sp_meaning.specs.Model.{Name, Channel, same_name, Language, Moves, Opens, Forks, Offering, Ends, Fails}
+use Rattle.sp_meaning.specs.Model.{Works, Ended, Change, Becomes, Writes, changed, after}
+use Rattle.sp_meaning.specs.Steps.{ActOf, ConditionOf, Outcome, Advances, Faulty, Lives, acts, cost, passed, puts}
+use Rattle.sp_meaning.specs.Steps.{unless, outcome, result_of, step_with, Sound}
 use Rattle.sp_meaning.specs.Own.{Setting, Process}
 use Rattle.sp_meaning.specs.SuperPascal.{superpascal, root, first_store}
 use Rattle.sp_meaning.specs.Entries.{Happening, Opened, Forked, Offered, Faulted, Laid, Paused, Occurrence}
 use Rattle.sp_journal.specs.Names as happenings
 use Rattle.sp_meaning.specs.Runs.{StateOf, start, most, running, next, said_of, says}
-use Rattle.sp_meaning.specs.Along.{Either, due, Turn, Course, no_course, stopped, Entered, Along, IsAlong, IsCleanly, IsClean}
+use Rattle.sp_meaning.specs.Along.{Either, due, Turn, Course, no_course, stopped, Entered, Along, IsAlong, IsCleanly}
+use Rattle.sp_meaning.specs.Along.{IsClean}
 use Rattle.sp_meaning.specs.Ends.{IsDone, EndIs}
 use Rattle.sp_meaning.proofs.Status.{working_lives}
 use Rattle.sp_meaning.proofs.Parallel.{ancestors_live}
@@ -39,17 +43,21 @@ module _ (g : Setting) where
     faulty : s.fault ≡ None → ⊥
     goes_on : IsDone g s → ⊥
 
-  resulted : (s : StateOf g) (q : Name) (own : Process) (m : StateOf g) → running g s q ≡ Some own → next g s q ≡ Some m → result_of s q (outcome (most g) s q (L.next own s.store)) ≡ m
+  resulted : (s : StateOf g) (q : Name) (own : Process) (m : StateOf g) → running g s q ≡ Some own → next g s q ≡ Some m
+      → result_of s q (outcome (most g) s q (L.next own s.store)) ≡ m
   resulted s q own m run st = same_Some _ _ (sym (ap (step_with (most g) s q) run) ∙ st)
 
   -- while a process is running the root has not ended
   root_goes_on : (s : StateOf g) → Sound s → (q : Name) (own : Process) → running g s q ≡ Some own → IsDone g s → ⊥
   root_goes_on s sound q own run done =
-      let lives : Lives (s.condition (q ++ [])) = subst (λ z. Lives (s.condition z)) (sym (append-nil q)) (working_lives s.condition q (s.condition q) own run) in
+      let lives : Lives (s.condition (q ++ [])) =
+      subst (λ z. Lives (s.condition z)) (sym (append-nil q))
+      (working_lives s.condition q (s.condition q) own run) in
       subst (λ (c : ConditionOf L). Lives c) done (ancestors_live s sound q [] lives)
 
   -- a faulting step
-  module _ (s : StateOf g) (q : Name) (own : Process) (sound : Sound s) (run : running g s q ≡ Some own) (f : Fault) where
+  module _ (s : StateOf g) (q : Name) (own : Process) (sound : Sound s) (run : running g s q ≡ Some own)
+      (f : Fault) where
     does_not : (a : ActOf L) (cs : List (Change L)) → said_of a (Advances cs) ≡ Some (Faulted f) → ⊥
     does_not (Moves o ws) cs e = none-some _ e
     does_not (Opens o ws) cs e = cc e
@@ -63,13 +71,15 @@ module _ (g : Setting) where
     by_outcome a (Faulty x) e = record { faulty = λ h. none-some _ (sym h); goes_on = root_goes_on s sound q own run }
 
     failed : (m : StateOf g) → says g s q own ≡ Some (Faulted f) → next g s q ≡ Some m → Broken m
-    failed m e st = subst (λ (z : StateOf g). Broken z) (resulted s q own m run st) (by_outcome (L.next own s.store) (outcome (most g) s q (L.next own s.store)) e)
+    failed m e st = subst (λ (z : StateOf g). Broken z) (resulted s q own m run st)
+        (by_outcome (L.next own s.store) (outcome (most g) s q (L.next own s.store)) e)
 
   -- a local step
   module _ (s : StateOf g) (q : Name) (broken : Broken s) where
     puts_keep : (ws : List (L.Loc × L.Value)) (t : StateOf g) → Broken t → Broken (after (puts ws) t)
     puts_keep [] t b = b
-    puts_keep (w ∷ ws) t b = puts_keep ws (changed (Writes w.0 w.1) t) (record { faulty = b.faulty; goes_on = b.goes_on })
+    puts_keep (w ∷ ws) t b = puts_keep ws (changed (Writes w.0 w.1) t)
+        (record { faulty = b.faulty; goes_on = b.goes_on })
 
     works_on : (o : Process) → Broken (changed {L = L} (Becomes q (Works o)) s)
     works_on o = record { faulty = broken.faulty; goes_on = by (same_name q []) broken.goes_on }
@@ -78,7 +88,8 @@ module _ (g : Setting) where
         by true h e = cc e
         by false h e = h e
 
-    by_act : (a : ActOf L) (x : Option Fault) → said_of a (unless x (acts s q a)) ≡ None → Broken (result_of s q (unless x (acts s q a)))
+    by_act : (a : ActOf L) (x : Option Fault) → said_of a (unless x (acts s q a)) ≡ None
+        → Broken (result_of s q (unless x (acts s q a)))
     by_act (Moves o ws) None e = puts_keep ws _ (works_on o)
     by_act (Moves o ws) (Some f) e = absurd (none-some _ (sym e))
     by_act (Opens o ws) None e = absurd (none-some _ (sym e))
@@ -95,23 +106,29 @@ module _ (g : Setting) where
     by_act (Fails f) None e = absurd (none-some _ (sym e))
     by_act (Fails f) (Some x) e = absurd (none-some _ (sym e))
 
-    stays_broken : (own : Process) (m : StateOf g) → running g s q ≡ Some own → says g s q own ≡ None → next g s q ≡ Some m → Broken m
-    stays_broken own m run e st = subst (λ (z : StateOf g). Broken z) (resulted s q own m run st) (by_act (L.next own s.store) (passed (most g) s.totals (cost (L.next own s.store))) e)
+    stays_broken : (own : Process) (m : StateOf g) → running g s q ≡ Some own → says g s q own ≡ None
+        → next g s q ≡ Some m → Broken m
+    stays_broken own m run e st = subst (λ (z : StateOf g). Broken z) (resulted s q own m run st)
+        (by_act (L.next own s.store) (passed (most g) s.totals (cost (L.next own s.store))) e)
 
   -- what each local step keeps, a row of them keeps
-  turn_keeps : (P : StateOf g → Type 0) → ((s : StateOf g) (q : Name) (own : Process) (m : StateOf g) → P s → running g s q ≡ Some own → says g s q own ≡ None → next g s q ≡ Some m → P m)
-      → (turn since : ℕ) (q : Name) (k : ℕ) (s m : StateOf g) (paused : Bool) → Turn g turn since q k s m paused → P s → P m
+  turn_keeps : (P : StateOf g → Type 0) → ((s : StateOf g) (q : Name) (own : Process) (m : StateOf g) → P s
+      → running g s q ≡ Some own → says g s q own ≡ None → next g s q ≡ Some m → P m)
+      → (turn since : ℕ) (q : Name) (k : ℕ) (s m : StateOf g) (paused : Bool) → Turn g turn since q k s m paused → P s
+      → P m
   turn_keeps P step turn since q zero s m paused h p = subst P (sym h.0) p
   turn_keeps P step turn since q (suc k) s m paused h p =
       let one = step s q h.0 h.3 p h.1 h.2 h.4 in
       rest (due g turn since s h.0 q h.3) h.5 one (λ y. turn_keeps P step turn since q k h.3 m paused y one)
     where
-      rest : (b : Bool) → Either b ((k ≡ 0) × (m ≡ h.3) × (paused ≡ true)) (Turn g turn since q k h.3 m paused) → P h.3 → (Turn g turn since q k h.3 m paused → P m) → P m
+      rest : (b : Bool) → Either b ((k ≡ 0) × (m ≡ h.3) × (paused ≡ true)) (Turn g turn since q k h.3 m paused) → P h.3
+          → (Turn g turn since q k h.3 m paused → P m) → P m
       rest true y one later = subst P (sym y.1) one
       rest false y one later = later y
 
   -- after a fault: processes are laid, and nothing else happens
-  laid_on : (left : Course → StateOf g → ℕ → Type 0) (c : Course) (m : StateOf g) (paused : Bool) (q : Name) (w : Happening) (r : ℕ) (A : Type 0) → c.faulted ≡ true → Entered g left c m paused q w r
+  laid_on : (left : Course → StateOf g → ℕ → Type 0) (c : Course) (m : StateOf g) (paused : Bool) (q : Name)
+      (w : Happening) (r : ℕ) (A : Type 0) → c.faulted ≡ true → Entered g left c m paused q w r
       → (left (stopped q c) m r → A) → A
   laid_on left c m paused q Opened r A f h go = absurd (not_true_and_false c.faulted f h.0)
   laid_on left c m paused q (Forked i) r A f h go = absurd (not_true_and_false c.faulted f h.0)
@@ -121,13 +138,18 @@ module _ (g : Setting) where
   laid_on left c m paused q Laid r A f h go = go h.1
   laid_on left c m paused q Paused r A f h go = absurd (not_true_and_false c.faulted f h.0)
 
-  along_broken : (turn : ℕ) (es : List Occurrence) (c : Course) (s : StateOf g) (r : ℕ) (t : StateOf g) → c.faulted ≡ true → Along g turn c s es r t → Broken s → Broken t
+  along_broken : (turn : ℕ) (es : List Occurrence) (c : Course) (s : StateOf g) (r : ℕ) (t : StateOf g)
+      → c.faulted ≡ true → Along g turn c s es r t → Broken s → Broken t
   along_broken turn [] c s r t f a b = subst (λ (z : StateOf g). Broken z) (sym a.1) b
-  along_broken turn (e ∷ es) c s r t f a b = laid_on (λ c1 u d. Along g turn c1 u es d t) c a.3 a.4 e.who e.what a.2 (Broken t) f a.7 (λ more.
-      along_broken turn es (stopped e.who c) a.3 a.2 t refl more (turn_keeps Broken (λ s q own m b run says_none st. stays_broken s q b own m run says_none st) turn (c.since e.who) e.who a.1 s a.3 a.4 a.6 b))
+  along_broken turn (e ∷ es) c s r t f a b =
+      laid_on (λ c1 u d. Along g turn c1 u es d t) c a.3 a.4 e.who e.what a.2 (Broken t) f a.7 (λ more.
+      along_broken turn es (stopped e.who c) a.3 a.2 t refl more
+      (turn_keeps Broken (λ s q own m b run says_none st. stays_broken s q b own m run says_none st) turn
+      (c.since e.who) e.who a.1 s a.3 a.4 a.6 b))
 
   -- an entry before a fault, by what comes of the rest
-  module _ (left : Course → StateOf g → ℕ → Type 0) (c : Course) (m : StateOf g) (paused : Bool) (q : Name) (es : List Occurrence) (t : StateOf g) (sound : Sound m) where
+  module _ (left : Course → StateOf g → ℕ → Type 0) (c : Course) (m : StateOf g) (paused : Bool) (q : Name)
+      (es : List Occurrence) (t : StateOf g) (sound : Sound m) where
     abbrev Clean_or : Happening → Type 0
     Clean_or w = (IsCleanly w × IsClean es) ⊎ Broken t
 
@@ -141,25 +163,35 @@ module _ (g : Setting) where
     with_first w ok (inl clean) = inl (ok, clean)
     with_first w ok (inr broken) = inr broken
 
-    entered_clean : (w : Happening) (r : ℕ) → c.faulted ≡ false → Entered g left c m paused q w r → Rest → Laid_rest → Clean_or w
-    entered_clean Opened r f h go laid = with_first Opened tt (go _ h.2 h.3 f (step_sound (most g) m q h.2 sound h.5.3) h.6)
-    entered_clean (Forked i) r f h go laid = with_first (Forked i) tt (go _ h.2 h.3 f (step_sound (most g) m q h.2 sound h.5.3) h.6)
-    entered_clean (Offered w d) r f h go laid = with_first (Offered w d) tt (go _ h.2 h.3 f (step_sound (most g) m q h.2 sound h.5.3) h.6)
-    entered_clean happenings.Ended r f h go laid = with_first happenings.Ended tt (go _ h.2 h.3 f (step_sound (most g) m q h.2 sound h.5.3) h.6)
-    entered_clean (Faulted x) r f h go laid = inr (laid _ h.2 h.3 refl (failed m q h.5.0 sound h.5.1 x h.2 h.5.2 h.5.3) h.6)
+    entered_clean : (w : Happening) (r : ℕ) → c.faulted ≡ false → Entered g left c m paused q w r → Rest → Laid_rest
+        → Clean_or w
+    entered_clean Opened r f h go laid = with_first Opened tt
+        (go _ h.2 h.3 f (step_sound (most g) m q h.2 sound h.5.3) h.6)
+    entered_clean (Forked i) r f h go laid =
+        with_first (Forked i) tt (go _ h.2 h.3 f (step_sound (most g) m q h.2 sound h.5.3) h.6)
+    entered_clean (Offered w d) r f h go laid =
+        with_first (Offered w d) tt (go _ h.2 h.3 f (step_sound (most g) m q h.2 sound h.5.3) h.6)
+    entered_clean happenings.Ended r f h go laid =
+        with_first happenings.Ended tt (go _ h.2 h.3 f (step_sound (most g) m q h.2 sound h.5.3) h.6)
+    entered_clean (Faulted x) r f h go laid =
+        inr (laid _ h.2 h.3 refl (failed m q h.5.0 sound h.5.1 x h.2 h.5.2 h.5.3) h.6)
     entered_clean Laid r f h go laid = absurd (not_true_and_false c.faulted h.0 f)
     entered_clean Paused r f h go laid = with_first Paused tt (go _ m r f sound h.2)
 
-  along_clean : (turn : ℕ) (es : List Occurrence) (c : Course) (s : StateOf g) (r : ℕ) (t : StateOf g) → c.faulted ≡ false → Along g turn c s es r t → Sound s → IsClean es ⊎ Broken t
+  along_clean : (turn : ℕ) (es : List Occurrence) (c : Course) (s : StateOf g) (r : ℕ) (t : StateOf g)
+      → c.faulted ≡ false → Along g turn c s es r t → Sound s → IsClean es ⊎ Broken t
   along_clean turn [] c s r t f a sound = inl tt
   along_clean turn (e ∷ es) c s r t f a sound =
-      let there : Sound a.3 = turn_keeps (λ (z : StateOf g). Sound z) (λ s q own m b run says_none st. step_sound (most g) s q m b st) turn (c.since e.who) e.who a.1 s a.3 a.4 a.6 sound in
+      let there : Sound a.3 = turn_keeps (λ (z : StateOf g). Sound z)
+      (λ s q own m b run says_none st. step_sound (most g) s q m b st) turn (c.since e.who) e.who a.1 s a.3 a.4 a.6
+      sound in
       entered_clean (λ c1 u d. Along g turn c1 u es d t) c a.3 a.4 e.who es t there e.what a.2 f a.7
       (λ c1 u d f1 sound1 more. along_clean turn es c1 u d t f1 more sound1)
       (λ c1 u d f1 broken more. along_broken turn es c1 u d t f1 more broken)
 
   -- a run with an end that is no fault has a journal without a fault
-  ends_clean : (turn : ℕ) (es : List Occurrence) (n : ℕ) (t : StateOf g) → IsAlong g turn es n t → (Broken t → ⊥) → IsClean es
+  ends_clean : (turn : ℕ) (es : List Occurrence) (n : ℕ) (t : StateOf g) → IsAlong g turn es n t → (Broken t → ⊥)
+      → IsClean es
   ends_clean turn es n t along whole = ⊎_elim (λ (x : IsClean es). x) (λ (b : Broken t). absurd (whole b))
       (along_clean turn es no_course (start g) n t refl along (sound_opening L (root g) (first_store g)))
 
@@ -170,26 +202,34 @@ module _ (g : Setting) where
   clean_with_end turn es n t (end.Fault p f) along h sure = absurd (sure tt)
   clean_with_end turn es n t end.Memory along h sure = absurd h
 
-  ordered_ends : (turn : ℕ) (es : List Occurrence) (n : ℕ) (t : StateOf g) (e : End) → IsFreeOfInterference g.program → IsAlong g turn es n t → EndIs g t e → (IsFault e → ⊥) → AreOrdered es → AllEndAlike g n t
+  ordered_ends : (turn : ℕ) (es : List Occurrence) (n : ℕ) (t : StateOf g) (e : End) → IsFreeOfInterference g.program
+      → IsAlong g turn es n t → EndIs g t e → (IsFault e → ⊥) → AreOrdered es → AllEndAlike g n t
   ordered_ends turn es n t end.Done free along h sure ordered =
-      each_ends_alike g turn es n t (disjoint g free) along (ends_clean turn es n t along (λ b. b.goes_on h)) (inl h) ordered
+      each_ends_alike g turn es n t (disjoint g free) along (ends_clean turn es n t along (λ b. b.goes_on h)) (inl h)
+      ordered
   ordered_ends turn es n t (end.Deadlock ws) free along h sure ordered =
-      each_ends_alike g turn es n t (disjoint g free) along (ends_clean turn es n t along (λ b. b.faulty (h.1).quiet)) (inr (h.1).idle) ordered
+      each_ends_alike g turn es n t (disjoint g free) along (ends_clean turn es n t along (λ b. b.faulty (h.1).quiet))
+      (inr (h.1).idle) ordered
   ordered_ends turn es n t (end.Fault p f) free along h sure ordered = absurd (sure tt)
   ordered_ends turn es n t end.Memory free along h sure ordered = absurd h
 
-  pub run_verdict : (turn : ℕ) (es : List Occurrence) (n : ℕ) (t : StateOf g) (e : End) (v : Verdict) → IsFreeOfInterference g.program → IsAlong g turn es n t → EndIs g t e → IsVerdict es e v → IsRunVerdict g es n t e v
+  pub run_verdict : (turn : ℕ) (es : List Occurrence) (n : ℕ) (t : StateOf g) (e : End) (v : Verdict)
+      → IsFreeOfInterference g.program → IsAlong g turn es n t → EndIs g t e → IsVerdict es e v
+      → IsRunVerdict g es n t e v
   run_verdict turn es n t e verdict.Ordered free along h v = (v, ordered_ends turn es n t e free along h v.0 v.1)
   run_verdict turn es n t e (verdict.Race w c i k) free along h v = v
   run_verdict turn es n t e verdict.Unjudged free along h v = v
 
 -- the entry of a race's later offer says the way and the channel
-same_offer : (es : List Occurrence) (w v : Way) (c d : Channel) (i k x : ℕ) → Race es w c i k → Race es v d x k → (w ≡ v) × (c ≡ d)
+same_offer : (es : List Occurrence) (w v : Way) (c d : Channel) (i k x : ℕ) → Race es w c i k → Race es v d x k
+    → (w ≡ v) × (c ≡ d)
 same_offer es w v c d i k x a b =
-    let both : Offered w c ≡ Offered v d = ap (λ (o : Occurrence). o.what) (same_Some _ _ (sym a.offered_second ∙ b.offered_second)) in
+    let both : Offered w c ≡ Offered v d = ap (λ (o : Occurrence). o.what)
+    (same_Some _ _ (sym a.offered_second ∙ b.offered_second)) in
     (cc both, cc both)
 
-same_race : (es : List Occurrence) (w v : Way) (c d : Channel) (i k x y : ℕ) → IsLeastRace es w c i k → IsLeastRace es v d x y → (w ≡ v) × (c ≡ d) × (i ≡ x) × (k ≡ y)
+same_race : (es : List Occurrence) (w v : Way) (c d : Channel) (i k x y : ℕ) → IsLeastRace es w c i k
+    → IsLeastRace es v d x y → (w ≡ v) × (c ≡ d) × (i ≡ x) × (k ≡ y)
 same_race es w v c d i k x y a b =
     let one = a.1 v d x y b.0 in
     let two = b.1 w c i k a.0 in
@@ -210,7 +250,8 @@ one_verdict es e (verdict.Race w c i k) (verdict.Race v d x y) a b =
     let channels : c ≡ d = p.1 ∙ ap chan_name s.1 ∙ sym q.1 in
     race_is w v c d i k x y s.0 channels s.2 s.3
   where
-    race_is : (w v : Way) (c d : ChanName) (i k x y : ℕ) → w ≡ v → c ≡ d → i ≡ x → k ≡ y → verdict.Race w c i k ≡ verdict.Race v d x y
+    race_is : (w v : Way) (c d : ChanName) (i k x y : ℕ) → w ≡ v → c ≡ d → i ≡ x → k ≡ y
+        → verdict.Race w c i k ≡ verdict.Race v d x y
     race_is w v c d i k x y f g h l = cc
 one_verdict es e (verdict.Race w c i k) verdict.Unjudged a b = absurd (a.0 b)
 one_verdict es e verdict.Unjudged verdict.Ordered a b = absurd (b.0 a)

@@ -1,14 +1,18 @@
 -- The sparse clocks of a journal by names: counts that stand for what each process knows.
-use Rattle.std.proofs.Common.{◌≡◌, ◌⊎◌, ⊎_elim, inl, inr, ℕ, zero, suc, ◌<◌, ◌≤◌, Bool, true, false, cond, max, ◌&&◌, ◌||◌, ◌==◌, nat_lt, List, [], ◌∷◌, ◌++◌, take, length, length-append, Option, Some, None, refl, sym, ap, ◌∙◌, subst, arith, eqb-true, eq-eqb}
+use Rattle.std.proofs.Common.{◌≡◌, ◌⊎◌, ⊎_elim, inl, inr, ℕ, zero, suc, ◌<◌, ◌≤◌, Bool, true, false, cond, max, ◌&&◌}
+use Rattle.std.proofs.Common.{◌||◌, ◌==◌, nat_lt, List, [], ◌∷◌, ◌++◌, take, length, length-append, Option, Some, None}
+use Rattle.std.proofs.Common.{refl, sym, ap, ◌∙◌, subst, arith, eqb-true, eq-eqb}
 use Rattle.std.proofs.lemmas.Bool.Decides.{nat_tests}
 use Rattle.std.proofs.Math.Nat.{le-max_left, le-max_right, max-le, max_comm, max-eq_left}
 use Rattle.std.proofs.lemmas.Bool.{and_from, cases_lt, le-ltb, lt-ltb, ltb-true, or_cases, or_right}
 use Rattle.std.proofs.lemmas.Option.{same_Some, slice_get_within}
 use Rattle.sp_base.proofs.Facts.{below_or_at, or_with_false, true_is_not_false}
-use Rattle.sp_journal.specs.Names.{Name, Channel, same_name, Happening, Opened, Forked, Offered, Ended, Faulted, Laid, Paused, Occurrence}
+use Rattle.sp_journal.specs.Names.{Name, Channel, same_name, Happening, Opened, Forked, Offered, Ended, Faulted, Laid}
+use Rattle.sp_journal.specs.Names.{Paused, Occurrence}
 use Rattle.sp_journal.specs.Past.{Judged, learn, teach, report, now, met_now, judged_by}
 use Rattle.sp_past.specs.Prefixes.{is_counted, Counts, WaitsForNone}
-use Rattle.sp_judge.specs.Counts.{made, PlaceOf, becomes, gains, shares, gives_back, mine, theirs, both, met_counts, counted_by}
+use Rattle.sp_judge.specs.Counts.{made, PlaceOf, becomes, gains, shares, gives_back, mine, theirs, both, met_counts}
+use Rattle.sp_judge.specs.Counts.{counted_by}
 use Rattle.sp_past.proofs.Keys.{name_itself, name_is}
 use Rattle.sp_past.proofs.Prefixing.{Kept, get_low, get_last}
 
@@ -20,19 +24,25 @@ pub record Says (es : List Occurrence) (f : ℕ → Bool) (g : Name → ℕ) : T
 -- laws of places
 
 name_or_not : (p q : Name) → (p ≡ q) ⊎ (same_name p q ≡ false)
-name_or_not p q = elim (same_name p q) as (λ b. same_name p q ≡ b → (p ≡ q) ⊎ (same_name p q ≡ false)) [ true ↦ λ e. inl (name_is p q e) | false ↦ λ e. inr e ] refl
+name_or_not p q = elim (same_name p q) as (λ b. same_name p q ≡ b → (p ≡ q) ⊎ (same_name p q ≡ false))
+    [ true ↦ λ e. inl (name_is p q e) | false ↦ λ e. inr e ] refl
 
 pub index_or_not : (a b : ℕ) → (a ≡ b) ⊎ (a == b ≡ false)
-index_or_not a b = elim (a == b) as (λ c. a == b ≡ c → (a ≡ b) ⊎ (a == b ≡ false)) [ true ↦ λ e. inl (eqb-true a b e) | false ↦ λ e. inr e ] refl
+index_or_not a b = elim (a == b) as (λ c. a == b ≡ c → (a ≡ b) ⊎ (a == b ≡ false))
+    [ true ↦ λ e. inl (eqb-true a b e) | false ↦ λ e. inr e ] refl
 
 same_here : (p q : Name) → p ≡ q → same_name p q ≡ true
 same_here p q e = subst (λ x. same_name p x ≡ true) e (name_itself p)
 
-pub made_last : (es : List Occurrence) (e : Occurrence) (q : Name) → made (es ++ e ∷ []) q ≡ cond (same_name e.who q && is_counted e.what) (suc (made es q)) (made es q)
+pub made_last : (es : List Occurrence) (e : Occurrence) (q : Name)
+    → made (es ++ e ∷ []) q ≡ cond (same_name e.who q && is_counted e.what) (suc (made es q)) (made es q)
 made_last [] e q = refl
-made_last (x ∷ es) e q = by (same_name x.who q && is_counted x.what) (same_name e.who q && is_counted e.what) (made_last es e q)
+made_last (x ∷ es) e q = by (same_name x.who q && is_counted x.what) (same_name e.who q && is_counted e.what)
+    (made_last es e q)
   where
-    by : (a b : Bool) → made (es ++ e ∷ []) q ≡ cond b (suc (made es q)) (made es q) → cond a (suc (made (es ++ e ∷ []) q)) (made (es ++ e ∷ []) q) ≡ cond b (suc (cond a (suc (made es q)) (made es q))) (cond a (suc (made es q)) (made es q))
+    by : (a b : Bool) → made (es ++ e ∷ []) q ≡ cond b (suc (made es q)) (made es q)
+        → cond a (suc (made (es ++ e ∷ []) q)) (made (es ++ e ∷ []) q)
+        ≡ cond b (suc (cond a (suc (made es q)) (made es q))) (cond a (suc (made es q)) (made es q))
     by true true h = ap suc h
     by true false h = ap suc h
     by false true h = h
@@ -60,13 +70,17 @@ pub place_few : (es : List Occurrence) (q : Name) (i k : ℕ) → PlaceOf es q i
 place_few [] q i k p = absurd (let l = slice_get_within [] i _ p.1 in omega arith)
 place_few (x ∷ es) q zero k p =
     let e : x ≡ record { who = q; what = p.0 } = same_Some x _ p.1 in
-    let t : same_name x.who q && is_counted x.what ≡ true = ap (λ (y : Occurrence). same_name y.who q && is_counted y.what) e ∙ and_from (same_name q q) (is_counted p.0) (name_itself q) p.2 in
+    let t : same_name x.who q && is_counted x.what ≡ true =
+    ap (λ (y : Occurrence). same_name y.who q && is_counted y.what) e
+    ∙ and_from (same_name q q) (is_counted p.0) (name_itself q) p.2 in
     let m : made (x ∷ es) q ≡ suc (made es q) = ap (λ b. cond b (suc (made es q)) (made es q)) t in
     let z = p.3 in
     omega arith
-place_few (x ∷ es) q (suc i) k p = by (place_few es q i (made (take i es) q) (p.0, p.1, p.2, refl)) (same_name x.who q && is_counted x.what) p.3
+place_few (x ∷ es) q (suc i) k p = by (place_few es q i (made (take i es) q) (p.0, p.1, p.2, refl))
+    (same_name x.who q && is_counted x.what) p.3
   where
-    by : made (take i es) q < made es q → (b : Bool) → k ≡ cond b (suc (made (take i es) q)) (made (take i es) q) → k < cond b (suc (made es q)) (made es q)
+    by : made (take i es) q < made es q → (b : Bool) → k ≡ cond b (suc (made (take i es) q)) (made (take i es) q)
+        → k < cond b (suc (made es q)) (made es q)
     by l true e = omega arith
     by l false e = omega arith
 
@@ -78,15 +92,27 @@ module _ (es : List Occurrence) (e : Occurrence) where
   place_inside q i k p = let l = slice_get_within more i _ p.1 in let a = length-append es (e ∷ []) in omega arith
 
   pub place_low : (q : Name) (i k : ℕ) → i < length es → PlaceOf more q i k → PlaceOf es q i k
-  place_low q i k l p = (p.0, sym (get_low es e i l) ∙ p.1, p.2, p.3 ∙ ap (λ xs. made xs q) (take_low es e i (omega arith)))
+  place_low q i k l p = (
+    p.0,
+    sym (get_low es e i l) ∙ p.1,
+    p.2,
+    p.3
+        ∙ ap (λ xs. made xs q) (take_low es e i (omega arith)),
+  )
 
   pub place_more : (q : Name) (i k : ℕ) → PlaceOf es q i k → PlaceOf more q i k
-  place_more q i k p = let l = slice_get_within es i _ p.1 in (p.0, get_low es e i l ∙ p.1, p.2, p.3 ∙ ap (λ xs. made xs q) (sym (take_low es e i (omega arith))))
+  place_more q i k p = let l = slice_get_within es i _ p.1 in
+      (p.0, get_low es e i l ∙ p.1, p.2, p.3 ∙ ap (λ xs. made xs q) (sym (take_low es e i (omega arith))))
 
-  pub place_last : (q : Name) (k : ℕ) → PlaceOf more q (length es) k → (e.who ≡ q) × (is_counted e.what ≡ true) × (k ≡ made es q)
+  pub place_last : (q : Name) (k : ℕ) → PlaceOf more q (length es) k → (e.who ≡ q) × (is_counted e.what ≡ true)
+      × (k ≡ made es q)
   place_last q k p =
-      let f : e ≡ record { who = q; what = p.0 } = same_Some e _ (sym (get_last es e) ∙ p.1) in
-      (ap (λ (x : Occurrence). x.who) f, ap (λ (x : Occurrence). is_counted x.what) f ∙ p.2, p.3 ∙ ap (λ xs. made xs q) (take_low es e (length es) (omega arith) ∙ take_all es))
+      let f : e ≡ record { who = q; what = p.0 } = same_Some e _ (sym (get_last es e) ∙ p.1) in (
+        ap (λ (x : Occurrence). x.who) f,
+        ap (λ (x : Occurrence). is_counted x.what) f ∙ p.2,
+        p.3
+            ∙ ap (λ xs. made xs q) (take_low es e (length es) (omega arith) ∙ take_all es),
+      )
 
   -- what says it before says it after, where the new index is not known
   says_more : (f : ℕ → Bool) (g : Name → ℕ) → ((i : ℕ) → f i ≡ true → i < length es) → Says es f g → Says more f g
@@ -117,37 +143,51 @@ absorb_right false false h = refl
 
 or_max : (k a b : ℕ) → nat_lt k a || nat_lt k b ≡ nat_lt k (max a b)
 or_max k a b = ⊎_elim
-    (λ (l : a < b). absorb_left (nat_lt k a) (nat_lt k b) (λ h. lt-ltb k b (let x = ltb-true k a h in omega arith)) ∙ ap (nat_lt k) (sym (max_comm a b ∙ max-eq_left (omega arith))))
-    (λ (l : b ≤ a). absorb_right (nat_lt k a) (nat_lt k b) (λ h. lt-ltb k a (let x = ltb-true k b h in omega arith)) ∙ ap (nat_lt k) (sym (max-eq_left l)))
+    (λ (l : a < b). absorb_left (nat_lt k a) (nat_lt k b) (λ h. lt-ltb k b (let x = ltb-true k a h in omega arith))
+    ∙ ap (nat_lt k) (sym (max_comm a b ∙ max-eq_left (omega arith))))
+    (λ (l : b ≤ a). absorb_right (nat_lt k a) (nat_lt k b) (λ h. lt-ltb k a (let x = ltb-true k b h in omega arith))
+    ∙ ap (nat_lt k) (sym (max-eq_left l)))
     (cases_lt a b)
 
-pub says_both : (es : List Occurrence) (f g : ℕ → Bool) (a b : Name → ℕ) → Says es f a → Says es g b → Says es (λ i. f i || g i) (λ q. max (a q) (b q))
+pub says_both : (es : List Occurrence) (f g : ℕ → Bool) (a b : Name → ℕ) → Says es f a → Says es g b
+    → Says es (λ i. f i || g i) (λ q. max (a q) (b q))
 says_both es f g a b s t = record {
   says = λ q i k p. (λ j. s.says q i k p j || t.says q i k p j) ∙ or_max k (a q) (b q);
   bound = λ q. max-le (s.bound q) (t.bound q);
 }
 
 -- what holds of each clock before, and of what is merged in, holds of each clock after
-module _ (P : (ℕ → Bool) → (Name → ℕ) → Type 0) (union : (f g : ℕ → Bool) (a b : Name → ℕ) → P f a → P g b → P (λ i. f i || g i) (λ q. max (a q) (b q))) (known : ℕ → Bool) (clock : Name → ℕ) (holds : P known clock) where
-  gains_all : (p : Name) (past : Name → ℕ → Bool) (count : Name → Name → ℕ) → ((q : Name) → P (past q) (count q)) → (q : Name) → P (learn p known past q) (gains p clock count q)
+module _ (P : (ℕ → Bool) → (Name → ℕ) → Type 0)
+    (union : (f g : ℕ → Bool) (a b : Name → ℕ) → P f a → P g b → P (λ i. f i || g i) (λ q. max (a q) (b q)))
+    (known : ℕ → Bool) (clock : Name → ℕ) (holds : P known clock) where
+  gains_all : (p : Name) (past : Name → ℕ → Bool) (count : Name → Name → ℕ) → ((q : Name) → P (past q) (count q))
+      → (q : Name) → P (learn p known past q) (gains p clock count q)
   gains_all p past count b q = by (same_name p q)
     where
-      by : (t : Bool) → P (λ i. cond t (past q i || known i) (past q i)) (λ r. cond t (max (count q r) (clock r)) (count q r))
+      by : (t : Bool) → P (λ i. cond t (past q i || known i) (past q i))
+          (λ r. cond t (max (count q r) (clock r)) (count q r))
       by true = union (past q) known (count q) clock (b q) holds
       by false = b q
 
-  shares_all : (p : Name) (fork i n : ℕ) (past : Name → ℕ → Bool) (count : Name → Name → ℕ) → ((q : Name) → P (past q) (count q)) → (q : Name) → P (teach p fork known i n past q) (shares p fork clock i n count q)
+  shares_all : (p : Name) (fork i n : ℕ) (past : Name → ℕ → Bool) (count : Name → Name → ℕ)
+      → ((q : Name) → P (past q) (count q)) → (q : Name)
+      → P (teach p fork known i n past q) (shares p fork clock i n count q)
   shares_all p fork i zero past count b = b
-  shares_all p fork i (suc n) past count b = shares_all p fork (suc i) n (learn ((fork, i) ∷ p) known past) (gains ((fork, i) ∷ p) clock count) (gains_all ((fork, i) ∷ p) past count b)
+  shares_all p fork i (suc n) past count b =
+      shares_all p fork (suc i) n (learn ((fork, i) ∷ p) known past) (gains ((fork, i) ∷ p) clock count)
+      (gains_all ((fork, i) ∷ p) past count b)
 
-  gives_back_all : (p : Name) (past : Name → ℕ → Bool) (count : Name → Name → ℕ) → ((q : Name) → P (past q) (count q)) → (q : Name) → P (report p known past q) (gives_back p clock count q)
+  gives_back_all : (p : Name) (past : Name → ℕ → Bool) (count : Name → Name → ℕ) → ((q : Name) → P (past q) (count q))
+      → (q : Name) → P (report p known past q) (gives_back p clock count q)
   gives_back_all [] past count b = b
   gives_back_all (x ∷ p) past count b = gains_all p past count b
 
 pair_second : (x y : Name × ℕ) → ◌≡◌ {A = Option (Name × ℕ)} (Some x) (Some y) → x.1 ≡ y.1
 pair_second x y e = ap (λ (z : Name × ℕ). z.1) (same_Some x y e)
 
-module _ (j : Judged) (es : List Occurrence) (count : Name → Name → ℕ) (kept : Kept j es) (below : (q : Name) (i : ℕ) → j.past q i ≡ true → i < length es) (says : (q : Name) → Says es (j.past q) (count q)) where
+module _ (j : Judged) (es : List Occurrence) (count : Name → Name → ℕ) (kept : Kept j es)
+    (below : (q : Name) (i : ℕ) → j.past q i ≡ true → i < length es)
+    (says : (q : Name) → Says es (j.past q) (count q)) where
   abbrev n : ℕ
   n = length es
 
@@ -192,9 +232,11 @@ module _ (j : Judged) (es : List Occurrence) (count : Name → Name → ℕ) (ke
             here : x ≡ i → now j z x i ≡ nat_lt k (theirs count es z x q)
             here e =
                 let s = same_place q k (subst (λ y. PlaceOf es q y k) (sym e) p) in
-                let g : theirs count es z x q ≡ max (count z q) (suc place) = ap (λ b. cond b (max (count z q) (suc place)) (count z q)) (same_here z q s.0) in
+                let g : theirs count es z x q ≡ max (count z q) (suc place) =
+                ap (λ b. cond b (max (count z q) (suc place)) (count z q)) (same_here z q s.0) in
                 or_right (j.past z i) (x == i) (eq-eqb x i e)
-                ∙ sym (ap (nat_lt k) g ∙ lt-ltb k (max (count z q) (suc place)) (let m = le-max_right (count z q) (suc place) in let y = s.1 in omega arith))
+                ∙ sym (ap (nat_lt k) g ∙ lt-ltb k (max (count z q) (suc place))
+                (let m = le-max_right (count z q) (suc place) in let y = s.1 in omega arith))
 
             there : x == i ≡ false → now j z x i ≡ nat_lt k (theirs count es z x q)
             there d = ap (λ b. j.past z i || b) d ∙ or_with_false (j.past z i) ∙ ⊎_elim own other (name_or_not z q)
@@ -203,19 +245,25 @@ module _ (j : Judged) (es : List Occurrence) (count : Name → Name → ℕ) (ke
                 own e =
                     let h : j.past z i ≡ true = knows_others i k d (subst (λ r. PlaceOf es r i k) (sym e) p) in
                     let l : k < count z q = ltb-true k (count z q) (sym ((says z).says q i k p) ∙ h) in
-                    let g : theirs count es z x q ≡ max (count z q) (suc place) = ap (λ b. cond b (max (count z q) (suc place)) (count z q)) (same_here z q e) in
-                    h ∙ sym (ap (nat_lt k) g ∙ lt-ltb k (max (count z q) (suc place)) (let m = le-max_left (count z q) (suc place) in omega arith))
+                    let g : theirs count es z x q ≡ max (count z q) (suc place) =
+                    ap (λ b. cond b (max (count z q) (suc place)) (count z q)) (same_here z q e) in
+                    h ∙ sym (ap (nat_lt k) g
+                    ∙ lt-ltb k (max (count z q) (suc place))
+                    (let m = le-max_left (count z q) (suc place) in omega arith))
 
                 other : same_name z q ≡ false → j.past z i ≡ nat_lt k (theirs count es z x q)
-                other e = (says z).says q i k p ∙ ap (nat_lt k) (sym (ap (λ b. cond b (max (count z q) (suc place)) (count z q)) e))
+                other e = (says z).says q i k p
+                    ∙ ap (nat_lt k) (sym (ap (λ b. cond b (max (count z q) (suc place)) (count z q)) e))
 
         within : (q : Name) → theirs count es z x q ≤ made es q
         within q = ⊎_elim
             (λ (e : z ≡ q).
             let l = place_few es z x place its_place in
             let m : place < made es q = subst (λ r. place < made es r) e l in
-            subst (λ y. y ≤ made es q) (sym (ap (λ b. cond b (max (count z q) (suc place)) (count z q)) (same_here z q e))) (max-le ((says z).bound q) m))
-            (λ (e : same_name z q ≡ false). subst (λ y. y ≤ made es q) (sym (ap (λ b. cond b (max (count z q) (suc place)) (count z q)) e)) ((says z).bound q))
+            subst (λ y. y ≤ made es q) (sym (ap (λ b. cond b (max (count z q) (suc place)) (count z q))
+            (same_here z q e))) (max-le ((says z).bound q) m))
+            (λ (e : same_name z q ≡ false). subst (λ y. y ≤ made es q)
+            (sym (ap (λ b. cond b (max (count z q) (suc place)) (count z q)) e)) ((says z).bound q))
             (name_or_not z q)
 
   module _ (p : Name) (h : Happening) where
@@ -237,7 +285,8 @@ module _ (j : Judged) (es : List Occurrence) (count : Name → Name → ℕ) (ke
           (kept.own p i (counts_of p i k o))
 
       mine_is : (q : Name) → p ≡ q → mine count es p q ≡ max (count p q) (suc (made es q))
-      mine_is q e = ap (λ b. cond b (max (count p q) (suc (made es p))) (count p q)) (same_here p q e) ∙ ap (λ r. max (count p q) (suc (made es r))) e
+      mine_is q e = ap (λ b. cond b (max (count p q) (suc (made es p))) (count p q)) (same_here p q e)
+          ∙ ap (λ r. max (count p q) (suc (made es r))) e
 
       mine_other : (q : Name) → same_name p q ≡ false → mine count es p q ≡ count p q
       mine_other q e = ap (λ b. cond b (max (count p q) (suc (made es p))) (count p q)) e
@@ -261,7 +310,9 @@ module _ (j : Judged) (es : List Occurrence) (count : Name → Name → ℕ) (ke
                   own e =
                       let f = place_few es q i k old in
                       knows_own i k (subst (λ r. PlaceOf es r i k) (sym e) old)
-                      ∙ sym (ap (nat_lt k) (mine_is q e) ∙ lt-ltb k (max (count p q) (suc (made es q))) (let m = le-max_right (count p q) (suc (made es q)) in omega arith))
+                      ∙ sym (ap (nat_lt k) (mine_is q e)
+                      ∙ lt-ltb k (max (count p q) (suc (made es q)))
+                      (let m = le-max_right (count p q) (suc (made es q)) in omega arith))
 
                   other : same_name p q ≡ false → j.past p i ≡ nat_lt k (mine count es p q)
                   other e = (says p).says q i k old ∙ ap (nat_lt k) (sym (mine_other q e))
@@ -270,12 +321,16 @@ module _ (j : Judged) (es : List Occurrence) (count : Name → Name → ℕ) (ke
               last e =
                   let x = place_last es entry q k (subst (λ y. PlaceOf longer q y k) e o) in
                   or_right (j.past p i) (n == i) (eq-eqb n i (sym e))
-                  ∙ sym (ap (nat_lt k) (mine_is q x.0) ∙ lt-ltb k (max (count p q) (suc (made es q))) (let m = le-max_right (count p q) (suc (made es q)) in let y = x.2 in omega arith))
+                  ∙ sym (ap (nat_lt k) (mine_is q x.0)
+                  ∙ lt-ltb k (max (count p q) (suc (made es q)))
+                  (let m = le-max_right (count p q) (suc (made es q)) in let y = x.2 in omega arith))
 
           within : (q : Name) → mine count es p q ≤ made longer q
           within q = ⊎_elim
               (λ (e : p ≡ q).
-              let m : made longer q ≡ suc (made es q) = made_last es entry q ∙ ap (λ b. cond b (suc (made es q)) (made es q)) (and_from (same_name p q) (is_counted h) (same_here p q e) counted) in
+              let m : made longer q ≡ suc (made es q) = made_last es entry q
+              ∙ ap (λ b. cond b (suc (made es q)) (made es q))
+              (and_from (same_name p q) (is_counted h) (same_here p q e) counted) in
               let b = (says p).bound q in
               subst (λ y. y ≤ made longer q) (sym (mine_is q e)) (max-le (omega arith) (omega arith)))
               (λ (e : same_name p q ≡ false). subst (λ y. y ≤ made longer q) (sym (mine_other q e)) ((still p).bound q))
@@ -285,13 +340,19 @@ module _ (j : Judged) (es : List Occurrence) (count : Name → Name → ℕ) (ke
       own_says : (q : Name) → Says longer (learn p (λ i. n == i) j.past q) (becomes p (mine count es p) count q)
       own_says q = by (same_name p q) (name_is p q)
         where
-          by : (t : Bool) → (t ≡ true → p ≡ q) → Says longer (λ i. cond t (j.past q i || (n == i)) (j.past q i)) (λ r. cond t (mine count es p r) (count q r))
-          by true f = subst (λ (x : Name). Says longer (λ i. j.past x i || (n == i)) (mine count es p)) (f refl) mine_says
+          by : (t : Bool) → (t ≡ true → p ≡ q)
+              → Says longer (λ i. cond t (j.past q i || (n == i)) (j.past q i))
+              (λ r. cond t (mine count es p r) (count q r))
+          by true f = subst (λ (x : Name). Says longer (λ i. j.past x i || (n == i)) (mine count es p)) (f refl)
+              mine_says
           by false f = still q
 
-      met_says : (c : Channel) (o : Option (Name × ℕ)) → j.pending c ≡ o → (q : Name) → Says longer ((met_now j p n c o).past q) (met_counts count es p o q)
+      met_says : (c : Channel) (o : Option (Name × ℕ)) → j.pending c ≡ o → (q : Name)
+          → Says longer ((met_now j p n c o).past q) (met_counts count es p o q)
       met_says c None e = still
-      met_says c (Some o) e = gains_all (Says longer) (says_both longer) known clocks known_says o.0 (learn p known j.past) (gains p clocks count) (gains_all (Says longer) (says_both longer) known clocks known_says p j.past count still)
+      met_says c (Some o) e = gains_all (Says longer) (says_both longer) known clocks known_says o.0
+          (learn p known j.past) (gains p clocks count)
+          (gains_all (Says longer) (says_both longer) known clocks known_says p j.past count still)
         where
           known : ℕ → Bool
           known i = now j p n i || now j o.0 o.1 i
@@ -300,22 +361,35 @@ module _ (j : Judged) (es : List Occurrence) (count : Name → Name → ℕ) (ke
           clocks = both (mine count es p) (theirs count es o.0 o.1)
 
           its_below : (i : ℕ) → now j o.0 o.1 i ≡ true → i < n
-          its_below i t = ⊎_elim (λ (x : j.past o.0 i ≡ true). below o.0 i x) (λ (x : o.1 == i ≡ true). let y = eqb-true o.1 i x in let l = its_index c o.0 o.1 e in omega arith) (or_cases (j.past o.0 i) (o.1 == i) t)
+          its_below i t = ⊎_elim (λ (x : j.past o.0 i ≡ true). below o.0 i x)
+              (λ (x : o.1 == i ≡ true). let y = eqb-true o.1 i x in let l = its_index c o.0 o.1 e in omega arith)
+              (or_cases (j.past o.0 i) (o.1 == i) t)
 
           known_says : Says longer known clocks
-          known_says = says_both longer (now j p n) (now j o.0 o.1) (mine count es p) (theirs count es o.0 o.1) mine_says (says_more es entry (now j o.0 o.1) (theirs count es o.0 o.1) its_below (theirs_say c o.0 o.1 e))
+          known_says = says_both longer (now j p n) (now j o.0 o.1) (mine count es p) (theirs count es o.0 o.1)
+              mine_says (says_more es entry (now j o.0 o.1) (theirs count es o.0 o.1) its_below
+              (theirs_say c o.0 o.1 e))
 
 -- the clocks say what each process knows after one more entry
-pub one_more : (j : Judged) (es : List Occurrence) (count : Name → Name → ℕ) → Kept j es → ((q : Name) (i : ℕ) → j.past q i ≡ true → i < length es) → ((q : Name) → Says es (j.past q) (count q))
-    → (p : Name) (h : Happening) → WaitsForNone j p → (q : Name) → Says (es ++ record { who = p; what = h } ∷ []) ((judged_by j (length es) p h).past q) (counted_by count j es p h q)
+pub one_more : (j : Judged) (es : List Occurrence) (count : Name → Name → ℕ) → Kept j es
+    → ((q : Name) (i : ℕ) → j.past q i ≡ true → i < length es) → ((q : Name) → Says es (j.past q) (count q))
+    → (p : Name) (h : Happening) → WaitsForNone j p → (q : Name)
+    → Says (es ++ record { who = p; what = h } ∷ []) ((judged_by j (length es) p h).past q)
+    (counted_by count j es p h q)
 one_more j es count kept below says p Opened w = own_says j es count kept below says p Opened refl w
 one_more j es count kept below says p (Forked k) w =
     let m : List Occurrence = es ++ record { who = p; what = Forked k } ∷ [] in
-    shares_all (Says m) (says_both m) (now j p (length es)) (mine count es p) (mine_says j es count kept below says p (Forked k) refl w) p (j.forks p) 0 k (learn p (λ i. length es == i) j.past) (becomes p (mine count es p) count) (own_says j es count kept below says p (Forked k) refl w)
+    shares_all (Says m) (says_both m) (now j p (length es)) (mine count es p)
+    (mine_says j es count kept below says p (Forked k) refl w) p (j.forks p) 0 k
+    (learn p (λ i. length es == i) j.past) (becomes p (mine count es p) count)
+    (own_says j es count kept below says p (Forked k) refl w)
 one_more j es count kept below says p Ended w =
     let m : List Occurrence = es ++ record { who = p; what = Ended } ∷ [] in
-    gives_back_all (Says m) (says_both m) (now j p (length es)) (mine count es p) (mine_says j es count kept below says p Ended refl w) p (learn p (λ i. length es == i) j.past) (becomes p (mine count es p) count) (own_says j es count kept below says p Ended refl w)
-one_more j es count kept below says p (Offered v c) w = met_says j es count kept below says p (Offered v c) refl w c (j.pending c) refl
+    gives_back_all (Says m) (says_both m) (now j p (length es)) (mine count es p)
+    (mine_says j es count kept below says p Ended refl w) p (learn p (λ i. length es == i) j.past)
+    (becomes p (mine count es p) count) (own_says j es count kept below says p Ended refl w)
+one_more j es count kept below says p (Offered v c) w =
+    met_says j es count kept below says p (Offered v c) refl w c (j.pending c) refl
 one_more j es count kept below says p (Faulted f) w = still j es count kept below says p (Faulted f)
 one_more j es count kept below says p Laid w = still j es count kept below says p Laid
 one_more j es count kept below says p Paused w = still j es count kept below says p Paused

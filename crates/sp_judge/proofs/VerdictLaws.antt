@@ -1,5 +1,7 @@
 -- From the tables to the verdict.
-use Rattle.std.proofs.Common.{◌≡◌, ◌⊎◌, inl, inr, ⊎_elim, ℕ, zero, suc, ◌<◌, ◌≤◌, ◌↔◌, Bool, true, false, nat_lt, List, [], ◌∷◌, ◌++◌, take, length, append_assoc, append-nil, Option, Some, None, slice_get, refl, sym, ap, ◌∙◌, subst, arith}
+use Rattle.std.proofs.Common.{◌≡◌, ◌⊎◌, inl, inr, ⊎_elim, ℕ, zero, suc, ◌<◌, ◌≤◌, ◌↔◌, Bool, true, false, nat_lt, List}
+use Rattle.std.proofs.Common.{[], ◌∷◌, ◌++◌, take, length, append_assoc, append-nil, Option, Some, None, slice_get}
+use Rattle.std.proofs.Common.{refl, sym, ap, ◌∙◌, subst, arith}
 use Rattle.std.proofs.lemmas.Bool.Decides.{nat_tests}
 use Rattle.std.proofs.lemmas.Bool.{cases_lt, false≢true, lt-ltb, ltb-true}
 use Rattle.std.proofs.lemmas.Option.{same_Some}
@@ -8,8 +10,10 @@ use Rattle.sp_journal.specs.declared.entry.Event.{Event}
 use Rattle.sp_journal.specs.declared.entry.Event.TheVariants as event
 use Rattle.sp_journal.specs.declared.entry.Way.{Way}
 use Rattle.sp_journal.specs.declared.entry.Way.TheVariants as way
-use Rattle.sp_journal.specs.Names.{Name, Channel, Happening, Opened, Forked, Offered, Ended, Faulted, Laid, Paused, Occurrence}
-use Rattle.sp_journal.specs.Births.{Births, at_start, births, channel, GivesNumbers, NameableFrom, happening, occurrence}
+use Rattle.sp_journal.specs.Names.{Name, Channel, Happening, Opened, Forked, Offered, Ended, Faulted, Laid, Paused}
+use Rattle.sp_journal.specs.Names.{Occurrence}
+use Rattle.sp_journal.specs.Births.{Births, at_start, births, channel, GivesNumbers, NameableFrom, happening}
+use Rattle.sp_journal.specs.Births.{occurrence}
 use Rattle.sp_journal.specs.Past.{Judged, judged, judged_by, judged_from, nothing_judged}
 use Rattle.sp_journal.proofs.BirthLaws.{Lawful}
 use Rattle.sp_past.specs.Prefixes.{IsQuiet}
@@ -27,38 +31,53 @@ use Rattle.sp_judge.proofs.Numbers.{one_channel}
 use Rattle.sp_judge.proofs.Fronts.{get_within, named_get, named_length}
 use Rattle.sp_judge.proofs.Fronts as front
 
-chains_along : (j : Judged) (done es : List Occurrence) → Chains j done → Paired j (length done) → KnownFrom j done es → Chains (judged_from j (length done) es) (done ++ es)
+chains_along : (j : Judged) (done es : List Occurrence) → Chains j done → Paired j (length done) → KnownFrom j done es
+    → Chains (judged_from j (length done) es) (done ++ es)
 chains_along j done [] c p k = subst (Chains j) (sym (append-nil done)) c
 chains_along j done (e ∷ es) c p k =
     let j' : Judged = judged_by j (length done) e.who e.what in
     let l : suc (length done) ≡ length (done ++ e ∷ []) = size_more done e in
-    let r : Chains (judged_from j' (length (done ++ e ∷ [])) es) ((done ++ e ∷ []) ++ es) = chains_along j' (done ++ e ∷ []) es (chains_more j done c p e.who e.what k.0) (subst (Paired j') l (judged_paired j (length done) p e.who e.what)) k.1 in
-    subst (λ x. Chains (judged_from j' x es) (done ++ e ∷ es)) (sym l) (subst (Chains (judged_from j' (length (done ++ e ∷ [])) es)) (append_assoc done (e ∷ []) es) r)
+    let r : Chains (judged_from j' (length (done ++ e ∷ [])) es) ((done ++ e ∷ []) ++ es) =
+    chains_along j' (done ++ e ∷ []) es (chains_more j done c p e.who e.what k.0)
+    (subst (Paired j') l (judged_paired j (length done) p e.who e.what)) k.1 in
+    subst (λ x. Chains (judged_from j' x es) (done ++ e ∷ es)) (sym l)
+    (subst (Chains (judged_from j' (length (done ++ e ∷ [])) es)) (append_assoc done (e ∷ []) es) r)
 
 chains_of : (es : List Occurrence) → AreKnown es → Chains (judged es) es
 chains_of es k = chains_along nothing_judged [] es nothing_chained nothing_paired k
 
 -- one more entry is in order
-known_more_from : (j : Judged) (done es : List Occurrence) (e : Occurrence) → KnownFrom j done es → KnowsOffers (judged_from j (length done) es) (done ++ es) e.who e.what → KnownFrom j done (es ++ e ∷ [])
+known_more_from : (j : Judged) (done es : List Occurrence) (e : Occurrence) → KnownFrom j done es
+    → KnowsOffers (judged_from j (length done) es) (done ++ es) e.who e.what → KnownFrom j done (es ++ e ∷ [])
 known_more_from j done [] e k h = (subst (λ xs. KnowsOffers j xs e.who e.what) (append-nil done) h, tt)
 known_more_from j done (x ∷ es) e k h =
     let j' : Judged = judged_by j (length done) x.who x.what in
-    let l : suc (length done) ≡ length (done ++ x ∷ []) = size_more done x in
-    (k.0, known_more_from j' (done ++ x ∷ []) es e k.1 (subst (λ y. KnowsOffers (judged_from j' y es) ((done ++ x ∷ []) ++ es) e.who e.what) l (subst (λ xs. KnowsOffers (judged_from j' (suc (length done)) es) xs e.who e.what) (sym (append_assoc done (x ∷ []) es)) h)))
+    let l : suc (length done) ≡ length (done ++ x ∷ []) = size_more done x in (
+      k.0,
+      known_more_from j' (done ++ x ∷ []) es e k.1
+          (subst (λ y. KnowsOffers (judged_from j' y es) ((done ++ x ∷ []) ++ es) e.who e.what) l
+          (subst (λ xs. KnowsOffers (judged_from j' (suc (length done)) es) xs e.who e.what)
+          (sym (append_assoc done (x ∷ []) es)) h)),
+    )
 
-pub known_more : (es : List Occurrence) (e : Occurrence) → AreKnown es → KnowsOffers (judged es) es e.who e.what → AreKnown (es ++ e ∷ [])
+pub known_more : (es : List Occurrence) (e : Occurrence) → AreKnown es → KnowsOffers (judged es) es e.who e.what
+    → AreKnown (es ++ e ∷ [])
 known_more es e k h = known_more_from nothing_judged [] es e k h
 
 -- where all are in order, so is this one
-known_at_from : (j : Judged) (done es : List Occurrence) (e : Occurrence) (rest : List Occurrence) → KnownFrom j done (es ++ e ∷ rest) → KnowsOffers (judged_from j (length done) es) (done ++ es) e.who e.what
+known_at_from : (j : Judged) (done es : List Occurrence) (e : Occurrence) (rest : List Occurrence)
+    → KnownFrom j done (es ++ e ∷ rest) → KnowsOffers (judged_from j (length done) es) (done ++ es) e.who e.what
 known_at_from j done [] e rest k = subst (λ xs. KnowsOffers j xs e.who e.what) (sym (append-nil done)) k.0
 known_at_from j done (x ∷ es) e rest k =
     let j' : Judged = judged_by j (length done) x.who x.what in
     let l : suc (length done) ≡ length (done ++ x ∷ []) = size_more done x in
     let r = known_at_from j' (done ++ x ∷ []) es e rest k.1 in
-    subst (λ y. KnowsOffers (judged_from j' y es) (done ++ x ∷ es) e.who e.what) (sym l) (subst (λ xs. KnowsOffers (judged_from j' (length (done ++ x ∷ [])) es) xs e.who e.what) (append_assoc done (x ∷ []) es) r)
+    subst (λ y. KnowsOffers (judged_from j' y es) (done ++ x ∷ es) e.who e.what) (sym l)
+    (subst (λ xs. KnowsOffers (judged_from j' (length (done ++ x ∷ [])) es) xs e.who e.what)
+    (append_assoc done (x ∷ []) es) r)
 
-parts_at : (es : List Occurrence) (i : ℕ) (e : Occurrence) → slice_get es i ≡ Some e → (rest : List Occurrence) × (es ≡ take i es ++ e ∷ rest)
+parts_at : (es : List Occurrence) (i : ℕ) (e : Occurrence) → slice_get es i ≡ Some e → (rest : List Occurrence)
+    × (es ≡ take i es ++ e ∷ rest)
 parts_at [] i e h = none_here e h
   where
     none_here : {A : Type 0} (a : Occurrence) → ◌≡◌ {A = Option Occurrence} None (Some a) → A
@@ -66,11 +85,14 @@ parts_at [] i e h = none_here e h
 parts_at (x ∷ xs) zero e h = (xs, ap (λ y. y ∷ xs) (same_Some x e h))
 parts_at (x ∷ xs) (suc i) e h = let r = parts_at xs i e h in (r.0, ap (λ ys. x ∷ ys) r.1)
 
-pub known_at : (es : List Occurrence) (i : ℕ) (e : Occurrence) → slice_get es i ≡ Some e → AreKnown es → KnowsOffers (judged (take i es)) (take i es) e.who e.what
-known_at es i e h k = let r = parts_at es i e h in known_at_from nothing_judged [] (take i es) e r.0 (subst AreKnown r.1 k)
+pub known_at : (es : List Occurrence) (i : ℕ) (e : Occurrence) → slice_get es i ≡ Some e → AreKnown es
+    → KnowsOffers (judged (take i es)) (take i es) e.who e.what
+known_at es i e h k = let r = parts_at es i e h in
+    known_at_from nothing_judged [] (take i es) e r.0 (subst AreKnown r.1 k)
 
 -- an offer among the names is one among the numbers
-pub named_some : (s : Births) (es : List Entry) (i : ℕ) (o : Occurrence) → slice_get (named s es) i ≡ Some o → (e : Entry) × (slice_get es i ≡ Some e) × (occurrence s e ≡ o)
+pub named_some : (s : Births) (es : List Entry) (i : ℕ) (o : Occurrence) → slice_get (named s es) i ≡ Some o
+    → (e : Entry) × (slice_get es i ≡ Some e) × (occurrence s e ≡ o)
 named_some s [] i o h = none_here o h
   where
     none_here : {A : Type 0} (a : Occurrence) → ◌≡◌ {A = Option Occurrence} None (Some a) → A
@@ -93,9 +115,12 @@ IsOffer (Faulted f) = ⊥
 IsOffer Laid = ⊥
 IsOffer Paused = ⊥
 
-pub event_is : (s : Births) (v : Event) (w : Way) (d : Channel) → happening s v ≡ Offered w d → (c : ℕ) × (v ≡ offer_event w c) × (channel s c ≡ d)
-event_is s (event.Send c) w d h = let a : way.Send ≡ w = ap (way_of w) h in (c, ap (λ x. offer_event x c) a, ap (channel_of d) h)
-event_is s (event.Receive c) w d h = let a : way.Receive ≡ w = ap (way_of w) h in (c, ap (λ x. offer_event x c) a, ap (channel_of d) h)
+pub event_is : (s : Births) (v : Event) (w : Way) (d : Channel) → happening s v ≡ Offered w d → (c : ℕ)
+    × (v ≡ offer_event w c) × (channel s c ≡ d)
+event_is s (event.Send c) w d h = let a : way.Send ≡ w = ap (way_of w) h in
+    (c, ap (λ x. offer_event x c) a, ap (channel_of d) h)
+event_is s (event.Receive c) w d h = let a : way.Receive ≡ w = ap (way_of w) h in
+    (c, ap (λ x. offer_event x c) a, ap (channel_of d) h)
 event_is s (event.Fork n) w d h = absurd (subst IsOffer (sym h) tt)
 event_is s event.Open w d h = absurd (subst IsOffer (sym h) tt)
 event_is s event.End w d h = absurd (subst IsOffer (sym h) tt)
@@ -111,15 +136,18 @@ offer_given : (s : Births) (p : ℕ) (w : Way) (c : ℕ) → GivesNumbers s p (o
 offer_given s p way.Send c g = g
 offer_given s p way.Receive c g = g
 
-module _ (all : List Entry) (nameable : NameableFrom at_start all) (quiet : IsQuiet (named (births all) all)) (lawful : Lawful (births all)) where
+module _ (all : List Entry) (nameable : NameableFrom at_start all) (quiet : IsQuiet (named (births all) all))
+    (lawful : Lawful (births all)) where
   abbrev s : Births
   s = births all
 
   -- the channel of an offer is there
-  pub channel_there : (at : ℕ) (e : Entry) (w : Way) (c : ℕ) → slice_get all at ≡ Some e → e.event ≡ offer_event w c → c < s.channels
+  pub channel_there : (at : ℕ) (e : Entry) (w : Way) (c : ℕ) → slice_get all at ≡ Some e → e.event ≡ offer_event w c
+      → c < s.channels
   channel_there at e w c inside is =
       let f = front.follows all nameable quiet lawful at e inside in
-      let a = offer_given (births (take at all)) e.process w c (subst (GivesNumbers (births (take at all)) e.process) is f.1) in
+      let a = offer_given (births (take at all)) e.process w c
+      (subst (GivesNumbers (births (take at all)) e.process) is f.1) in
       let b = (front.stays_on all nameable quiet lawful at e inside).channels in
       omega arith
 
@@ -135,7 +163,8 @@ module _ (all : List Entry) (nameable : NameableFrom at_start all) (quiet : IsQu
     front_is = sym (named_take s all at)
 
     -- to know an offer and to know its completion is the same
-    knows_completion : (p : Name) (i : ℕ) (z : Name) (w : Way) (d : Channel) → OfferIn os i z w d → (judged os).past p i ≡ true → KnowsCompletion (judged os) p i
+    knows_completion : (p : Name) (i : ℕ) (z : Name) (w : Way) (d : Channel) → OfferIn os i z w d
+        → (judged os).past p i ≡ true → KnowsCompletion (judged os) p i
     knows_completion p i z w d o k = stands.rounded.complete p i z w d o k
 
     knows_offer : (p : Name) (i : ℕ) → KnowsCompletion (judged os) p i → (judged os).past p i ≡ true
@@ -145,37 +174,57 @@ module _ (all : List Entry) (nameable : NameableFrom at_start all) (quiet : IsQu
     there = front.there all nameable quiet lawful at e inside
 
     -- the counts say which offers are known
-    pub counts_say : (p : Name) (q i k : ℕ) (w : Way) (d : Channel) → OfferIn os i (s.name q) w d → k ≡ made (take i os) (s.name q) → (judged os).past p i ≡ nat_lt k (counts os p (s.name q))
+    pub counts_say : (p : Name) (q i k : ℕ) (w : Way) (d : Channel) → OfferIn os i (s.name q) w d
+        → k ≡ made (take i os) (s.name q) → (judged os).past p i ≡ nat_lt k (counts os p (s.name q))
     counts_say p q i k w d o place = (stands.says p).says (s.name q) i k (Offered w d, o, refl, place)
 
     module _ (until : List ℕ) (b : Bench) (h : Holds s until (take at all) b) where
       -- the clocks say which offers are known
-      known_is : (q i k : ℕ) (w : Way) (d : Channel) → q < s.processes → IsAsked until at q → OfferIn os i (s.name q) w d → k ≡ made (take i os) (s.name q) → (judged os).past (s.name e.process) i ≡ nat_lt k (clock_at b.clocks.items e.process q)
-      known_is q i k w d l asked o place = counts_say (s.name e.process) q i k w d o place ∙ ap (nat_lt k) (sym (h.clocks e.process q there l (let n = front.at_length all nameable quiet lawful at e inside in omega arith)))
+      known_is : (q i k : ℕ) (w : Way) (d : Channel) → q < s.processes → IsAsked until at q
+          → OfferIn os i (s.name q) w d → k ≡ made (take i os) (s.name q)
+          → (judged os).past (s.name e.process) i ≡ nat_lt k (clock_at b.clocks.items e.process q)
+      known_is q i k w d l asked o place = counts_say (s.name e.process) q i k w d o place
+          ∙ ap (nat_lt k) (sym (h.clocks e.process q there l
+          (let n = front.at_length all nameable quiet lawful at e inside in omega arith)))
 
-      pub last_known : (w : Way) (d : Channel) (o : Offer) → IsAsked until at o.process → IsLast s os w d (Some o) → AreKnown os → (o.place < clock_at b.clocks.items e.process o.process) ↔ KnowsOffers (judged os) os (s.name e.process) (Offered w d)
+      pub last_known : (w : Way) (d : Channel) (o : Offer) → IsAsked until at o.process → IsLast s os w d (Some o)
+          → AreKnown os → (o.place < clock_at b.clocks.items e.process o.process)
+          ↔ KnowsOffers (judged os) os (s.name e.process) (Offered w d)
       last_known w d o asked l known = (
-        λ x. knows_by_last (judged os) os (chains_of os known) (s.name e.process) w d l.0 (s.name o.process) l.2 l.4 (known_is o.process l.0 o.place w d l.1 asked l.2 l.3 ∙ lt-ltb o.place (clock_at b.clocks.items e.process o.process) x),
-        λ x. ltb-true o.place (clock_at b.clocks.items e.process o.process) (sym (known_is o.process l.0 o.place w d l.1 asked l.2 l.3) ∙ x l.0 (s.name o.process) l.2),
+        λ x. knows_by_last (judged os) os (chains_of os known) (s.name e.process) w d l.0 (s.name o.process) l.2 l.4
+            (known_is o.process l.0 o.place w d l.1 asked l.2 l.3
+            ∙ lt-ltb o.place (clock_at b.clocks.items e.process o.process) x),
+        λ x. ltb-true o.place (clock_at b.clocks.items e.process o.process)
+            (sym (known_is o.process l.0 o.place w d l.1 asked l.2 l.3) ∙ x l.0 (s.name o.process) l.2),
       )
 
     -- the same by the counts
-    pub last_counted : (w : Way) (d : Channel) (o : Offer) → IsLast s os w d (Some o) → AreKnown os → (o.place < counts os (s.name e.process) (s.name o.process)) ↔ KnowsOffers (judged os) os (s.name e.process) (Offered w d)
+    pub last_counted : (w : Way) (d : Channel) (o : Offer) → IsLast s os w d (Some o) → AreKnown os
+        → (o.place < counts os (s.name e.process) (s.name o.process))
+        ↔ KnowsOffers (judged os) os (s.name e.process) (Offered w d)
     last_counted w d o l known = (
-      λ x. knows_by_last (judged os) os (chains_of os known) (s.name e.process) w d l.0 (s.name o.process) l.2 l.4 (counts_say (s.name e.process) o.process l.0 o.place w d l.2 l.3 ∙ lt-ltb o.place (counts os (s.name e.process) (s.name o.process)) x),
-      λ x. ltb-true o.place (counts os (s.name e.process) (s.name o.process)) (sym (counts_say (s.name e.process) o.process l.0 o.place w d l.2 l.3) ∙ x l.0 (s.name o.process) l.2),
+      λ x. knows_by_last (judged os) os (chains_of os known) (s.name e.process) w d l.0 (s.name o.process) l.2 l.4
+          (counts_say (s.name e.process) o.process l.0 o.place w d l.2 l.3
+          ∙ lt-ltb o.place (counts os (s.name e.process) (s.name o.process)) x),
+      λ x. ltb-true o.place (counts os (s.name e.process) (s.name o.process))
+          (sym (counts_say (s.name e.process) o.process l.0 o.place w d l.2 l.3) ∙ x l.0 (s.name o.process) l.2),
     )
 
     -- an offer of its own is known to a process that makes an entry
-    pub own_known : (w : Way) (d : Channel) (o : Offer) → o.process ≡ e.process → IsLast s os w d (Some o) → AreKnown os → KnowsOffers (judged os) os (s.name e.process) (Offered w d)
-    own_known w d o same l known = knows_by_last (judged os) os (chains_of os known) (s.name e.process) w d l.0 (s.name o.process) l.2 l.4
+    pub own_known : (w : Way) (d : Channel) (o : Offer) → o.process ≡ e.process → IsLast s os w d (Some o) → AreKnown os
+        → KnowsOffers (judged os) os (s.name e.process) (Offered w d)
+    own_known w d o same l known = knows_by_last (judged os) os (chains_of os known) (s.name e.process) w d l.0
+        (s.name o.process) l.2 l.4
         (⊎_elim
-        (λ (k : (judged os).past (s.name o.process) l.0 ≡ true). subst (λ (x : ℕ). (judged os).past (s.name x) l.0 ≡ true) same k)
+        (λ (k : (judged os).past (s.name o.process) l.0 ≡ true). subst
+        (λ (x : ℕ). (judged os).past (s.name x) l.0 ≡ true) same k)
         (λ (k : (c : Channel) × ((judged os).pending c ≡ Some (s.name o.process, l.0))).
-        absurd (front.waits_not all nameable quiet lawful at e inside k.0 l.0 (k.1 ∙ ap (λ (x : ℕ). Some (s.name x, l.0)) same)))
+        absurd (front.waits_not all nameable quiet lawful at e inside k.0 l.0
+        (k.1 ∙ ap (λ (x : ℕ). Some (s.name x, l.0)) same)))
         (stands.kept.own (s.name o.process) l.0 (Offered w d, l.2, refl)))
 
-    pub none_known : (w : Way) (d : Channel) → IsLast s os w d None → KnowsOffers (judged os) os (s.name e.process) (Offered w d)
+    pub none_known : (w : Way) (d : Channel) → IsLast s os w d None
+        → KnowsOffers (judged os) os (s.name e.process) (Offered w d)
     none_known w d l i z o = absurd (l i z o)
 
     low_entry : (i : ℕ) (x : Entry) → slice_get (take at all) i ≡ Some x → slice_get all i ≡ Some x
@@ -201,18 +250,22 @@ module _ (all : List Entry) (nameable : NameableFrom at_start all) (quiet : IsQu
         given (y ∷ xs) (suc n) zero l g = g
         given (y ∷ xs) (suc n) (suc i) l g = given xs n i (omega arith) g
 
-    offer_in : (w : Way) (c : ℕ) (i : ℕ) (x : Entry) → i < at → slice_get all i ≡ Some x → x.event ≡ offer_event w c → OfferIn os i (s.name x.process) w (channel s c)
-    offer_in w c i x l g is = named_get s (take at all) i x (into_front i x l g) ∙ (λ j. Some (record { who = s.name x.process; what = (ap (happening s) is ∙ offer_happens s w c) j }))
+    offer_in : (w : Way) (c : ℕ) (i : ℕ) (x : Entry) → i < at → slice_get all i ≡ Some x → x.event ≡ offer_event w c
+        → OfferIn os i (s.name x.process) w (channel s c)
+    offer_in w c i x l g is = named_get s (take at all) i x (into_front i x l g)
+        ∙ (λ j. Some (record { who = s.name x.process; what = (ap (happening s) is ∙ offer_happens s w c) j }))
 
     module _ (w : Way) (c : ℕ) (is : e.event ≡ offer_event w c) where
       open_channel : c < s.channels
       open_channel = channel_there at e w c inside is
 
       -- where nothing is unknown to the tables, the entry is in order
-      pub nothing_unknown : ((i : ℕ) → i < at → IsUnknown s os all e.process w c i → ⊥) → KnowsOffers (judged os) os (s.name e.process) (Offered w (channel s c))
+      pub nothing_unknown : ((i : ℕ) → i < at → IsUnknown s os all e.process w c i → ⊥)
+          → KnowsOffers (judged os) os (s.name e.process) (Offered w (channel s c))
       nothing_unknown none i z o = by ((judged os).past (s.name e.process) i) refl
         where
-          found : (y : Entry) × (slice_get (take at all) i ≡ Some y) × (occurrence s y ≡ record { who = z; what = Offered w (channel s c) })
+          found : (y : Entry) × (slice_get (take at all) i ≡ Some y)
+              × (occurrence s y ≡ record { who = z; what = Offered w (channel s c) })
           found = named_some s (take at all) i _ o
 
           x : Entry
@@ -222,37 +275,49 @@ module _ (all : List Entry) (nameable : NameableFrom at_start all) (quiet : IsQu
           g = low_entry i x found.1
 
           l : i < at
-          l = let a = get_within (take at all) i x found.1 in let m = front.at_length all nameable quiet lawful at e inside in omega arith
+          l = let a = get_within (take at all) i x found.1 in
+              let m = front.at_length all nameable quiet lawful at e inside in omega arith
 
           its : (k : ℕ) × (x.event ≡ offer_event w k) × (channel s k ≡ channel s c)
           its = event_is s x.event w (channel s c) (ap (λ (y : Occurrence). y.what) found.2)
 
           is_x : x.event ≡ offer_event w c
-          is_x = its.1 ∙ ap (offer_event w) (one_channel s lawful its.0 c (channel_there i x w its.0 g its.1) open_channel its.2)
+          is_x = its.1 ∙ ap (offer_event w) (one_channel s lawful its.0 c (channel_there i x w its.0 g its.1)
+              open_channel its.2)
 
           by : (t : Bool) → (judged os).past (s.name e.process) i ≡ t → (judged os).past (s.name e.process) i ≡ true
           by true f = f
           by false f = absurd (none i l (x, g, is_x, λ y. false≢true (sym f ∙ y)))
 
-      later_offer : slice_get (named s all) at ≡ Some (record { who = s.name e.process; what = Offered w (channel s c) })
-      later_offer = named_get s all at e inside ∙ (λ j. Some (record { who = s.name e.process; what = (ap (happening s) is ∙ offer_happens s w c) j }))
+      later_offer : slice_get (named s all) at
+          ≡ Some (record { who = s.name e.process; what = Offered w (channel s c) })
+      later_offer = named_get s all at e inside
+          ∙ (λ j. Some (record { who = s.name e.process; what = (ap (happening s) is ∙ offer_happens s w c) j }))
 
       -- where the last offer before an index is known, so are all before that index
-      pub all_below : AreKnown os → (middle i : ℕ) → middle ≤ at → IsLastOffer all middle w c i → (judged os).past (s.name e.process) i ≡ true → (k : ℕ) → k < middle → IsUnknown s os all e.process w c k → ⊥
-      all_below known middle i m last k_i k l u = u.3 ((chains_of os known).past (s.name e.process) i k w (channel s c) (s.name last.1.0.process) (s.name u.0.process)
-          (offer_in w c i last.1.0 (let a = last.0 in omega arith) last.1.1 last.1.2) (offer_in w c k u.0 (omega arith) u.1 u.2) no_later k_i)
+      pub all_below : AreKnown os → (middle i : ℕ) → middle ≤ at → IsLastOffer all middle w c i
+          → (judged os).past (s.name e.process) i ≡ true → (k : ℕ) → k < middle → IsUnknown s os all e.process w c k → ⊥
+      all_below known middle i m last k_i k l u =
+          u.3 ((chains_of os known).past (s.name e.process) i k w (channel s c) (s.name last.1.0.process)
+          (s.name u.0.process)
+          (offer_in w c i last.1.0 (let a = last.0 in omega arith) last.1.1 last.1.2)
+          (offer_in w c k u.0 (omega arith) u.1 u.2) no_later k_i)
         where
           no_later : k ≤ i
           no_later = ⊎_elim (λ (a : i < k). absurd (last.2 k a l (u.0, u.1, u.2))) (λ (a : k ≤ i). a) (cases_lt i k)
 
       -- what the counts say of an offer
-      pub counted_offer : (i place : ℕ) (x : Entry) → i < at → slice_get all i ≡ Some x → x.event ≡ offer_event w c → place ≡ made (take i os) (s.name x.process) → (place < counts os (s.name e.process) (s.name x.process)) ↔ ((judged os).past (s.name e.process) i ≡ true)
+      pub counted_offer : (i place : ℕ) (x : Entry) → i < at → slice_get all i ≡ Some x → x.event ≡ offer_event w c
+          → place ≡ made (take i os) (s.name x.process) → (place < counts os (s.name e.process) (s.name x.process))
+          ↔ ((judged os).past (s.name e.process) i ≡ true)
       counted_offer i place x l g is_x place_is =
-          let says = counts_say (s.name e.process) x.process i place w (channel s c) (offer_in w c i x l g is_x) place_is in
+          let says = counts_say (s.name e.process) x.process i place w (channel s c) (offer_in w c i x l g is_x)
+          place_is in
           (λ y. says ∙ lt-ltb place _ y, λ y. ltb-true place _ (sym says ∙ y))
 
       -- the first unknown offer and this one are the least race
-      pub first_race : (i : ℕ) → IsFirstUnknown s os all at e.process w c i → AreKnown os → IsLeastRace (named s all) w (channel s c) i at
+      pub first_race : (i : ℕ) → IsFirstUnknown s os all at e.process w c i → AreKnown os
+          → IsLeastRace (named s all) w (channel s c) i at
       first_race i f known = (race, least)
         where
           x : Entry
@@ -262,10 +327,15 @@ module _ (all : List Entry) (nameable : NameableFrom at_start all) (quiet : IsQu
           race = record {
             before = f.0;
             first = s.name x.process;
-            offered_first = named_get s all i x f.1.1 ∙ (λ j. Some (record { who = s.name x.process; what = (ap (happening s) f.1.2 ∙ offer_happens s w c) j }));
+            offered_first = named_get s all i x f.1.1
+                ∙ (λ j. Some (record {
+                  who = s.name x.process;
+                  what = (ap (happening s) f.1.2 ∙ offer_happens s w c) j;
+                }));
             second = s.name e.process;
             offered_second = later_offer;
-            unknown = λ k. f.1.3 (knows_offer (s.name e.process) i (subst (λ (xs : List Occurrence). KnowsCompletion (judged xs) (s.name e.process) i) front_is k));
+            unknown = λ k. f.1.3 (knows_offer (s.name e.process) i
+                (subst (λ (xs : List Occurrence). KnowsCompletion (judged xs) (s.name e.process) i) front_is k));
           }
 
           least : (v : Way) (d : Channel) (m n : ℕ) → Race (named s all) v d m n → (at < n) ⊎ ((at ≡ n) × (i ≤ m))
@@ -277,19 +347,28 @@ module _ (all : List Entry) (nameable : NameableFrom at_start all) (quiet : IsQu
               more_or_same : (a b : ℕ) → a ≤ b → (a < b) ⊎ (a ≡ b)
               more_or_same a b l = grind (arith)
 
-              later : (y : Entry) × (slice_get all n ≡ Some y) × (occurrence s y ≡ record { who = r.second; what = Offered v d })
+              later : (y : Entry) × (slice_get all n ≡ Some y)
+                  × (occurrence s y ≡ record { who = r.second; what = Offered v d })
               later = named_some s all n _ r.offered_second
 
               -- no race ends before this entry
               earlier : n < at → ⊥
               earlier l =
-                  let low : slice_get os n ≡ Some (record { who = r.second; what = Offered v d }) = named_get s (take at all) n later.0 (into_front n later.0 l later.1) ∙ ap (λ y. Some y) later.2 in
-                  let front_of : take n os ≡ take n (named s all) = ap (take n) (sym front_is) ∙ take_take n at (named s all) (omega arith) in
-                  let knows : KnowsOffers (judged (take n os)) (take n os) r.second (Offered v d) = known_at os n _ low known in
-                  let again : KnowsOffers (judged (take n (named s all))) (take n (named s all)) r.second (Offered v d) = subst (λ xs. KnowsOffers (judged xs) xs r.second (Offered v d)) front_of knows in
+                  let low : slice_get os n ≡ Some (record { who = r.second; what = Offered v d }) =
+                  named_get s (take at all) n later.0 (into_front n later.0 l later.1) ∙ ap (λ y. Some y) later.2 in
+                  let front_of : take n os ≡ take n (named s all) = ap (take n) (sym front_is)
+                  ∙ take_take n at (named s all) (omega arith) in
+                  let knows : KnowsOffers (judged (take n os)) (take n os) r.second (Offered v d) =
+                  known_at os n _ low known in
+                  let again : KnowsOffers (judged (take n (named s all))) (take n (named s all)) r.second
+                  (Offered v d) = subst (λ xs. KnowsOffers (judged xs) xs r.second (Offered v d)) front_of knows in
                   let is_front : named s (take n all) ≡ take n (named s all) = named_take s all n in
-                  let st : Standing (judged (take n (named s all))) (take n (named s all)) (counts (take n (named s all))) = subst (λ xs. Standing (judged xs) xs (counts xs)) is_front (front.stands all nameable quiet lawful n later.0 later.1) in
-                  let o : slice_get (take n (named s all)) m ≡ Some (record { who = r.first; what = Offered v d }) = take_get (named s all) n m _ r.before r.offered_first in
+                  let st : Standing (judged (take n (named s all))) (take n (named s all))
+                  (counts (take n (named s all))) =
+                  subst (λ xs. Standing (judged xs) xs (counts xs)) is_front
+                  (front.stands all nameable quiet lawful n later.0 later.1) in
+                  let o : slice_get (take n (named s all)) m ≡ Some (record { who = r.first; what = Offered v d }) =
+                  take_get (named s all) n m _ r.before r.offered_first in
                   r.unknown (st.rounded.complete r.second m r.first v d o (again m r.first o))
                 where
                   take_take : (a b : ℕ) (xs : List Occurrence) → a ≤ b → take a (take b xs) ≡ take a xs
@@ -299,7 +378,8 @@ module _ (all : List Entry) (nameable : NameableFrom at_start all) (quiet : IsQu
                   take_take (suc a) (suc b) [] l = refl
                   take_take (suc a) (suc b) (o ∷ xs) l = ap (λ ys. o ∷ ys) (take_take a b xs (omega arith))
 
-                  take_get : (xs : List Occurrence) (a k : ℕ) (o : Occurrence) → k < a → slice_get xs k ≡ Some o → slice_get (take a xs) k ≡ Some o
+                  take_get : (xs : List Occurrence) (a k : ℕ) (o : Occurrence) → k < a → slice_get xs k ≡ Some o
+                      → slice_get (take a xs) k ≡ Some o
                   take_get [] zero k o l g = g
                   take_get [] (suc a) k o l g = g
                   take_get (y ∷ xs) zero k o l g = absurd (omega arith)
@@ -310,7 +390,8 @@ module _ (all : List Entry) (nameable : NameableFrom at_start all) (quiet : IsQu
               here : at ≡ n → i ≤ m
               here y = ⊎_elim (λ (l : m < i). absurd (f.2 m l unknown)) (λ (l : i ≤ m). l) (cases_lt m i)
                 where
-                  this : ◌≡◌ {A = Occurrence} (record { who = s.name e.process; what = Offered w (channel s c) }) (record { who = r.second; what = Offered v d })
+                  this : ◌≡◌ {A = Occurrence} (record { who = s.name e.process; what = Offered w (channel s c) })
+                      (record { who = r.second; what = Offered v d })
                   this = same_Some _ _ (sym later_offer ∙ ap (slice_get (named s all)) y ∙ r.offered_second)
 
                   is_way : w ≡ v
@@ -322,7 +403,8 @@ module _ (all : List Entry) (nameable : NameableFrom at_start all) (quiet : IsQu
                   is_who : s.name e.process ≡ r.second
                   is_who = ap (λ (a : Occurrence). a.who) this
 
-                  first : (a : Entry) × (slice_get all m ≡ Some a) × (occurrence s a ≡ record { who = r.first; what = Offered v d })
+                  first : (a : Entry) × (slice_get all m ≡ Some a)
+                      × (occurrence s a ≡ record { who = r.first; what = Offered v d })
                   first = named_some s all m _ r.offered_first
 
                   inside_m : m < at
@@ -332,7 +414,9 @@ module _ (all : List Entry) (nameable : NameableFrom at_start all) (quiet : IsQu
                   its = event_is s first.0.event v d (ap (λ (a : Occurrence). a.what) first.2)
 
                   is_first : first.0.event ≡ offer_event w c
-                  is_first = its.1 ∙ ap (λ a. offer_event a its.0) (sym is_way) ∙ ap (offer_event w) (one_channel s lawful its.0 c (channel_there m first.0 v its.0 first.1 its.1) open_channel (its.2 ∙ sym is_channel))
+                  is_first = its.1 ∙ ap (λ a. offer_event a its.0) (sym is_way)
+                      ∙ ap (offer_event w) (one_channel s lawful its.0 c (channel_there m first.0 v its.0 first.1 its.1)
+                      open_channel (its.2 ∙ sym is_channel))
 
                   unknown : IsUnknown s os all e.process w c m
                   unknown = (
@@ -340,6 +424,9 @@ module _ (all : List Entry) (nameable : NameableFrom at_start all) (quiet : IsQu
                     first.1,
                     is_first,
                     λ k.
-                        let done = knows_completion (s.name e.process) m (s.name first.0.process) w (channel s c) (offer_in w c m first.0 inside_m first.1 is_first) k in
-                        r.unknown (subst (λ (xs : List Occurrence). KnowsCompletion (judged xs) r.second m) (sym front_is ∙ ap (λ a. take a (named s all)) y) (subst (λ (a : Name). KnowsCompletion (judged os) a m) is_who done)),
+                        let done = knows_completion (s.name e.process) m (s.name first.0.process) w (channel s c)
+                        (offer_in w c m first.0 inside_m first.1 is_first) k in
+                        r.unknown (subst (λ (xs : List Occurrence). KnowsCompletion (judged xs) r.second m)
+                        (sym front_is ∙ ap (λ a. take a (named s all)) y)
+                        (subst (λ (a : Name). KnowsCompletion (judged os) a m) is_who done)),
                   )

@@ -1,3 +1,4 @@
+-- None of this belongs to what the program promises: it is for contracts between crates.
 -- What the judge's tables hold. No public contract cites these; the parts of the judge promise them to each other,
 -- against the pasts of the journal so far.
 use Rattle.std.specs.Prelude.{◌≡◌, true, ℕ, ◌<◌, ◌≤◌, List, [], map, take, length, Option, Some, None, slice_get}
@@ -41,7 +42,8 @@ OfferIn os i z w d = slice_get os i ≡ Some (record { who = z; what = Offered w
 abbrev pub IsLast : Births → List Occurrence → Way → Channel → Option Offer → Type 0
 IsLast s os w d None = (i : ℕ) (z : Name) → OfferIn os i z w d → ⊥
 IsLast s os w d (Some o) =
-    (i : ℕ) × (o.process < s.processes) × OfferIn os i (s.name o.process) w d × (o.place ≡ made (take i os) (s.name o.process))
+    (i : ℕ) × (o.process < s.processes) × OfferIn os i (s.name o.process) w d
+    × (o.place ≡ made (take i os) (s.name o.process))
     × ((k : ℕ) (y : Name) → OfferIn os k y w d → k ≤ i)
 
 pub record IsLine (s : Births) (os : List Occurrence) (d : Channel) (l : Line) : Type 0 where
@@ -65,10 +67,13 @@ pub record Holds (s : Births) (until : List ℕ) (es : List Entry) (b : Bench) :
   pub all_made : length b.made.items ≡ s.processes
   pub all_lines : length b.lines.items ≡ s.channels
   pub all_places : length b.places.items ≡ length es
-  pub clocks : (p q : ℕ) → p < s.processes → q < s.processes → IsAsked until (length es) q → clock_at b.clocks.items p q ≡ counts (named s es) (s.name p) (s.name q)
+  pub clocks : (p q : ℕ) → p < s.processes → q < s.processes → IsAsked until (length es) q
+      → clock_at b.clocks.items p q ≡ counts (named s es) (s.name p) (s.name q)
   pub made_is : (p : ℕ) → p < s.processes → slice_get b.made.items p ≡ Some (made (named s es) (s.name p))
-  pub lines : (c : ℕ) → c < s.channels → (l : Line) × (slice_get b.lines.items c ≡ Some l) × IsLine s (named s es) (channel s c) l
-  pub places : (i : ℕ) (e : Entry) → slice_get es i ≡ Some e → slice_get b.places.items i ≡ Some (made (take i (named s es)) (s.name e.process))
+  pub lines : (c : ℕ) → c < s.channels → (l : Line) × (slice_get b.lines.items c ≡ Some l)
+      × IsLine s (named s es) (channel s c) l
+  pub places : (i : ℕ) (e : Entry) → slice_get es i ≡ Some e
+      → slice_get b.places.items i ≡ Some (made (take i (named s es)) (s.name e.process))
   pub next : b.next ≡ (births es).processes
 
 -- an offer of this way on this channel, as an event
@@ -93,22 +98,28 @@ IsOfferAt es w c i = (e : Entry) × (slice_get es i ≡ Some e) × (e.event ≡ 
 
 -- the last such entry before an index
 abbrev pub IsLastOffer : List Entry → ℕ → Way → ℕ → ℕ → Type 0
-IsLastOffer es before w c i = (i < before) × IsOfferAt es w c i × ((k : ℕ) → i < k → k < before → IsOfferAt es w c k → ⊥)
+IsLastOffer es before w c i = (i < before) × IsOfferAt es w c i
+    × ((k : ℕ) → i < k → k < before → IsOfferAt es w c k → ⊥)
 
 -- the entry of index i makes this offer, and the process does not know of it after these entries
 abbrev pub IsUnknown : Births → List Occurrence → List Entry → ℕ → Way → ℕ → ℕ → Type 0
-IsUnknown s os es p w c i = (e : Entry) × (slice_get es i ≡ Some e) × (e.event ≡ offer_event w c) × ((judged os).past (s.name p) i ≡ true → ⊥)
+IsUnknown s os es p w c i = (e : Entry) × (slice_get es i ≡ Some e) × (e.event ≡ offer_event w c)
+    × ((judged os).past (s.name p) i ≡ true → ⊥)
 
 -- the first such entry before this index
 abbrev pub IsFirstUnknown : Births → List Occurrence → List Entry → ℕ → ℕ → Way → ℕ → ℕ → Type 0
-IsFirstUnknown s os es at p w c i = (i < at) × IsUnknown s os es p w c i × ((k : ℕ) → k < i → IsUnknown s os es p w c k → ⊥)
+IsFirstUnknown s os es at p w c i = (i < at) × IsUnknown s os es p w c i
+    × ((k : ℕ) → k < i → IsUnknown s os es p w c k → ⊥)
 
 -- whether the entry of this index is an offer whose process does not know of an earlier one of its way on its channel
 abbrev pub IsRacing : List Entry → ℕ → Option Racer → Type 0
-IsRacing es at None = (e : Entry) → slice_get es at ≡ Some e → KnowsOffers (judged (named (births es) (take at es))) (named (births es) (take at es)) ((births es).name e.process) (happening (births es) e.event)
+IsRacing es at None = (e : Entry) → slice_get es at ≡ Some e
+    → KnowsOffers (judged (named (births es) (take at es))) (named (births es) (take at es))
+    ((births es).name e.process) (happening (births es) e.event)
 IsRacing es at (Some r) =
     (slice_get es at ≡ Some (record { process = r.process; event = offer_event r.way r.channel }))
-    × (KnowsOffers (judged (named (births es) (take at es))) (named (births es) (take at es)) ((births es).name r.process) (Offered r.way (channel (births es) r.channel)) → ⊥)
+    × (KnowsOffers (judged (named (births es) (take at es))) (named (births es) (take at es))
+    ((births es).name r.process) (Offered r.way (channel (births es) r.channel)) → ⊥)
 
 -- the tables before the first entry
 pub record IsBlank (b : Bench) (processes channels : ℕ) : Type 0 where
@@ -119,7 +130,8 @@ pub record IsBlank (b : Bench) (processes channels : ℕ) : Type 0 where
   pub next : b.next ≡ 1
   pub clocks : (p q : ℕ) → clock_at b.clocks.items p q ≡ 0
   pub made_is : (p : ℕ) → p < processes → slice_get b.made.items p ≡ Some 0
-  pub lines : (c : ℕ) → c < channels → slice_get b.lines.items c ≡ Some (record { waiting = None; sent = None; received = None })
+  pub lines : (c : ℕ) → c < channels → slice_get b.lines.items c
+      ≡ Some (record { waiting = None; sent = None; received = None })
 
 -- the entries before an index, by names
 abbrev pub before : List Entry → ℕ → List Occurrence
@@ -127,7 +139,8 @@ before es at = named (births es) (take at es)
 
 -- before this index process p knows of all offers of this way on this channel
 abbrev pub KnowsAll : List Entry → ℕ → ℕ → Way → ℕ → Type 0
-KnowsAll es at p w c = KnowsOffers (judged (before es at)) (before es at) ((births es).name p) (Offered w (channel (births es) c))
+KnowsAll es at p w c = KnowsOffers (judged (before es at)) (before es at) ((births es).name p)
+    (Offered w (channel (births es) c))
 
 -- how many counted entries of q process p knows before this index
 abbrev pub count_before : List Entry → ℕ → ℕ → ℕ → ℕ

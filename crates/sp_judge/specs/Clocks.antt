@@ -1,3 +1,4 @@
+-- None of this belongs to what the program promises: it is for contracts between crates.
 -- What a clock says: a count for each process, 0 where it has no pair. The contracts of clocks, tables and the bench
 -- cite it, as functions, since equal clocks may be stored differently.
 use Rattle.std.specs.Prelude.{◌≡◌, ℕ, ◌<◌, cond, max, ◌==◌, List, Option, Some, None, unwrap_or, slice_get, IsSome}
@@ -36,7 +37,8 @@ with_own clocks p n q = cond (p == q) (max (clocks p q) n) (clocks p q)
 
 -- two processes have met, each with its own count: both have the greater counts
 abbrev pub met_at : (ℕ → ℕ → ℕ) → ℕ → ℕ → ℕ → ℕ → ℕ → ℕ → ℕ
-met_at clocks p n z m r q = cond (p == r) (max (with_own clocks p n q) (with_own clocks z m q)) (cond (z == r) (max (with_own clocks p n q) (with_own clocks z m q)) (clocks r q))
+met_at clocks p n z m r q = cond (p == r) (max (with_own clocks p n q) (with_own clocks z m q))
+    (cond (z == r) (max (with_own clocks p n q) (with_own clocks z m q)) (clocks r q))
 
 -- a clock with the count of p raised to n
 abbrev pub raised_in : (ℕ → ℕ) → ℕ → ℕ → ℕ → ℕ

@@ -1,7 +1,10 @@
+-- None of this belongs to what the program promises: it is for contracts between crates.
 -- The sparse clocks of a journal by names: a count for each process that a process knows of. A law of this crate says
 -- that they tell the pasts, and the judge's tables hold them by numbers.
-use Rattle.std.specs.Prelude.{◌≡◌, ℕ, zero, suc, true, cond, max, ◌&&◌, List, [], ◌∷◌, ◌++◌, take, length, Option, Some, None, slice_get}
-use Rattle.sp_journal.specs.Names.{Name, same_name, Happening, Opened, Forked, Offered, Ended, Faulted, Laid, Paused, Occurrence}
+use Rattle.std.specs.Prelude.{◌≡◌, ℕ, zero, suc, true, cond, max, ◌&&◌, List, [], ◌∷◌, ◌++◌, take, length, Option, Some}
+use Rattle.std.specs.Prelude.{None, slice_get}
+use Rattle.sp_journal.specs.Names.{Name, same_name, Happening, Opened, Forked, Offered, Ended, Faulted, Laid, Paused}
+use Rattle.sp_journal.specs.Names.{Occurrence}
 use Rattle.sp_journal.specs.Past.{Judged, judged_by, nothing_judged}
 use Rattle.sp_past.specs.Prefixes.{is_counted}
 
@@ -12,7 +15,8 @@ made (e ∷ es) q = cond (same_name e.who q && is_counted e.what) (suc (made es 
 
 -- the entry of index i is the counted one of process q that has k before it
 abbrev pub PlaceOf : List Occurrence → Name → ℕ → ℕ → Type 0
-PlaceOf es q i k = (h : Happening) × (slice_get es i ≡ Some (record { who = q; what = h })) × (is_counted h ≡ true) × (k ≡ made (take i es) q)
+PlaceOf es q i k = (h : Happening) × (slice_get es i ≡ Some (record { who = q; what = h })) × (is_counted h ≡ true)
+    × (k ≡ made (take i es) q)
 
 -- the count of p raised to k
 abbrev pub raised : Name → ℕ → (Name → ℕ) → Name → ℕ
@@ -47,7 +51,8 @@ both f g q = max (f q) (g q)
 
 abbrev pub met_counts : (Name → Name → ℕ) → List Occurrence → Name → Option (Name × ℕ) → Name → Name → ℕ
 met_counts count es p None = count
-met_counts count es p (Some o) = gains o.0 (both (mine count es p) (theirs count es o.0 o.1)) (gains p (both (mine count es p) (theirs count es o.0 o.1)) count)
+met_counts count es p (Some o) = gains o.0 (both (mine count es p) (theirs count es o.0 o.1))
+    (gains p (both (mine count es p) (theirs count es o.0 o.1)) count)
 
 -- the clocks after one more entry
 abbrev pub counted_by : (Name → Name → ℕ) → Judged → List Occurrence → Name → Happening → Name → Name → ℕ
@@ -61,7 +66,8 @@ counted_by count j es p Paused = count
 
 abbrev pub counts_from : (Name → Name → ℕ) → Judged → List Occurrence → List Occurrence → Name → Name → ℕ
 counts_from count j done [] = count
-counts_from count j done (e ∷ es) = counts_from (counted_by count j done e.who e.what) (judged_by j (length done) e.who e.what) (done ++ e ∷ []) es
+counts_from count j done (e ∷ es) = counts_from (counted_by count j done e.who e.what)
+    (judged_by j (length done) e.who e.what) (done ++ e ∷ []) es
 
 -- the clocks after these entries
 abbrev pub counts : List Occurrence → Name → Name → ℕ

@@ -1,3 +1,4 @@
+-- All of this belongs to what the program promises (docs/promise.txt).
 -- Verdicts: what the judge says of a journal and its end. The contract of `verdict_of` promises it, and the top call's
 -- causes cite it: ordered, or the least race.
 use Rattle.std.specs.Prelude.{◌≡◌, ◌⊎◌, ℕ, ◌<◌, ◌≤◌, true, List, take, Some, slice_get}
@@ -25,7 +26,8 @@ pub record Race (es : List Occurrence) (w : Way) (c : Channel) (earlier later : 
 
 -- the least race, by the later and then the earlier index
 abbrev pub IsLeastRace : List Occurrence → Way → Channel → ℕ → ℕ → Type 0
-IsLeastRace es w c i k = Race es w c i k × ((v : Way) (d : Channel) (x y : ℕ) → Race es v d x y → (k < y) ⊎ ((k ≡ y) × (i ≤ x)))
+IsLeastRace es w c i k = Race es w c i k × ((v : Way) (d : Channel) (x y : ℕ) → Race es v d x y → (k < y)
+    ⊎ ((k ≡ y) × (i ≤ x)))
 
 -- a process broke a rule of execution
 abbrev pub IsFault : End → Type 0

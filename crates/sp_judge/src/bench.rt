@@ -1,7 +1,8 @@
 //! The judge's tables, and what each entry does to them. They have a clock and a count of counted entries for each
 //! process, a line for each channel (the offer that waits, the last offer of each way), and a place for each entry.
 
-ghost use Rattle.std.specs.Prelude.{◌≡◌, ◌<◌, ◌≤◌, ◌+◌, ◌++◌, ◌∷◌, ◌↔◌, ℕ, [], Some, IsTrue, OnOk, IfOk, MatchOption, length, slice_get, slice_set, take};
+ghost use Rattle.std.specs.Prelude.{◌≡◌, ◌<◌, ◌≤◌, ◌+◌, ◌++◌, ◌∷◌, ◌↔◌, ℕ, [], Some, IsTrue, OnOk, IfOk, MatchOption};
+ghost use Rattle.std.specs.Prelude.{length, slice_get, slice_set, take};
 ghost use Rattle.sp_journal.specs.Births.{births};
 ghost use Rattle.sp_journal.specs.Ledger.{IsLedger};
 ghost use Rattle.sp_journal.specs.Births.{channel as channel_named};
@@ -61,8 +62,8 @@ impl Line {
     }
 }
 
-/// A clock and a count of entries for each process, a line for each channel, and how many counted entries the process of
-/// each entry had made before. So far there are `next` processes.
+/// A clock and a count of entries for each process, a line for each channel, and how many counted entries the process
+/// of each entry had made before. So far there are `next` processes.
 #[derive(Drop)]
 pub(crate) struct Bench {
     pub(crate) clocks: Vec<Clock>,
@@ -114,8 +115,10 @@ impl Bench {
     fn note(&mut self, process: u32) -> Result<u64, Memory>
         requires { process < length self.old.made.items }
         ensures count { IfOk result (λ after. after ≡ number_at self.old.made.items process + 1) }
-        ensures made { OnOk result (self.new.made.items ≡ slice_set self.old.made.items process (number_at self.old.made.items process + 1)) }
-        ensures places { OnOk result (self.new.places.items ≡ self.old.places.items ++ number_at self.old.made.items process ∷ []) }
+        ensures made { OnOk result (self.new.made.items
+            ≡ slice_set self.old.made.items process (number_at self.old.made.items process + 1)) }
+        ensures places { OnOk result (self.new.places.items ≡ self.old.places.items
+            ++ number_at self.old.made.items process ∷ []) }
         ensures clocks { self.new.clocks.items ≡ self.old.clocks.items }
         ensures lines { self.new.lines.items ≡ self.old.lines.items }
         ensures next { self.new.next ≡ self.old.next }
@@ -130,7 +133,8 @@ impl Bench {
     /// Takes down an entry of this process that is not counted.
     fn pass(&mut self, process: u32) -> Result<(), Memory>
         requires { process < length self.old.made.items }
-        ensures places { OnOk result (self.new.places.items ≡ self.old.places.items ++ number_at self.old.made.items process ∷ []) }
+        ensures places { OnOk result (self.new.places.items ≡ self.old.places.items
+            ++ number_at self.old.made.items process ∷ []) }
         ensures made { self.new.made.items ≡ self.old.made.items }
         ensures clocks { self.new.clocks.items ≡ self.old.clocks.items }
         ensures lines { self.new.lines.items ≡ self.old.lines.items }
@@ -211,7 +215,8 @@ impl Bench {
     ) -> Result<(), Memory>
         requires tame { IsTame entries.now }
         requires holds { Holds (births entries.now) until.now (take at entries.now) self.old }
-        requires here { slice_get entries.now at ≡ Some (record { process = process; event = offer_event way channel }) }
+        requires here { slice_get entries.now at
+            ≡ Some (record { process = process; event = offer_event way channel }) }
         ensures { OnOk result (Holds (births entries.now) until.now (take (at + 1) entries.now) self.new) }
     {
         let after = self.note(process)?;

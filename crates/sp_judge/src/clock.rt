@@ -106,7 +106,8 @@ impl Clock {
         process: u32,
         count: u64,
     ) -> Result<(), Memory>
-        ensures { OnOk result ((q : ℕ) → IsAsked until.now now q → count_of self.new q ≡ raised_in (count_of self.old) process count q) }
+        ensures { OnOk result ((q : ℕ) → IsAsked until.now now q
+            → count_of self.new q ≡ raised_in (count_of self.old) process count q) }
     {
         self.forget(until, now);
         if is_asked(until, process, now) {

@@ -6,7 +6,8 @@ ghost use Rattle.sp_journal.specs.Births.{births};
 ghost use Rattle.sp_journal.specs.Ledger.{IsLedger};
 ghost use Rattle.sp_race.specs.Known.{AreKnown};
 ghost use Rattle.sp_judge.specs.Clocks.{number_at};
-ghost use Rattle.sp_judge.specs.Bench.{named, offer_event, IsTame, Holds, IsOfferAt, IsLastOffer, KnowsAll, count_before, IsFound};
+ghost use Rattle.sp_judge.specs.Bench.{named, offer_event, IsTame, Holds, IsOfferAt, IsLastOffer, KnowsAll};
+ghost use Rattle.sp_judge.specs.Bench.{count_before, IsFound};
 
 use crate::bench::{Bench, Offer, Racer, is_offer};
 use crate::clock::is_asked;
@@ -88,7 +89,8 @@ pub(crate) fn knows_offers(
     requires ledger { IsLedger ledger.now }
     requires its_journal { ledger.now.journal.entries ≡ entries.now }
     requires holds { Holds (births entries.now) until.now (take at entries.now) bench.now }
-    requires here { slice_get entries.now at ≡ Some (record { process = offer.process; event = offer_event offer.way offer.channel }) }
+    requires here { slice_get entries.now at
+        ≡ Some (record { process = offer.process; event = offer_event offer.way offer.channel }) }
     requires in_order { AreKnown (named (births entries.now) (take at entries.now)) }
     ensures { IfOk result (λ knows. IsTrue knows ↔ KnowsAll entries.now at offer.process offer.way offer.channel) }
 {
@@ -147,7 +149,8 @@ fn knows_entry(
 /// The last offer of this way on this channel before an index.
 fn last_offer(entries: &[Entry], before: usize, way: Way, channel: u32) -> Option<usize>
     requires { before ≤ length entries.now }
-    ensures { MatchOption result ((k : ℕ) → k < before → IsOfferAt entries.now way channel k → ⊥) (λ i. IsLastOffer entries.now before way channel i) }
+    ensures { MatchOption result ((k : ℕ) → k < before → IsOfferAt entries.now way channel k → ⊥)
+        (λ i. IsLastOffer entries.now before way channel i) }
 {
     let mut i = before;
     while i > 0 {
@@ -173,7 +176,8 @@ pub(crate) fn first_unknown(
     requires ledger { IsLedger ledger.now }
     requires its_journal { ledger.now.journal.entries ≡ entries.now }
     requires holds { Holds (births entries.now) until.now (take at entries.now) bench.now }
-    requires here { slice_get entries.now at ≡ Some (record { process = racer.process; event = offer_event racer.way racer.channel }) }
+    requires here { slice_get entries.now at
+        ≡ Some (record { process = racer.process; event = offer_event racer.way racer.channel }) }
     requires in_order { AreKnown (named (births entries.now) (take at entries.now)) }
     ensures { IfOk result (λ first. IsFound entries.now at racer first) }
 {

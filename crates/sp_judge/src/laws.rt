@@ -19,12 +19,14 @@ ghost use Rattle.sp_judge.specs.Runs.{IsRunVerdict};
 /// After every journal in which no process makes an entry while its own offer waits, the clocks say what each process
 /// knows: the counted entry of a process with k counted ones of it before is known exactly where the count is above k.
 pub fn clocks_say_what_is_known()
-    ensures { (es : List Occurrence) → IsQuiet es → (p q : Name) (i k : ℕ) → PlaceOf es q i k → (judged es).past p i ≡ nat_lt k (counts es p q) }
+    ensures { (es : List Occurrence) → IsQuiet es → (p q : Name) (i k : ℕ) → PlaceOf es q i k
+        → (judged es).past p i ≡ nat_lt k (counts es p q) }
 {}
 
 /// In every run along a journal, with faults or without, no process makes an entry while its own offer waits.
 pub fn runs_are_quiet()
-    ensures { (g : Setting) (turn : ℕ) (es : List Occurrence) (n : ℕ) (t : StateOf g) → IsAlong g turn es n t → IsQuiet es }
+    ensures { (g : Setting) (turn : ℕ) (es : List Occurrence) (n : ℕ) (t : StateOf g) → IsAlong g turn es n t
+        → IsQuiet es }
 {}
 
 /// A run whose end is no fault has a journal without a fault.
@@ -45,5 +47,6 @@ pub fn verdicts_are_exact()
 /// so the output and the end are those of the run in every schedule. Else the verdict says what it says of the journal.
 pub fn verdicts_hold_of_runs()
     ensures { (g : Setting) (turn : ℕ) (es : List Occurrence) (n : ℕ) (t : StateOf g) (e : End) (v : Verdict)
-        → IsFreeOfInterference g.program → IsAlong g turn es n t → EndIs g t e → IsVerdict es e v → IsRunVerdict g es n t e v }
+        → IsFreeOfInterference g.program → IsAlong g turn es n t → EndIs g t e → IsVerdict es e v
+        → IsRunVerdict g es n t e v }
 {}

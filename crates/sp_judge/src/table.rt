@@ -1,6 +1,7 @@
 //! The clocks of all processes, by their numbers.
 
-ghost use Rattle.std.specs.Prelude.{◌≡◌, ◌<◌, ◌≤◌, ◌+◌, ◌&&◌, ◌==◌, ◌≢◌, ◌^◌, nat_le, nat_lt, cond, max, ℕ, OnOk, length};
+ghost use Rattle.std.specs.Prelude.{◌≡◌, ◌<◌, ◌≤◌, ◌+◌, ◌&&◌, ◌==◌, ◌≢◌, ◌^◌, nat_le, nat_lt, cond, max, ℕ, OnOk};
+ghost use Rattle.std.specs.Prelude.{length};
 ghost use Rattle.sp_judge.specs.Clocks.{clock_at, IsAsked, AreRaised, AreMet};
 
 use crate::clock::Clock;
@@ -26,7 +27,8 @@ pub(crate) fn learn(
     requires teacher { teacher < length clocks.old.items }
     ensures len { OnOk result (length clocks.new.items ≡ length clocks.old.items) }
     ensures clocks { OnOk result ((p q : ℕ) → clock_at clocks.new.items p q
-        ≡ cond (learner == p) (max (clock_at clocks.old.items learner q) (clock_at clocks.old.items teacher q)) (clock_at clocks.old.items p q)) }
+        ≡ cond (learner == p) (max (clock_at clocks.old.items learner q) (clock_at clocks.old.items teacher q))
+        (clock_at clocks.old.items p q)) }
 {
     let mut clock = mem::replace(&mut clocks[learner as usize], Clock::new(alloc));
     let merged = clock.merge(&clocks[teacher as usize]);

@@ -16,11 +16,11 @@ use sp_base::Memory;
 use sp_journal::{End, Entry, Event, Journal, Ledger, Verdict, Way};
 use std::alloc::Global;
 
-/// Whether the result of a run depends on the schedule. It is unjudged exactly where the run ended by a fault. Else it is
-/// ordered exactly where of any two sends on one channel, and of any two receives on one channel, the earlier one was
-/// completed, and the later one's process knew that just before it offered. Else the verdict has the least pair of
-/// indices of which this does not hold, by the later and then the earlier one, with its way and its channel. The journal
-/// gives names, and no process of it makes an entry while its own offer waits, as in every run.
+/// Whether the result of a run depends on the schedule. It is unjudged exactly where the run ended by a fault. Else it
+/// is ordered exactly where of any two sends on one channel, and of any two receives on one channel, the earlier one
+/// was completed, and the later one's process knew that just before it offered. Else the verdict has the least pair of
+/// indices of which this does not hold, by the later and then the earlier one, with its way and its channel. The
+/// journal gives names, and no process of it makes an entry while its own offer waits, as in every run.
 pub fn verdict_of(alloc: Global, journal: &Journal, end: &End) -> Result<Verdict, Memory>
     requires nameable { IsNameable journal.now }
     requires quiet { IsQuiet (occurrences journal.now) }
@@ -122,7 +122,8 @@ fn offer_racing(
     requires ledger { IsLedger ledger.now }
     requires its_journal { ledger.now.journal.entries ≡ entries.now }
     requires holds { Holds (births entries.now) until.now (take at entries.now) bench.now }
-    requires here { slice_get entries.now at ≡ Some (record { process = offer.process; event = offer_event offer.way offer.channel }) }
+    requires here { slice_get entries.now at
+        ≡ Some (record { process = offer.process; event = offer_event offer.way offer.channel }) }
     requires in_order { AreKnown (named (births entries.now) (take at entries.now)) }
     ensures { IfOk result (λ racer. IsRacing entries.now at racer) }
 {

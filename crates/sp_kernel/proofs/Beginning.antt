@@ -1,5 +1,6 @@
 -- A kernel that was just made is at the start of a run (`opened`).
-use Rattle.std.proofs.Common.{◌≡◌, ◌≢◌, ◌⊎◌, ℕ, zero, suc, ◌==◌, inl, inr, false, List, [], ◌∷◌, length, Option, Some, None, if◌then◌else◌, slice_get, refl, sym, ap, ◌∙◌, subst, arith}
+use Rattle.std.proofs.Common.{◌≡◌, ◌≢◌, ◌⊎◌, ℕ, zero, suc, ◌==◌, inl, inr, false, List, [], ◌∷◌, length, Option, Some}
+use Rattle.std.proofs.Common.{None, if◌then◌else◌, slice_get, refl, sym, ap, ◌∙◌, subst, arith}
 use Rattle.std.proofs.Math.Path.{fun_ext}
 use Rattle.sp_channel.specs.declared.channels.Pending.{Pending}
 use Rattle.sp_journal.specs.Births.{births, at_start}
@@ -17,7 +18,8 @@ use Rattle.sp_kernel.specs.declared.slot.Slot.TheVariants as slot
 use Rattle.sp_kernel.specs.declared.slot.State.TheVariants as st
 use Rattle.sp_kernel.specs.declared.kernel.Kernel.{Kernel}
 use Rattle.sp_kernel.specs.Procs.{config_of}
-use Rattle.sp_kernel.specs.Kernels.{doing_in, condition_in, control_of, system_of, setting_of, WaitsAs, NumberIn, HasParents, parent_in, parent_of, IsKernel}
+use Rattle.sp_kernel.specs.Kernels.{doing_in, condition_in, control_of, system_of, setting_of, WaitsAs, NumberIn}
+use Rattle.sp_kernel.specs.Kernels.{HasParents, parent_in, parent_of, IsKernel}
 use Rattle.sp_kernel.specs.Asks.{IsOpening}
 
 later : (q : ℕ) → suc q == 0 ≡ false
@@ -40,7 +42,8 @@ pub record IsFresh (x : Kernel) (p : Proc) : Type 0 where
   pub abandons : x.abandons ≡ 0
   pub root : x.root.value ≡ p
 
-module _ (x : Kernel) (p : Proc) (f : IsFresh x p) (config : config_of p ≡ start_of x.code.value p.input.value) (number : p.number ≡ 0) where
+module _ (x : Kernel) (p : Proc) (f : IsFresh x p) (config : config_of p ≡ start_of x.code.value p.input.value)
+    (number : p.number ≡ 0) where
   doing : ◌≡◌ {A = ℕ → _} (control_of x).doing control_at_start.doing
   doing = fun_ext (λ q. ap (λ (l : List Slot). doing_in (slice_get l q)) f.slots ∙ go q)
     where
@@ -81,12 +84,14 @@ module _ (x : Kernel) (p : Proc) (f : IsFresh x p) (config : config_of p ≡ sta
   whole : IsKernel x
   whole = record {
     orderly = subst IsOrderly (sym control) orderly_start;
-    agrees = subst (λ k. Agrees k (system_of x)) (sym control) (subst (Agrees control_at_start) (sym system) (agrees_start plain (setting_of x)));
+    agrees = subst (λ k. Agrees k (system_of x)) (sym control)
+        (subst (Agrees control_at_start) (sym system) (agrees_start plain (setting_of x)));
     processes = ap length f.slots ∙ ap (λ l. (births l).processes) (sym f.journal);
     channels = ap length f.channels ∙ ap (λ l. (births l).channels) (sym f.journal);
     offers = λ c o e. none c o (ap (λ (l : List (Option Pending)). slice_get l c) (sym f.channels) ∙ e);
     numbers = λ q. subst (λ (l : List Slot). NumberIn (setting_of x).input (slice_get l q) q) (sym f.slots) (own q);
-    parents = subst (λ l. HasParents l (births x.journal.entries)) (sym f.parents) (subst (λ l. HasParents (None ∷ []) (births l)) (sym f.journal) (record { count = refl; each = each }));
+    parents = subst (λ l. HasParents l (births x.journal.entries)) (sym f.parents)
+        (subst (λ l. HasParents (None ∷ []) (births l)) (sym f.journal) (record { count = refl; each = each }));
   }
     where
       none : (c : ℕ) (o : Pending) → slice_get [] c ≡ Some (Some o) → WaitsAs (slice_get x.slots o.process) c o

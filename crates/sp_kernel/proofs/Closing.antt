@@ -1,5 +1,6 @@
 -- What stands once a run is over: no process is out, and where no worker gave up none is gone.
-use Rattle.std.proofs.Common.{◌≡◌, ◌≢◌, ◌⊎◌, ◌-◌, length, ℕ, ◌<◌, ◌==◌, if◌then◌else◌, cond, Bool, true, false, inl, inr, List, [], ◌∷◌, Option, Some, None, refl, sym, ◌∙◌, subst, arith}
+use Rattle.std.proofs.Common.{◌≡◌, ◌≢◌, ◌⊎◌, ◌-◌, length, ℕ, ◌<◌, ◌==◌, if◌then◌else◌, cond, Bool, true, false, inl}
+use Rattle.std.proofs.Common.{inr, List, [], ◌∷◌, Option, Some, None, refl, sym, ◌∙◌, subst, arith}
 use Rattle.sp_journal.specs.declared.entry.Way.{Way}
 use Rattle.sp_journal.specs.declared.entry.Way.TheVariants as way
 use Rattle.sp_journal.specs.declared.entry.Event.{Event}
@@ -9,7 +10,9 @@ use Rattle.sp_journal.specs.declared.entry.Note.{Note}
 use Rattle.sp_journal.specs.Maps.{at_key}
 use Rattle.sp_journal.specs.Births.{is_next}
 use Rattle.sp_code.specs.PlainStore.{plain}
-use Rattle.sp_code.specs.Control.{Control, Doing, Unborn, Ready, Out, Sending, Receiving, Joining, Laid, Ended, Gone, control_at_start, noted, noted_all, given, takes, comes_back, does, queues, offers, one_fewer, reports}
+use Rattle.sp_code.specs.Control.{Control, Doing, Unborn, Ready, Out, Sending, Receiving, Joining, Laid, Ended, Gone}
+use Rattle.sp_code.specs.Control.{control_at_start, noted, noted_all, given, takes, comes_back, does, queues, offers}
+use Rattle.sp_code.specs.Control.{one_fewer, reports}
 use Rattle.sp_code.specs.System.{opening}
 use Rattle.sp_kernel.specs.declared.kernel.Kernel.{Kernel}
 use Rattle.sp_kernel.specs.Kernels.{control_of, system_of, setting_of}
@@ -35,7 +38,8 @@ pub record IsByNoEvent (P : Doing → Type 0) : Type 0 where
   pub ended : P Ended → ⊥
 
 module _ (P : Doing → Type 0) where
-  at_kept : (f : ℕ → Doing) (z q : ℕ) (d : Doing) → (P d → ⊥) → P (at_key ◌==◌ z d f q) → (at_key ◌==◌ z d f q ≡ f q) × (q ≢ z)
+  at_kept : (f : ℕ → Doing) (z q : ℕ) (d : Doing) → (P d → ⊥) → P (at_key ◌==◌ z d f q) → (at_key ◌==◌ z d f q ≡ f q)
+      × (q ≢ z)
   at_kept f z q d n o = go (number_or z q)
     where
       go : (z ≡ q) ⊎ ((z ≢ q) × (z == q ≡ false)) → (at_key ◌==◌ z d f q ≡ f q) × (q ≢ z)
@@ -43,10 +47,12 @@ module _ (P : Doing → Type 0) where
       go (inr m) = (at_other f z q d m.0, λ e. m.0 (sym e))
 
   module _ (none : IsByNoEvent P) where
-    fewer_kept : (x : ℕ) (d : Doing) (m : Control) (q : ℕ) → P ((one_fewer x d m).doing q) → (one_fewer x d m).doing q ≡ m.doing q
+    fewer_kept : (x : ℕ) (d : Doing) (m : Control) (q : ℕ) → P ((one_fewer x d m).doing q)
+        → (one_fewer x d m).doing q ≡ m.doing q
     fewer_kept x (Joining n) m q o = go (n == 1) o
       where
-        go : (b : Bool) → P ((if b then queues x m else does x (Joining (n - 1)) m).doing q) → (if b then queues x m else does x (Joining (n - 1)) m).doing q ≡ m.doing q
+        go : (b : Bool) → P ((if b then queues x m else does x (Joining (n - 1)) m).doing q)
+            → (if b then queues x m else does x (Joining (n - 1)) m).doing q ≡ m.doing q
         go true o = (at_kept m.doing x q Ready none.ready o).0
         go false o = (at_kept m.doing x q (Joining (n - 1)) (none.joining (n - 1)) o).0
     fewer_kept x Unborn m q o = refl
@@ -59,7 +65,8 @@ module _ (P : Doing → Type 0) where
     fewer_kept x Gone m q o = refl
 
     module _ (k : Control) (p : ℕ) where
-      offers_kept : (w : Way) (d : Doing) (c : ℕ) (x : Option (Way × ℕ)) (q : ℕ) → (P d → ⊥) → P ((offers w d p c x k).doing q) → ((offers w d p c x k).doing q ≡ k.doing q) × (q ≢ p)
+      offers_kept : (w : Way) (d : Doing) (c : ℕ) (x : Option (Way × ℕ)) (q : ℕ) → (P d → ⊥)
+          → P ((offers w d p c x k).doing q) → ((offers w d p c x k).doing q ≡ k.doing q) × (q ≢ p)
       offers_kept w d c None q n o = at_kept k.doing p q d n o
       offers_kept w d c (Some z) q n o =
           let a = at_kept (at_key ◌==◌ z.1 Ready k.doing) p q Ready none.ready o in
@@ -67,10 +74,12 @@ module _ (P : Doing → Type 0) where
           (a.0 ∙ b.0, a.1)
 
       -- after an event of p it is another one, which was there before
-      pub back_kept : (e : Event) (q : ℕ) → P ((comes_back p e k).doing q) → ((comes_back p e k).doing q ≡ k.doing q) × (q ≢ p)
+      pub back_kept : (e : Event) (q : ℕ) → P ((comes_back p e k).doing q) → ((comes_back p e k).doing q ≡ k.doing q)
+          × (q ≢ p)
       back_kept (event.Fork n) q o = go (is_next k.births n q) o
         where
-          go : (b : Bool) → P (cond b Ready (cond (p == q) (Joining n) (k.doing q))) → (cond b Ready (cond (p == q) (Joining n) (k.doing q)) ≡ k.doing q) × (q ≢ p)
+          go : (b : Bool) → P (cond b Ready (cond (p == q) (Joining n) (k.doing q)))
+              → (cond b Ready (cond (p == q) (Joining n) (k.doing q)) ≡ k.doing q) × (q ≢ p)
           go true o = absurd (none.ready o)
           go false o = at_kept k.doing p q (Joining n) (none.joining n) o
       back_kept event.Open q o = at_kept k.doing p q Ready none.ready o
@@ -78,7 +87,8 @@ module _ (P : Doing → Type 0) where
       back_kept (event.Receive c) q o = offers_kept way.Receive (Receiving c) c (k.pending c) q (none.receiving c) o
       back_kept event.End q o = go (k.births.birth p) o
         where
-          go : (x : Option Birth) → P ((reports x (does p Ended k)).doing q) → ((reports x (does p Ended k)).doing q ≡ k.doing q) × (q ≢ p)
+          go : (x : Option Birth) → P ((reports x (does p Ended k)).doing q)
+              → ((reports x (does p Ended k)).doing q ≡ k.doing q) × (q ≢ p)
           go None o = at_kept k.doing p q Ended none.ended o
           go (Some b) o =
               let a = fewer_kept b.parent ((does p Ended k).doing b.parent) (does p Ended k) q o in
@@ -108,10 +118,12 @@ NoneGone k = (q : ℕ) → k.doing q ≡ Gone → 0 < k.abandons
 
 gone_takes : (w : ℕ) (got : Option ℕ) (k : Control) → NoneGone k → NoneGone (takes w got k)
 gone_takes w None k h q o = h q o
-gone_takes w (Some p) k h q o = h q (sym (at_kept IsGone k.doing p q (Out w) (λ (e : Out w ≡ Gone). absurd (cc e)) o).0 ∙ o)
+gone_takes w (Some p) k h q o = h q (sym (at_kept IsGone k.doing p q (Out w) (λ (e : Out w ≡ Gone). absurd (cc e)) o).0
+    ∙ o)
 
 gone_given : (p : Option ℕ) (e : Option Event) (got : Option ℕ) (k : Control) → NoneGone k → NoneGone (given p e got k)
-gone_given (Some p) (Some e) got k h q o = let a = h q (sym (back_kept IsGone gone_by_none k p e q o).0 ∙ o) in let b : (comes_back p e k).abandons ≡ k.abandons = back_abandons p e k in omega (arith, a, b)
+gone_given (Some p) (Some e) got k h q o = let a = h q (sym (back_kept IsGone gone_by_none k p e q o).0 ∙ o) in
+    let b : (comes_back p e k).abandons ≡ k.abandons = back_abandons p e k in omega (arith, a, b)
 gone_given None (Some e) got k h q o = h q o
 gone_given None None None k h q o = omega arith
 gone_given (Some p) None None k h q o = omega arith
@@ -120,7 +132,8 @@ gone_given (Some p) None (Some z) k h q o = h q o
 
 gone_all : (ns : List Note) (k : Control) → NoneGone k → NoneGone (noted_all ns k)
 gone_all [] k h = h
-gone_all (n ∷ ns) k h = gone_all ns (noted n k) (gone_takes n.worker n.got (given n.given n.event n.got k) (gone_given n.given n.event n.got k h))
+gone_all (n ∷ ns) k h = gone_all ns (noted n k)
+    (gone_takes n.worker n.got (given n.given n.event n.got k) (gone_given n.given n.event n.got k h))
 
 gone_start : NoneGone control_at_start
 gone_start q o = absurd (go (q == 0) o)
@@ -135,11 +148,14 @@ pub record AllHere (y : Kernel) : Type 0 where
   pub away : (q w : ℕ) → (control_of y).doing q ≡ Out w → ⊥
   pub gone : (q : ℕ) → (control_of y).doing q ≡ Gone → ⊥
 
-pub all_here : (x : Kernel) (fine : IsOpening x) (log : List Note) (y : Kernel) → RanTo x log y → y.abandons ≡ 0 → AllHere y
+pub all_here : (x : Kernel) (fine : IsOpening x) (log : List Note) (y : Kernel) → RanTo x log y → y.abandons ≡ 0
+    → AllHere y
 all_here x fine log y ran kept = record { away = away; gone = gone }
   where
     outs : HasOuts (control_of y)
-    outs = subst HasOuts (sym (control_is x fine log y ran.legal)) (outs_all plain (setting_of x) control_at_start (opening plain (setting_of x)) (system_of y) log orderly_start (agrees_start plain (setting_of x)) outs_start (from_start x fine log y ran.legal))
+    outs = subst HasOuts (sym (control_is x fine log y ran.legal))
+        (outs_all plain (setting_of x) control_at_start (opening plain (setting_of x)) (system_of y) log orderly_start
+        (agrees_start plain (setting_of x)) outs_start (from_start x fine log y ran.legal))
 
     empty : (q : ℕ) (xs : List ℕ) → length xs ≡ 0 → Among q xs → ⊥
     empty q [] e i = i
@@ -149,4 +165,5 @@ all_here x fine log y ran kept = record { away = away; gone = gone }
     away q w e = empty q outs.outs (outs.count ∙ ran.over.1) (outs.all q (w, e))
 
     gone : (q : ℕ) → (control_of y).doing q ≡ Gone → ⊥
-    gone q e = let a = subst NoneGone (sym (control_is x fine log y ran.legal)) (gone_all log control_at_start gone_start) q e in absurd (omega (arith, a, kept))
+    gone q e = let a = subst NoneGone (sym (control_is x fine log y ran.legal))
+        (gone_all log control_at_start gone_start) q e in absurd (omega (arith, a, kept))

@@ -32,8 +32,10 @@ state_field_send : IsSend State.the_field.row
 state_field_send = search (sendable, crosses, list.the_send, cell.the_send) depth 40
 
 slot_send : IsSend Slot.the_row
-slot_send = recorded_send Slot.the_field.row _ _ Slot.the_type.to_one (enum_send (e.shape Slot.the_type)
-    ((proc.the_send, (state_field_send, tt)), ((search sendable, (search crosses, tt)), (tt, ((search crosses, tt), tt)))))
+slot_send = recorded_send Slot.the_field.row _ _ Slot.the_type.to_one (enum_send (e.shape Slot.the_type) (
+  (proc.the_send, (state_field_send, tt)),
+  ((search sendable, (search crosses, tt)), (tt, ((search crosses, tt), tt))),
+))
 
 line_send : IsSend Line.the_row
 line_send = search (sendable, crosses) depth 40
@@ -42,11 +44,42 @@ parent_send : IsSend (Rattle.std.specs.contracts.option.Option.the_row denote.Bu
 parent_send = search (sendable, crosses) depth 40
 
 pub kernel_send : IsSend Kernel.the_row
-kernel_send = recorded_send Kernel.the_field.row _ _ Kernel.the_type.to_one (struct_send (s.shape Kernel.the_type)
-    (list.the_send _ slot_send, (list.the_send _ parent_send, (line_send, (search sendable, (channels.the_send, (journal.the_field_send, (search sendable, (search sendable, (search sendable, (Arc-send _ code.the_send code.the_sync, (limits.the_field_send, (search crosses, tt)))))))))))))
+kernel_send = recorded_send Kernel.the_field.row _ _ Kernel.the_type.to_one (struct_send (s.shape Kernel.the_type) (
+  list.the_send _ slot_send,
+  (
+    list.the_send _ parent_send,
+    (
+      line_send,
+      (
+        search sendable,
+        (
+          channels.the_send,
+          (
+            journal.the_field_send,
+            (
+              search sendable,
+              (
+                search sendable,
+                (
+                  search sendable,
+                  (
+                    Arc-send _ code.the_send code.the_sync,
+                    (limits.the_field_send, (search crosses, tt)),
+                  ),
+                ),
+              ),
+            ),
+          ),
+        ),
+      ),
+    ),
+  ),
+))
 
 pub seat_send : IsSend (RoomSeat.the_row Kernel.the_row Ask.the_row Got.the_row Note.the_row Kept.ghosts)
 seat_send = seat.the_send Kernel.the_row Ask.the_row Got.the_row Note.the_row Kept.ghosts kernel_send note_send
 
-pub room_sync : IsSync (Room.the_row Kernel.the_row Ask.the_row Got.the_row Note.the_row Kept.ghosts (Copy.ghosts Note.the_row))
-room_sync = room.the_sync Kernel.the_row Ask.the_row Got.the_row Note.the_row Kept.ghosts (Copy.ghosts Note.the_row) kernel_send note_send
+pub room_sync : IsSync (Room.the_row Kernel.the_row Ask.the_row Got.the_row Note.the_row Kept.ghosts
+    (Copy.ghosts Note.the_row))
+room_sync = room.the_sync Kernel.the_row Ask.the_row Got.the_row Note.the_row Kept.ghosts (Copy.ghosts Note.the_row)
+    kernel_send note_send

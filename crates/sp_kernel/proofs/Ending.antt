@@ -1,5 +1,6 @@
 -- The end of a run: what its journal names is there, and one process holds its output.
-use Rattle.std.proofs.Common.{◌≡◌, ℕ, ◌<◌, ◌≤◌, List, [], ◌∷◌, ◌++◌, Option, Some, None, refl, sym, ap, ◌∙◌, subst, arith}
+use Rattle.std.proofs.Common.{◌≡◌, ℕ, ◌<◌, ◌≤◌, List, [], ◌∷◌, ◌++◌, Option, Some, None, refl, sym, ap, ◌∙◌, subst}
+use Rattle.std.proofs.Common.{arith}
 use Rattle.std.proofs.lemmas.Option.{same_Some}
 use Rattle.sp_base.specs.declared.fault.Fault.{Fault}
 use Rattle.sp_journal.specs.declared.entry.Note.{Note}
@@ -27,10 +28,12 @@ use Rattle.sp_kernel.proofs.Writing.{written_is, writes_store, none_writes}
 
 pub named : (x : Kernel) (fine : IsOpening x) (log : List Note) (y : Kernel) → Told Steps x log y → IsNamed y
 named x fine log y told =
-    let journal : y.journal.entries ≡ entries_of log = (it x fine log y told).journal ∙ ap (λ l. l ++ entries_of log) fine.journal in
+    let journal : y.journal.entries ≡ entries_of log = (it x fine log y told).journal
+    ∙ ap (λ l. l ++ entries_of log) fine.journal in
     record {
       whole = (it x fine log y told).whole;
-      nameable = subst (NameableFrom at_start) (sym journal) (system_nameable (setting_of x) fine.limits (entries_of log) (system_of y) (along x fine log y told));
+      nameable = subst (NameableFrom at_start) (sym journal)
+          (system_nameable (setting_of x) fine.limits (entries_of log) (system_of y) (along x fine log y told));
       told = fault_told x fine log y told journal;
       spoken = system_spoken (setting_of x) (entries_of log) (system_of y) (along x fine log y told);
     }
@@ -49,13 +52,16 @@ more_processes s p event.Pause = omega arith
 
 all_processes : (s : Births) (es : List Entry) → s.processes ≤ (births_from s es).processes
 all_processes s [] = omega arith
-all_processes s (e ∷ es) = let a = more_processes s e.process e.event in let b = all_processes (after_entry s e) es in omega (arith, a, b)
+all_processes s (e ∷ es) = let a = more_processes s e.process e.event in let b = all_processes (after_entry s e) es in
+    omega (arith, a, b)
 
-pub fault_there : (s : Births) (es : List Entry) (p : ℕ) (f : Fault) → NameableFrom s es → fault_in es ≡ Some (p, f) → p < (births_from s es).processes
+pub fault_there : (s : Births) (es : List Entry) (p : ℕ) (f : Fault) → NameableFrom s es → fault_in es ≡ Some (p, f)
+    → p < (births_from s es).processes
 fault_there s [] p f h e = absurd (cc e)
 fault_there s (d ∷ es) p f h e = go (λ g. fault_there (after_entry s d) es p f h.1 g) d.event refl e
   where
-    go : (fault_in es ≡ Some (p, f) → p < (births_from s (d ∷ es)).processes) → (v : Event) → d.event ≡ v → fault_by d.process v (fault_in es) ≡ Some (p, f) → p < (births_from s (d ∷ es)).processes
+    go : (fault_in es ≡ Some (p, f) → p < (births_from s (d ∷ es)).processes) → (v : Event) → d.event ≡ v
+        → fault_by d.process v (fault_in es) ≡ Some (p, f) → p < (births_from s (d ∷ es)).processes
     go on (event.Fault g) i w =
         let same : d.process ≡ p = ap first (same_Some _ _ w) in
         let a = more_processes s d.process d.event in
@@ -64,7 +70,6 @@ fault_there s (d ∷ es) p f h e = go (λ g. fault_there (after_entry s d) es p 
       where
         first : ℕ × Fault → ℕ
         first z = z.0
-
     go on (event.Fork n) i w = on w
     go on event.Open i w = on w
     go on (event.Send c) i w = on w
@@ -75,24 +80,40 @@ fault_there s (d ∷ es) p f h e = go (λ g. fault_there (after_entry s d) es p 
 
 -- ---- the output
 
-pub output_held : (log : List Note) (y : Kernel) → RanFrom log y → y.abandons ≡ 0 → (o : Option (List ℕ)) → written y.slots ≡ o → (q : ℕ) × (bs : List ℕ) × IsOutputOf (system_of y) q bs × (o ≡ Some bs)
+pub output_held : (log : List Note) (y : Kernel) → RanFrom log y → y.abandons ≡ 0 → (o : Option (List ℕ))
+    → written y.slots ≡ o → (q : ℕ) × (bs : List ℕ) × IsOutputOf (system_of y) q bs × (o ≡ Some bs)
 output_held log y (x, fine, ran) kept o is = go o is
   where
     here : AllHere y
     here = all_here x fine log y ran kept
 
     holder : (q : ℕ) × (bs : List ℕ) × IsOutputOf (system_of y) q bs
-    holder = one_holder (setting_of x) (system_of y) log (λ es t l. fine.sound.safe x.root.value.input.value x.limits fine.limits es t l) (from_start x fine log y ran.legal)
+    holder = one_holder (setting_of x) (system_of y) log
+        (λ es t l. fine.sound.safe x.root.value.input.value x.limits fine.limits es t l)
+        (from_start x fine log y ran.legal)
 
-    go : (o : Option (List ℕ)) → written y.slots ≡ o → (q : ℕ) × (bs : List ℕ) × IsOutputOf (system_of y) q bs × (o ≡ Some bs)
-    go None e = absurd (none_writes y.slots e holder.0 holder.2.store holder.1 (here.away holder.0) (here.gone holder.0) holder.2.at holder.2.output)
+    go : (o : Option (List ℕ)) → written y.slots ≡ o → (q : ℕ) × (bs : List ℕ) × IsOutputOf (system_of y) q bs
+        × (o ≡ Some bs)
+    go None e = absurd (none_writes y.slots e holder.0 holder.2.store holder.1 (here.away holder.0) (here.gone holder.0)
+        holder.2.at holder.2.output)
     go (Some bs) e =
         let w = written_is y.slots bs e in
         let s = writes_store y.slots bs w in
-        let same : w.process ≡ holder.0 = holder.2.only w.process w.proc.store bs s.0 s.1 in
-        (holder.0, bs, record { store = w.proc.store; at = subst (λ q. Rattle.sp_code.specs.System.store_in ((system_of y).condition q) ≡ Some w.proc.store) same s.0; output = s.1; only = holder.2.only }, refl)
+        let same : w.process ≡ holder.0 = holder.2.only w.process w.proc.store bs s.0 s.1 in (
+          holder.0,
+          bs,
+          record {
+            store = w.proc.store;
+            at = subst (λ q. Rattle.sp_code.specs.System.store_in ((system_of y).condition q) ≡ Some w.proc.store) same
+                s.0;
+            output = s.1;
+            only = holder.2.only;
+          },
+          refl,
+        )
 
-pub output_text : (log : List Note) (y : Kernel) → RanFrom log y → (text : List ℕ) → or_empty (written y.slots) ≡ text → y.abandons ≡ 0 → (q : ℕ) × IsOutputOf (system_of y) q text
+pub output_text : (log : List Note) (y : Kernel) → RanFrom log y → (text : List ℕ) → or_empty (written y.slots) ≡ text
+    → y.abandons ≡ 0 → (q : ℕ) × IsOutputOf (system_of y) q text
 output_text log y ran text e kept =
     let o = output_held log y ran kept (written y.slots) refl in
     (o.0, subst (IsOutputOf (system_of y) o.0) (ap or_empty (sym o.3) ∙ e) o.2)

@@ -1,6 +1,7 @@
 -- An end: the first process is over, and a child's parent takes back from it. It leads from `specs/Ends.antt` to
 -- `Gave`.
-use Rattle.std.proofs.Common.{◌≡◌, ◌≢◌, ◌⊎◌, ℕ, ◌-◌, ◌<◌, ◌==◌, inl, inr, Bool, true, false, if◌then◌else◌, List, [], ◌∷◌, ◌++◌, length, Option, Some, None, slice_get, slice_set, refl, sym, ap, ◌∙◌, subst}
+use Rattle.std.proofs.Common.{◌≡◌, ◌≢◌, ◌⊎◌, ℕ, ◌-◌, ◌<◌, ◌==◌, inl, inr, Bool, true, false, if◌then◌else◌, List, []}
+use Rattle.std.proofs.Common.{◌∷◌, ◌++◌, length, Option, Some, None, slice_get, slice_set, refl, sym, ap, ◌∙◌, subst}
 use Rattle.std.proofs.lemmas.List.{length-set}
 use Rattle.std.proofs.lemmas.Option.{slice_get_within}
 use Rattle.sp_base.proofs.Facts.{get_beside_set, get_where_set}
@@ -15,8 +16,10 @@ use Rattle.sp_code.specs.Memory.{Memory, memory}
 use Rattle.sp_code.specs.PlainStore.{plain}
 use Rattle.sp_code.specs.Turns.{Stopped, IsTurn}
 use Rattle.sp_code.specs.Sound.{StopsAt}
-use Rattle.sp_code.specs.Control.{Control, Out, Joining, Ended, comes_back, does, queues, one_fewer as control_fewer, reports}
-use Rattle.sp_code.specs.System.{Working, Joins as IsJoining, Over, Gone as HasGone, after, event_of, entered_now, on_store, rejoined, reported}
+use Rattle.sp_code.specs.Control.{Control, Out, Joining, Ended, comes_back, does, queues, one_fewer as control_fewer}
+use Rattle.sp_code.specs.Control.{reports}
+use Rattle.sp_code.specs.System.{Working, Joins as IsJoining, Over, Gone as HasGone, after, event_of, entered_now}
+use Rattle.sp_code.specs.System.{on_store, rejoined, reported}
 use Rattle.sp_kernel.specs.declared.slot.Slot.{Slot}
 use Rattle.sp_kernel.specs.declared.slot.Slot.TheVariants as slot
 use Rattle.sp_kernel.specs.declared.slot.State.TheVariants as st
@@ -25,12 +28,14 @@ use Rattle.sp_kernel.specs.declared.handed.Handed.{Handed}
 use Rattle.sp_machine.specs.declared.state.Stop.TheVariants as stop
 use Rattle.sp_kernel.specs.declared.kernel.Kernel.{Kernel}
 use Rattle.sp_kernel.specs.Procs.{config_of, turn_by, turn_of, Enters}
-use Rattle.sp_kernel.specs.Kernels.{doing_in, condition_in, control_of, system_of, setting_of, WaitsAs, IsOwn, NumberIn, parent_in, parent_of, IsKernel, back, Gave}
+use Rattle.sp_kernel.specs.Kernels.{doing_in, condition_in, control_of, system_of, setting_of, WaitsAs, IsOwn, NumberIn}
+use Rattle.sp_kernel.specs.Kernels.{parent_in, parent_of, IsKernel, back, Gave}
 use Rattle.sp_kernel.specs.Ends.{left_in, one_fewer, ends_child, IsJoiner, Joins}
 use Rattle.sp_kernel.specs.Fits.{Fits}
 use Rattle.sp_history.proofs.Queues.{number_or, at_other}
 use Rattle.sp_kernel.proofs.Tables.{table_set}
-use Rattle.sp_kernel.proofs.Giving.{event_quiet, after_quiet, whole_after, there, no_waiter, next_doing, next_condition, next_births, same_offers, same_numbers, parents_after}
+use Rattle.sp_kernel.proofs.Giving.{event_quiet, after_quiet, whole_after, there, no_waiter, next_doing, next_condition}
+use Rattle.sp_kernel.proofs.Giving.{next_births, same_offers, same_numbers, parents_after}
 
 -- ---- who joins
 
@@ -40,7 +45,8 @@ joiner (Some (slot.Here q st.Ready)) n e = absurd (cc e)
 joiner (Some (slot.Out v q)) n e = absurd (cc e)
 joiner (Some (slot.Here q (st.Sending d i bs))) n e = absurd (cc e)
 joiner (Some (slot.Here q (st.Receiving d i))) n e = absurd (cc e)
-joiner (Some (slot.Here q (st.Joining l))) n e = let f : l ≡ n = cc e in (q, ap (λ j. Some (slot.Here q (st.Joining j))) f)
+joiner (Some (slot.Here q (st.Joining l))) n e = let f : l ≡ n = cc e in
+    (q, ap (λ j. Some (slot.Here q (st.Joining j))) f)
 joiner (Some (slot.Here q st.Laid)) n e = absurd (cc e)
 joiner (Some slot.Ended) n e = absurd (cc e)
 joiner (Some (slot.Here q st.Over)) n e = absurd (cc e)
@@ -54,30 +60,43 @@ pub no_birth : (o : Option Birth) → parent_of o ≡ None → o ≡ None
 no_birth None e = refl
 no_birth (Some b) e = absurd (cc e)
 
-module _ (x : Kernel) (k : IsKernel x) (p w : ℕ) (here : (control_of x).doing p ≡ Out w) (h : Handed) (is : h.stop ≡ stop.End) (quiet : x.faulted ≡ false) (own : IsOwn (setting_of x).input h.proc p) where
+module _ (x : Kernel) (k : IsKernel x) (p w : ℕ) (here : (control_of x).doing p ≡ Out w) (h : Handed)
+    (is : h.stop ≡ stop.End) (quiet : x.faulted ≡ false) (own : IsOwn (setting_of x).input h.proc p) where
   turn_is : turn_of h ≡ Stopped m.Ends (config_of h.proc)
   turn_is = ap (λ s. turn_by s h.proc) is
 
   event_is : event.End ≡ event_of x.limits (system_of x) (turn_of h)
-  event_is = event_quiet x.limits (system_of x) m.Ends (config_of h.proc) quiet refl ∙ ap (event_of x.limits (system_of x)) (sym turn_is)
+  event_is = event_quiet x.limits (system_of x) m.Ends (config_of h.proc) quiet refl
+      ∙ ap (event_of x.limits (system_of x)) (sym turn_is)
 
   -- ---- the first process
 
   module _ (r : Proc) (en : Enters h.proc r) (first : (births x.journal.entries).birth p ≡ None) where
     abbrev over : Kernel
-    over = record x { slots = slice_set x.slots p (slot.Here r st.Over); journal = record { entries = x.journal.entries ++ record { process = p; event = event.End } ∷ [] }; out = x.out - 1 }
+    over = record x {
+      slots = slice_set x.slots p (slot.Here r st.Over);
+      journal = record { entries = x.journal.entries ++ record { process = p; event = event.End } ∷ [] };
+      out = x.out - 1;
+    }
 
     over_control : control_of over ≡ comes_back p (event_of x.limits (system_of x) (turn_of h)) (control_of x)
-    over_control = (λ i. record (control_of x) { doing = next_doing x k p w here event.End (slot.Here r st.Over) i; out = x.out - 1; births = next_births x k p w here event.End (slot.Here r st.Over) i })
-        ∙ ap (λ o. record (reports o (does p Ended (control_of x))) { out = x.out - 1; births = births x.journal.entries }) (sym first)
+    over_control = (λ i. record (control_of x) {
+      doing = next_doing x k p w here event.End (slot.Here r st.Over) i;
+      out = x.out - 1;
+      births = next_births x k p w here event.End (slot.Here r st.Over) i;
+    })
+        ∙ ap (λ o. record (reports o (does p Ended (control_of x)))
+        { out = x.out - 1; births = births x.journal.entries }) (sym first)
         ∙ ap (λ e. comes_back p e (control_of x)) event_is
 
     over_system : system_of over ≡ after plain (setting_of x) p (turn_of h) (system_of x)
     over_system = (λ i. record (system_of x) {
-      condition = (next_condition x k p w here event.End (slot.Here r st.Over) ∙ ap (λ c. at_key ◌==◌ p (Over c) (system_of x).condition) en.0) i;
+      condition = (next_condition x k p w here event.End (slot.Here r st.Over)
+          ∙ ap (λ c. at_key ◌==◌ p (Over c) (system_of x).condition) en.0) i;
       births = next_births x k p w here event.End (slot.Here r st.Over) i;
     })
-        ∙ ap (λ o. record (reported plain (setting_of x) p (entered_now (config_of h.proc)) o (system_of x)) { births = births x.journal.entries }) (sym first)
+        ∙ ap (λ o. record (reported plain (setting_of x) p (entered_now (config_of h.proc)) o (system_of x))
+        { births = births x.journal.entries }) (sym first)
         ∙ after_quiet (setting_of x) (system_of x) p m.Ends (config_of h.proc) quiet refl
         ∙ ap (λ t. after plain (setting_of x) p t (system_of x)) (sym turn_is)
 
@@ -88,17 +107,26 @@ module _ (x : Kernel) (k : IsKernel x) (p w : ℕ) (here : (control_of x).doing 
       setting = (refl, refl, refl);
       entry = ap (λ e. x.journal.entries ++ record { process = p; event = e } ∷ []) event_is;
       whole = whole_after x k p w here h over over_control over_system
-          (length-set x.slots p _ ∙ k.processes ∙ ap (λ (b : Births). b.processes) (sym (next_births x k p w here event.End (slot.Here r st.Over))))
-          (k.channels ∙ ap (λ (b : Births). b.channels) (sym (next_births x k p w here event.End (slot.Here r st.Over))))
-          (same_offers x k p w here (slot.Here r st.Over)) (same_numbers x k p w here (slot.Here r st.Over) (en.1 ∙ own.0, en.3 ∙ own.1)) (parents_after x k p w here x.parents event.End k.parents);
+          (length-set x.slots p _ ∙ k.processes
+          ∙ ap (λ (b : Births). b.processes) (sym (next_births x k p w here event.End (slot.Here r st.Over))))
+          (k.channels ∙ ap (λ (b : Births). b.channels)
+          (sym (next_births x k p w here event.End (slot.Here r st.Over))))
+          (same_offers x k p w here (slot.Here r st.Over))
+          (same_numbers x k p w here (slot.Here r st.Over) (en.1 ∙ own.0, en.3 ∙ own.1))
+          (parents_after x k p w here x.parents event.End k.parents);
     }
 
     pub gave_root : Gave x p h (back r.number event.End (slot.Here r st.Over) x)
-    gave_root = subst (λ n. Gave x p h (record x { slots = slice_set x.slots n (slot.Here r st.Over); journal = record { entries = x.journal.entries ++ record { process = n; event = event.End } ∷ [] }; out = x.out - 1 })) (sym (en.1 ∙ own.0)) over_gave
+    gave_root = subst (λ n. Gave x p h (record x {
+      slots = slice_set x.slots n (slot.Here r st.Over);
+      journal = record { entries = x.journal.entries ++ record { process = n; event = event.End } ∷ [] };
+      out = x.out - 1;
+    })) (sym (en.1 ∙ own.0)) over_gave
 
   -- ---- a child
 
-  module _ (b : Birth) (born : (births x.journal.entries).birth p ≡ Some b) (n : ℕ) (joins : (control_of x).doing b.parent ≡ Joining n) where
+  module _ (b : Birth) (born : (births x.journal.entries).birth p ≡ Some b) (n : ℕ)
+      (joins : (control_of x).doing b.parent ≡ Joining n) where
     pub apart : p ≢ b.parent
     apart e = let f : Out w ≡ Joining n = sym here ∙ ap (control_of x).doing e ∙ joins in absurd (cc f)
 
@@ -125,19 +153,27 @@ module _ (x : Kernel) (k : IsKernel x) (p w : ℕ) (here : (control_of x).doing 
       parent_now : z < length (slice_set x.slots p slot.Ended)
       parent_now = subst (λ l. z < l) (sym (length-set x.slots p slot.Ended)) parent_there
 
-      both_set : {X : Type 0} (f : Option Slot → X) → ◌≡◌ {A = ℕ → X} (λ q. f (slice_get (slice_set (slice_set x.slots p slot.Ended) z t) q)) (at_key ◌==◌ z (f (Some (slot.Here told.0 (one_fewer n)))) (at_key ◌==◌ p (f (Some slot.Ended)) (λ q. f (slice_get x.slots q))))
-      both_set f = table_set f (slice_set x.slots p slot.Ended) z t parent_now ∙ ap (λ s. at_key ◌==◌ z (f (Some s)) (λ q. f (slice_get (slice_set x.slots p slot.Ended) q))) told.1
-          ∙ ap (λ m. at_key ◌==◌ z (f (Some (slot.Here told.0 (one_fewer n)))) m) (table_set f x.slots p slot.Ended (there x k p w here))
+      both_set : {X : Type 0} (f : Option Slot → X)
+          → ◌≡◌ {A = ℕ → X} (λ q. f (slice_get (slice_set (slice_set x.slots p slot.Ended) z t) q))
+          (at_key ◌==◌ z (f (Some (slot.Here told.0 (one_fewer n))))
+          (at_key ◌==◌ p (f (Some slot.Ended)) (λ q. f (slice_get x.slots q))))
+      both_set f = table_set f (slice_set x.slots p slot.Ended) z t parent_now
+          ∙ ap (λ s. at_key ◌==◌ z (f (Some s)) (λ q. f (slice_get (slice_set x.slots p slot.Ended) q))) told.1
+          ∙ ap (λ m. at_key ◌==◌ z (f (Some (slot.Here told.0 (one_fewer n)))) m)
+          (table_set f x.slots p slot.Ended (there x k p w here))
 
       abbrev ended : Kernel
       ended = ends_child p z t x
 
       control_by : (c : Bool) → ◌≡◌ {A = Control} (record (control_of x) {
-        doing = at_key ◌==◌ z (doing_in (Some (slot.Here told.0 (if c then st.Ready else st.Joining (n - 1))))) (at_key ◌==◌ p Ended (control_of x).doing);
+        doing = at_key ◌==◌ z (doing_in (Some (slot.Here told.0 (if c then st.Ready else st.Joining (n - 1)))))
+            (at_key ◌==◌ p Ended (control_of x).doing);
         ready = if c then x.ready ++ z ∷ [] else x.ready;
         out = x.out - 1;
         births = births x.journal.entries;
-      }) (record (if c then queues z (does p Ended (control_of x)) else does z (Joining (n - 1)) (does p Ended (control_of x))) { out = x.out - 1; births = births x.journal.entries })
+      }) (record (if c then queues z (does p Ended (control_of x)) else
+          does z (Joining (n - 1)) (does p Ended (control_of x)))
+          { out = x.out - 1; births = births x.journal.entries })
       control_by true = refl
       control_by false = refl
 
@@ -149,33 +185,43 @@ module _ (x : Kernel) (k : IsKernel x) (p w : ℕ) (here : (control_of x).doing 
         births = next_births x k p w here event.End slot.Ended i;
       })
           ∙ control_by (n == 1)
-          ∙ ap (λ d. record (control_fewer z d (does p Ended (control_of x))) { out = x.out - 1; births = births x.journal.entries }) (sym joins_now)
-          ∙ ap (λ o. record (reports o (does p Ended (control_of x))) { out = x.out - 1; births = births x.journal.entries }) (sym born)
+          ∙ ap (λ d. record (control_fewer z d (does p Ended (control_of x)))
+          { out = x.out - 1; births = births x.journal.entries }) (sym joins_now)
+          ∙ ap (λ o. record (reports o (does p Ended (control_of x)))
+          { out = x.out - 1; births = births x.journal.entries }) (sym born)
           ∙ ap (λ e. comes_back p e (control_of x)) event_is
 
       abbrev joined : m.Config (Memory Plain)
       joined = on_store (λ m. plain.joined m h.proc.store) (config_of parent)
 
-      condition_by : (c : Bool) → condition_in (Some (slot.Here told.0 (if c then st.Ready else st.Joining (n - 1)))) ≡ (if c then Working joined else IsJoining (n - 1) joined)
+      condition_by : (c : Bool) → condition_in (Some (slot.Here told.0 (if c then st.Ready else st.Joining (n - 1))))
+          ≡ (if c then Working joined else IsJoining (n - 1) joined)
       condition_by true = ap (λ d. Working d) told.2.0
       condition_by false = ap (λ d. IsJoining (n - 1) d) told.2.0
 
       ended_system : system_of ended ≡ after plain (setting_of x) p (turn_of h) (system_of x)
       ended_system = (λ i. record (system_of x) {
-        condition = (both_set condition_in ∙ ap (λ c. at_key ◌==◌ z c (at_key ◌==◌ p HasGone (system_of x).condition)) (condition_by (n == 1))
-            ∙ ap (λ o. at_key ◌==◌ z (rejoined plain (setting_of x) (entered_now (config_of h.proc)) (condition_in o)) (at_key ◌==◌ p HasGone (system_of x).condition)) (sym at_parent)) i;
+        condition = (both_set condition_in ∙ ap (λ c. at_key ◌==◌ z c (at_key ◌==◌ p HasGone (system_of x).condition))
+            (condition_by (n == 1))
+            ∙ ap (λ o. at_key ◌==◌ z (rejoined plain (setting_of x) (entered_now (config_of h.proc)) (condition_in o))
+            (at_key ◌==◌ p HasGone (system_of x).condition)) (sym at_parent)) i;
         births = next_births x k p w here event.End slot.Ended i;
       })
-          ∙ ap (λ o. record (reported plain (setting_of x) p (entered_now (config_of h.proc)) o (system_of x)) { births = births x.journal.entries }) (sym born)
+          ∙ ap (λ o. record (reported plain (setting_of x) p (entered_now (config_of h.proc)) o (system_of x))
+          { births = births x.journal.entries }) (sym born)
           ∙ after_quiet (setting_of x) (system_of x) p m.Ends (config_of h.proc) quiet refl
           ∙ ap (λ t. after plain (setting_of x) p t (system_of x)) (sym turn_is)
 
-      ended_offers : (c : ℕ) (o : Pending) → slice_get x.channels c ≡ Some (Some o) → WaitsAs (slice_get (slice_set (slice_set x.slots p slot.Ended) z t) o.process) c o
+      ended_offers : (c : ℕ) (o : Pending) → slice_get x.channels c ≡ Some (Some o)
+          → WaitsAs (slice_get (slice_set (slice_set x.slots p slot.Ended) z t) o.process) c o
       ended_offers c o e =
           let waits = k.offers c o e in
           let not_p : p ≢ o.process = λ q. no_waiter x k p w here c o e (sym q) in
-          let not_z : z ≢ o.process = λ q. let f : WaitsAs (Some (slot.Here parent (st.Joining n))) c o = subst (λ s. WaitsAs s c o) at_parent (subst (λ i. WaitsAs (slice_get x.slots i) c o) (sym q) waits) in f in
-          subst (λ s. WaitsAs s c o) (sym (get_beside_set (slice_set x.slots p slot.Ended) z o.process t not_z ∙ get_beside_set x.slots p o.process slot.Ended not_p)) waits
+          let not_z : z ≢ o.process = λ q. let f : WaitsAs (Some (slot.Here parent (st.Joining n))) c o =
+          subst (λ s. WaitsAs s c o) at_parent (subst (λ i. WaitsAs (slice_get x.slots i) c o) (sym q) waits) in
+          f in
+          subst (λ s. WaitsAs s c o) (sym (get_beside_set (slice_set x.slots p slot.Ended) z o.process t not_z
+          ∙ get_beside_set x.slots p o.process slot.Ended not_p)) waits
 
       abbrev input : List ℕ
       input = (setting_of x).input
@@ -190,10 +236,14 @@ module _ (x : Kernel) (k : IsKernel x) (p w : ℕ) (here : (control_of x).doing 
       ended_numbers : (q : ℕ) → NumberIn input (slice_get (slice_set (slice_set x.slots p slot.Ended) z t) q) q
       ended_numbers q = go (number_or z q)
         where
-          go : (z ≡ q) ⊎ ((z ≢ q) × (z == q ≡ false)) → NumberIn input (slice_get (slice_set (slice_set x.slots p slot.Ended) z t) q) q
+          go : (z ≡ q) ⊎ ((z ≢ q) × (z == q ≡ false))
+              → NumberIn input (slice_get (slice_set (slice_set x.slots p slot.Ended) z t) q) q
           go (inl e) = subst (λ j. NumberIn input (slice_get (slice_set (slice_set x.slots p slot.Ended) z t) j) j) e
-              (subst (λ s. NumberIn input s z) (sym (get_where_set (slice_set x.slots p slot.Ended) z t parent_now ∙ ap (λ s. Some s) told.1)) (number_by (n == 1)))
-          go (inr o) = subst (λ s. NumberIn input s q) (sym (get_beside_set (slice_set x.slots p slot.Ended) z q t o.0)) (same_numbers x k p w here slot.Ended (tt {0}) q)
+              (subst (λ s. NumberIn input s z)
+              (sym (get_where_set (slice_set x.slots p slot.Ended) z t parent_now ∙ ap (λ s. Some s) told.1))
+              (number_by (n == 1)))
+          go (inr o) = subst (λ s. NumberIn input s q) (sym (get_beside_set (slice_set x.slots p slot.Ended) z q t o.0))
+              (same_numbers x k p w here slot.Ended (tt {0}) q)
 
       pub gave_child : Gave x p h (ends_child p b.parent t x)
       gave_child = record {
@@ -202,7 +252,8 @@ module _ (x : Kernel) (k : IsKernel x) (p w : ℕ) (here : (control_of x).doing 
         setting = (refl, refl, refl);
         entry = ap (λ e. x.journal.entries ++ record { process = p; event = e } ∷ []) event_is;
         whole = whole_after x k p w here h ended ended_control ended_system
-            (length-set (slice_set x.slots p slot.Ended) z t ∙ length-set x.slots p slot.Ended ∙ k.processes ∙ ap (λ (b : Births). b.processes) (sym (next_births x k p w here event.End slot.Ended)))
+            (length-set (slice_set x.slots p slot.Ended) z t ∙ length-set x.slots p slot.Ended ∙ k.processes
+            ∙ ap (λ (b : Births). b.processes) (sym (next_births x k p w here event.End slot.Ended)))
             (k.channels ∙ ap (λ (b : Births). b.channels) (sym (next_births x k p w here event.End slot.Ended)))
             ended_offers ended_numbers (parents_after x k p w here x.parents event.End k.parents);
       }
@@ -217,28 +268,47 @@ pub record IsChild (x : Kernel) (p z : ℕ) : Type 0 where
   pub left : ℕ
   pub joins : (control_of x).doing birth.parent ≡ Joining left
 
-pub is_child : (x : Kernel) (k : IsKernel x) (w : ℕ) (h : Handed) → Fits x w h → (z : ℕ) → parent_in (slice_get x.parents h.proc.number) ≡ Some z → IsChild x h.proc.number z
+pub is_child : (x : Kernel) (k : IsKernel x) (w : ℕ) (h : Handed) → Fits x w h → (z : ℕ)
+    → parent_in (slice_get x.parents h.proc.number) ≡ Some z → IsChild x h.proc.number z
 is_child x k w h fits z e =
     let b = has_birth ((births x.journal.entries).birth h.proc.number) z (sym (k.parents.each h.proc.number) ∙ e) in
     let j = fits.parent b.0 b.1 in
     record { birth = b.0; born = b.1; parent = b.2; left = j.0; joins = j.1 }
 
-pub child_joins : (x : Kernel) (k : IsKernel x) (w : ℕ) (h : Handed) → h.stop ≡ stop.End → x.faulted ≡ false → Fits x w h → (z : ℕ) → IsChild x h.proc.number z → IsJoiner (slice_get x.slots z) h.proc
-child_joins x k w h is quiet fits z c = subst (λ i. IsJoiner (slice_get x.slots i) h.proc) c.parent (go (joiner (slice_get x.slots c.birth.parent) c.left c.joins))
+pub child_joins : (x : Kernel) (k : IsKernel x) (w : ℕ) (h : Handed) → h.stop ≡ stop.End → x.faulted ≡ false
+    → Fits x w h → (z : ℕ) → IsChild x h.proc.number z → IsJoiner (slice_get x.slots z) h.proc
+child_joins x k w h is quiet fits z c = subst (λ i. IsJoiner (slice_get x.slots i) h.proc) c.parent
+    (go (joiner (slice_get x.slots c.birth.parent) c.left c.joins))
   where
     stops : StopsAt (setting_of x) (system_of x) h.proc.number m.Ends (config_of h.proc)
-    stops = record { at = fits.at; runs = fits.runs; turn = subst (λ t. IsTurn (memory plain (setting_of x)) (setting_of x).code fits.at t) (ap (λ s. turn_by s h.proc) is) fits.turn; quiet = quiet; fine = refl }
+    stops = record {
+      at = fits.at;
+      runs = fits.runs;
+      turn = subst (λ t. IsTurn (memory plain (setting_of x)) (setting_of x).code fits.at t)
+          (ap (λ s. turn_by s h.proc) is) fits.turn;
+      quiet = quiet;
+      fine = refl;
+    }
 
-    go : (q : Proc) × (slice_get x.slots c.birth.parent ≡ Some (slot.Here q (st.Joining c.left))) → IsJoiner (slice_get x.slots c.birth.parent) h.proc
-    go (q, e) = subst (λ o. IsJoiner o h.proc) (sym e) (fits.safe.ends h.proc.number c.left c.birth (config_of h.proc) (config_of q) stops c.born (ap condition_in e))
+    go : (q : Proc) × (slice_get x.slots c.birth.parent ≡ Some (slot.Here q (st.Joining c.left)))
+        → IsJoiner (slice_get x.slots c.birth.parent) h.proc
+    go (q, e) = subst (λ o. IsJoiner o h.proc) (sym e)
+        (fits.safe.ends h.proc.number c.left c.birth (config_of h.proc) (config_of q) stops c.born (ap condition_in e))
 
-pub gave_end : (x : Kernel) (k : IsKernel x) (w : ℕ) (h : Handed) → h.stop ≡ stop.End → x.faulted ≡ false → Fits x w h → (z : ℕ) → IsChild x h.proc.number z → (t : Slot) → Joins (slice_get x.slots z) h.proc t → Gave x h.proc.number h (ends_child h.proc.number z t x)
+pub gave_end : (x : Kernel) (k : IsKernel x) (w : ℕ) (h : Handed) → h.stop ≡ stop.End → x.faulted ≡ false → Fits x w h
+    → (z : ℕ) → IsChild x h.proc.number z → (t : Slot) → Joins (slice_get x.slots z) h.proc t
+    → Gave x h.proc.number h (ends_child h.proc.number z t x)
 gave_end x k w h is quiet fits z c t took =
     subst (λ i. Gave x h.proc.number h (ends_child h.proc.number i t x)) c.parent
-    (gave_child x k h.proc.number w fits.out h is quiet (refl, fits.input) c.birth c.born c.left c.joins t (subst (λ i. Joins (slice_get x.slots i) h.proc t) (sym c.parent) took))
+    (gave_child x k h.proc.number w fits.out h is quiet (refl, fits.input) c.birth c.born c.left c.joins t
+    (subst (λ i. Joins (slice_get x.slots i) h.proc t) (sym c.parent) took))
 
-pub child_apart : (x : Kernel) (k : IsKernel x) (w : ℕ) (h : Handed) → h.stop ≡ stop.End → x.faulted ≡ false → Fits x w h → (z : ℕ) → IsChild x h.proc.number z → h.proc.number ≢ z
-child_apart x k w h is quiet fits z c e = apart x k h.proc.number w fits.out h is quiet (refl, fits.input) c.birth c.born c.left c.joins (e ∙ sym c.parent)
+pub child_apart : (x : Kernel) (k : IsKernel x) (w : ℕ) (h : Handed) → h.stop ≡ stop.End → x.faulted ≡ false
+    → Fits x w h → (z : ℕ) → IsChild x h.proc.number z → h.proc.number ≢ z
+child_apart x k w h is quiet fits z c e = apart x k h.proc.number w fits.out h is quiet (refl, fits.input) c.birth
+    c.born c.left c.joins (e ∙ sym c.parent)
 
-pub child_there : (x : Kernel) (k : IsKernel x) (w : ℕ) (h : Handed) → h.stop ≡ stop.End → x.faulted ≡ false → Fits x w h → (z : ℕ) → IsChild x h.proc.number z → z < length x.slots
-child_there x k w h is quiet fits z c = subst (λ i. i < length x.slots) c.parent (parent_there x k h.proc.number w fits.out h is quiet (refl, fits.input) c.birth c.born c.left c.joins)
+pub child_there : (x : Kernel) (k : IsKernel x) (w : ℕ) (h : Handed) → h.stop ≡ stop.End → x.faulted ≡ false
+    → Fits x w h → (z : ℕ) → IsChild x h.proc.number z → z < length x.slots
+child_there x k w h is quiet fits z c = subst (λ i. i < length x.slots) c.parent
+    (parent_there x k h.proc.number w fits.out h is quiet (refl, fits.input) c.birth c.born c.left c.joins)

@@ -1,5 +1,6 @@
 -- An open: it has its number, or it is a fault. It leads from `specs/Opens.antt` to `Gave`.
-use Rattle.std.proofs.Common.{◌≡◌, ℕ, zero, suc, ◌+◌, ◌-◌, ◌≤◌, ◌==◌, true, false, nat_lt, List, [], ◌∷◌, ◌++◌, length, length-append, Option, Some, None, slice_get, slice_set, refl, sym, ap, ◌∙◌, subst}
+use Rattle.std.proofs.Common.{◌≡◌, ℕ, zero, suc, ◌+◌, ◌-◌, ◌≤◌, ◌==◌, true, false, nat_lt, List, [], ◌∷◌, ◌++◌, length}
+use Rattle.std.proofs.Common.{length-append, Option, Some, None, slice_get, slice_set, refl, sym, ap, ◌∙◌, subst}
 use Rattle.std.proofs.lemmas.Bool.{leb-true}
 use Rattle.std.proofs.Math.Path.{fun_ext}
 use Rattle.std.proofs.lemmas.List.{length-set}
@@ -34,7 +35,8 @@ use Rattle.sp_kernel.specs.declared.kernel.Kernel.{Kernel}
 use Rattle.sp_kernel.specs.Procs.{config_of, turn_by, turn_of}
 use Rattle.sp_kernel.specs.Kernels.{offer_in, process_in, control_of, system_of, setting_of, WaitsAs, IsKernel, Gave}
 use Rattle.sp_kernel.specs.Opens.{opens, EntersAt}
-use Rattle.sp_kernel.proofs.Giving.{event_quiet, after_quiet, whole_after, next_doing, next_condition, next_births, same_offers, same_numbers, parents_after}
+use Rattle.sp_kernel.proofs.Giving.{event_quiet, after_quiet, whole_after, next_doing, next_condition, next_births}
+use Rattle.sp_kernel.proofs.Giving.{same_offers, same_numbers, parents_after}
 
 -- ---- where the channel goes is a piece of the process's own
 
@@ -72,19 +74,26 @@ any_entries (e ∷ es) = (any_entry e, any_entries es)
 any_config : (c : m.Config (Memory Plain)) → ConfigHas Any Every c
 any_config (m.At pc st n) = (any_entries st, tt)
 
-enough : (o : Option (List Cell)) (k n : ℕ) → has_cells o k n ≡ true → (cs : List Cell) × (o ≡ Some cs) × (k + n ≤ length cs)
+enough : (o : Option (List Cell)) (k n : ℕ) → has_cells o k n ≡ true → (cs : List Cell) × (o ≡ Some cs)
+    × (k + n ≤ length cs)
 enough None k n e = absurd (cc e)
 enough (Some cs) k n e = (cs, refl, leb-true (k + n) (length cs) e)
 
 module _ (g : Setting) where
-  takes : (a : Address) (k : ℕ) (n : Memory Plain) → (memory plain g).has a k n ≡ true → Takes k a ((memory plain g).own a n)
+  takes : (a : Address) (k : ℕ) (n : Memory Plain) → (memory plain g).has a k n ≡ true
+      → Takes k a ((memory plain g).own a n)
   takes a k n e es many =
       let w = enough (plain.piece n.store a.spot) a.offset k e in
       let here = get_here n.store.map a.spot (Own (cells_at plain n.store a.spot)) in
       let is : cells_at plain n.store a.spot ≡ w.0 = ap Rattle.sp_code.specs.Memory.cells_in w.1 in
       record {
         own = subst IsOwnPiece (sym here) tt;
-        in_range = (subst Rattle.sp_cell.specs.Map.IsPiece (sym here) tt, subst (λ o. a.offset + length es ≤ length (cells_of o)) (sym here) (subst (λ cs. a.offset + length es ≤ length cs) (sym is) (subst (λ j. a.offset + j ≤ length w.0) (sym many) w.2)));
+        in_range = (
+          subst Rattle.sp_cell.specs.Map.IsPiece (sym here) tt,
+          subst (λ o. a.offset + length es ≤ length (cells_of o)) (sym here)
+              (subst (λ cs. a.offset + length es ≤ length cs) (sym is)
+              (subst (λ j. a.offset + j ≤ length w.0) (sym many) w.2)),
+        );
       }
 
   keeping : HasKeeping (memory plain g) Any Every Takes
@@ -104,8 +113,11 @@ module _ (g : Setting) where
   }
 
   -- a turn that ends at an open
-  pub open_takes : (code : Parts) (c : m.Config (Memory Plain)) (p : Proc) → IsTurn (memory plain g) code c (Stopped (m.Opens p.target) (config_of p)) → (d : Cell) → CanPut p.store p.target (d ∷ [])
-  open_takes code c p turn d = (turn_does (memory plain g) code Any Every Takes keeping c (Stopped (m.Opens p.target) (config_of p)) (any_config c) turn).0.1 (d ∷ []) refl
+  pub open_takes : (code : Parts) (c : m.Config (Memory Plain)) (p : Proc)
+      → IsTurn (memory plain g) code c (Stopped (m.Opens p.target) (config_of p)) → (d : Cell)
+      → CanPut p.store p.target (d ∷ [])
+  open_takes code c p turn d = (turn_does (memory plain g) code Any Every Takes keeping c
+      (Stopped (m.Opens p.target) (config_of p)) (any_config c) turn).0.1 (d ∷ []) refl
 
 -- ---- no fault, or which
 
@@ -113,15 +125,18 @@ module _ (lim : Limits) (s : System Plain) (a : Address) (d : m.Config (Memory P
   pub open_full : nat_lt lim.entries (s.entries + 1) ≡ true → fault_of lim s (Stopped (m.Opens a) d) ≡ Some fault.F15
   open_full e = rw e refl
 
-  pub open_many : nat_lt lim.entries (s.entries + 1) ≡ false → nat_lt lim.channels (s.births.channels + 1) ≡ true → fault_of lim s (Stopped (m.Opens a) d) ≡ Some fault.F14
+  pub open_many : nat_lt lim.entries (s.entries + 1) ≡ false → nat_lt lim.channels (s.births.channels + 1) ≡ true
+      → fault_of lim s (Stopped (m.Opens a) d) ≡ Some fault.F14
   open_many e f = rw e (rw f refl)
 
-  pub open_fine : nat_lt lim.entries (s.entries + 1) ≡ false → nat_lt lim.channels (s.births.channels + 1) ≡ false → fault_of lim s (Stopped (m.Opens a) d) ≡ None
+  pub open_fine : nat_lt lim.entries (s.entries + 1) ≡ false → nat_lt lim.channels (s.births.channels + 1) ≡ false
+      → fault_of lim s (Stopped (m.Opens a) d) ≡ None
   open_fine e f = rw e (rw f refl)
 
 -- ---- a channel more
 
-more_at : {X Y : Type 0} (f : Option X → Y) (xs : List X) (y : X) → f (Some y) ≡ f None → (c : ℕ) → f (slice_get (xs ++ y ∷ []) c) ≡ f (slice_get xs c)
+more_at : {X Y : Type 0} (f : Option X → Y) (xs : List X) (y : X) → f (Some y) ≡ f None → (c : ℕ)
+    → f (slice_get (xs ++ y ∷ []) c) ≡ f (slice_get xs c)
 more_at f [] y e zero = e
 more_at f [] y e (suc c) = refl
 more_at f (x ∷ xs) y e zero = refl
@@ -135,13 +150,17 @@ is_pending : (o : Option (Option Pending)) (p : Pending) → pending_in o ≡ So
 is_pending None p e = absurd (cc e)
 is_pending (Some o) p e = ap (λ q. Some q) e
 
-module _ (x : Kernel) (k : IsKernel x) (p w : ℕ) (here : (control_of x).doing p ≡ Out w) (h : Handed) (is : h.stop ≡ stop.Open) (quiet : x.faulted ≡ false)
-    (fine : fault_of x.limits (system_of x) (Stopped (m.Opens h.proc.target) (config_of h.proc)) ≡ None) (r : Proc) (en : EntersAt h.proc (length x.channels) r) (number : h.proc.number ≡ p) (reads : h.proc.input.value ≡ (setting_of x).input) where
+module _ (x : Kernel) (k : IsKernel x) (p w : ℕ) (here : (control_of x).doing p ≡ Out w) (h : Handed)
+    (is : h.stop ≡ stop.Open) (quiet : x.faulted ≡ false)
+    (fine : fault_of x.limits (system_of x) (Stopped (m.Opens h.proc.target) (config_of h.proc)) ≡ None) (r : Proc)
+    (en : EntersAt h.proc (length x.channels) r) (number : h.proc.number ≡ p)
+    (reads : h.proc.input.value ≡ (setting_of x).input) where
   turn_is : turn_of h ≡ Stopped (m.Opens h.proc.target) (config_of h.proc)
   turn_is = ap (λ s. turn_by s h.proc) is
 
   event_is : event.Open ≡ event_of x.limits (system_of x) (turn_of h)
-  event_is = event_quiet x.limits (system_of x) (m.Opens h.proc.target) (config_of h.proc) quiet fine ∙ ap (event_of x.limits (system_of x)) (sym turn_is)
+  event_is = event_quiet x.limits (system_of x) (m.Opens h.proc.target) (config_of h.proc) quiet fine
+      ∙ ap (event_of x.limits (system_of x)) (sym turn_is)
 
   own : r.number ≡ p
   own = en.1 ∙ number
@@ -166,12 +185,15 @@ module _ (x : Kernel) (k : IsKernel x) (p w : ℕ) (here : (control_of x).doing 
   })
       ∙ ap (λ e. comes_back p e (control_of x)) event_is
 
-  channel_is : config_of r ≡ on_store (put_cell plain h.proc.target (cell.Channel (births x.journal.entries).channels)) (entered_now (config_of h.proc))
-  channel_is = en.0 ∙ ap (λ n. on_store (put_cell plain h.proc.target (cell.Channel n)) (entered_now (config_of h.proc))) k.channels
+  channel_is : config_of r ≡ on_store (put_cell plain h.proc.target (cell.Channel (births x.journal.entries).channels))
+      (entered_now (config_of h.proc))
+  channel_is = en.0 ∙ ap (λ n. on_store (put_cell plain h.proc.target (cell.Channel n))
+      (entered_now (config_of h.proc))) k.channels
 
   system : system_of opened ≡ after plain (setting_of x) p (turn_of h) (system_of x)
   system = (λ i. record (system_of x) {
-    condition = (next_condition x k p w here event.Open (slot.Here r st.Ready) ∙ ap (λ d. at_key ◌==◌ p (Working d) (system_of x).condition) channel_is) i;
+    condition = (next_condition x k p w here event.Open (slot.Here r st.Ready)
+        ∙ ap (λ d. at_key ◌==◌ p (Working d) (system_of x).condition) channel_is) i;
     pending = fun_ext {B = λ c. Option ℕ} (more_at process_in x.channels None refl) i;
     births = next_births x k p w here event.Open (slot.Here r st.Ready) i;
     entries = x.entries + 1;
@@ -179,8 +201,10 @@ module _ (x : Kernel) (k : IsKernel x) (p w : ℕ) (here : (control_of x).doing 
       ∙ after_quiet (setting_of x) (system_of x) p (m.Opens h.proc.target) (config_of h.proc) quiet fine
       ∙ ap (λ t. after plain (setting_of x) p t (system_of x)) (sym turn_is)
 
-  offers : (c : ℕ) (o : Pending) → slice_get (x.channels ++ None ∷ []) c ≡ Some (Some o) → WaitsAs (slice_get (slice_set x.slots p (slot.Here r st.Ready)) o.process) c o
-  offers c o e = same_offers x k p w here (slot.Here r st.Ready) c o (is_pending (slice_get x.channels c) o (sym (more_at pending_in x.channels None refl c) ∙ ap pending_in e))
+  offers : (c : ℕ) (o : Pending) → slice_get (x.channels ++ None ∷ []) c ≡ Some (Some o)
+      → WaitsAs (slice_get (slice_set x.slots p (slot.Here r st.Ready)) o.process) c o
+  offers c o e = same_offers x k p w here (slot.Here r st.Ready) c o
+      (is_pending (slice_get x.channels c) o (sym (more_at pending_in x.channels None refl c) ∙ ap pending_in e))
 
   gave : Gave x p h opened
   gave = record {
@@ -189,9 +213,13 @@ module _ (x : Kernel) (k : IsKernel x) (p w : ℕ) (here : (control_of x).doing 
     setting = (refl, refl, refl);
     entry = ap (λ e. x.journal.entries ++ record { process = p; event = e } ∷ []) event_is;
     whole = whole_after x k p w here h opened control system
-        (length-set x.slots p _ ∙ k.processes ∙ ap (λ (b : Births). b.processes) (sym (next_births x k p w here event.Open (slot.Here r st.Ready))))
-        (length-append x.channels (None ∷ []) ∙ ap (λ n. n + 1) k.channels ∙ ap (λ (b : Births). b.channels) (sym (next_births x k p w here event.Open (slot.Here r st.Ready))))
-        offers (same_numbers x k p w here (slot.Here r st.Ready) (own, en.2 ∙ reads)) (parents_after x k p w here x.parents event.Open (record { count = k.parents.count; each = k.parents.each }));
+        (length-set x.slots p _ ∙ k.processes
+        ∙ ap (λ (b : Births). b.processes) (sym (next_births x k p w here event.Open (slot.Here r st.Ready))))
+        (length-append x.channels (None ∷ []) ∙ ap (λ n. n + 1) k.channels
+        ∙ ap (λ (b : Births). b.channels) (sym (next_births x k p w here event.Open (slot.Here r st.Ready))))
+        offers (same_numbers x k p w here (slot.Here r st.Ready) (own, en.2 ∙ reads))
+        (parents_after x k p w here x.parents event.Open
+        (record { count = k.parents.count; each = k.parents.each }));
   }
 
   pub gave_open : Gave x p h (opens r x)

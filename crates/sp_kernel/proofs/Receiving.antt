@@ -1,5 +1,7 @@
 -- An offer to receive: it waits, it meets, or it is a fault. It leads from `specs/Receives.antt` to `Gave`.
-use Rattle.std.proofs.Common.{◌≡◌, ◌≢◌, ◌⊎◌, ℕ, ◌+◌, ◌-◌, ◌<◌, ◌==◌, inl, inr, Bool, true, false, if◌then◌else◌, nat_lt, List, [], ◌∷◌, ◌++◌, length, Option, Some, None, slice_get, slice_set, refl, sym, ap, ◌∙◌, subst}
+use Rattle.std.proofs.Common.{◌≡◌, ◌≢◌, ◌⊎◌, ℕ, ◌+◌, ◌-◌, ◌<◌, ◌==◌, inl, inr, Bool, true, false, if◌then◌else◌, nat_lt}
+use Rattle.std.proofs.Common.{List, [], ◌∷◌, ◌++◌, length, Option, Some, None, slice_get, slice_set, refl, sym, ap, ◌∙◌}
+use Rattle.std.proofs.Common.{subst}
 use Rattle.std.proofs.lemmas.List.{length-set}
 use Rattle.std.proofs.lemmas.Option.{slice_get_within}
 use Rattle.sp_base.specs.declared.limits.Limits.{Limits}
@@ -20,7 +22,8 @@ use Rattle.sp_code.specs.PlainStore.{plain}
 use Rattle.sp_code.specs.Turns.{Stopped, IsTurn}
 use Rattle.sp_code.specs.Sound.{StopsAt}
 use Rattle.sp_code.specs.Control.{Out, Receiving, comes_back, offers}
-use Rattle.sp_code.specs.System.{System, Working, Waits, after, event_of, entered_now, on_store, fault_of, taken, received, message_of, counted, clash_by, pending_stop, stop_of}
+use Rattle.sp_code.specs.System.{System, Working, Waits, after, event_of, entered_now, on_store, fault_of, taken}
+use Rattle.sp_code.specs.System.{received, message_of, counted, clash_by, pending_stop, stop_of}
 use Rattle.sp_kernel.specs.declared.slot.Slot.{Slot}
 use Rattle.sp_kernel.specs.declared.slot.Slot.TheVariants as slot
 use Rattle.sp_kernel.specs.declared.slot.State.TheVariants as st
@@ -29,12 +32,14 @@ use Rattle.sp_kernel.specs.declared.handed.Handed.{Handed}
 use Rattle.sp_machine.specs.declared.state.Stop.TheVariants as stop
 use Rattle.sp_kernel.specs.declared.kernel.Kernel.{Kernel}
 use Rattle.sp_kernel.specs.Procs.{config_of, turn_by, turn_of, Enters}
-use Rattle.sp_kernel.specs.Kernels.{doing_in, condition_in, offer_in, process_in, control_of, system_of, setting_of, WaitsAs, IsOwn, NumberIn, IsKernel, Gave}
+use Rattle.sp_kernel.specs.Kernels.{doing_in, condition_in, offer_in, process_in, control_of, system_of, setting_of}
+use Rattle.sp_kernel.specs.Kernels.{WaitsAs, IsOwn, NumberIn, IsKernel, Gave}
 use Rattle.sp_kernel.specs.Receives.{waits_to_receive, meets_receiving, IsSender, IsSenderWith, EntersWith}
 use Rattle.sp_kernel.specs.Fits.{Fits}
 use Rattle.sp_history.proofs.Queues.{number_or}
 use Rattle.sp_kernel.proofs.Tables.{table_set}
-use Rattle.sp_kernel.proofs.Giving.{event_quiet, after_quiet, whole_after, there, no_waiter, next_doing, next_condition, next_births, same_numbers, parents_after}
+use Rattle.sp_kernel.proofs.Giving.{event_quiet, after_quiet, whole_after, there, no_waiter, next_doing, next_condition}
+use Rattle.sp_kernel.proofs.Giving.{next_births, same_numbers, parents_after}
 
 -- ---- no fault, or which
 
@@ -42,19 +47,24 @@ abbrev pub full : Limits → ℕ → Bool
 full lim n = nat_lt lim.entries (n + 1)
 
 module _ (lim : Limits) (s : System Plain) (c k : ℕ) (a : Address) (d : m.Config (Memory Plain)) where
-  pub full_fault : nat_lt lim.entries (s.entries + 1) ≡ true → fault_of lim s (Stopped (m.Receives c k a) d) ≡ Some fault.F15
+  pub full_fault : nat_lt lim.entries (s.entries + 1) ≡ true
+      → fault_of lim s (Stopped (m.Receives c k a) d) ≡ Some fault.F15
   full_fault e = rw e refl
 
-  pub clash_fault : nat_lt lim.entries (s.entries + 1) ≡ false → fault_of lim s (Stopped (m.Receives c k a) d) ≡ clash_by way.Receive k (pending_stop s (s.pending c))
+  pub clash_fault : nat_lt lim.entries (s.entries + 1) ≡ false
+      → fault_of lim s (Stopped (m.Receives c k a) d) ≡ clash_by way.Receive k (pending_stop s (s.pending c))
   clash_fault e = rw e refl
 
 module _ (x : Kernel) (k : IsKernel x) (p w : ℕ) (here : (control_of x).doing p ≡ Out w) (h : Handed) (c j : ℕ)
-    (is : h.stop ≡ stop.Receive c j) (quiet : x.faulted ≡ false) (fine : fault_of x.limits (system_of x) (Stopped (m.Receives c j h.proc.target) (config_of h.proc)) ≡ None) (number : h.proc.number ≡ p) (reads : h.proc.input.value ≡ (setting_of x).input) where
+    (is : h.stop ≡ stop.Receive c j) (quiet : x.faulted ≡ false)
+    (fine : fault_of x.limits (system_of x) (Stopped (m.Receives c j h.proc.target) (config_of h.proc)) ≡ None)
+    (number : h.proc.number ≡ p) (reads : h.proc.input.value ≡ (setting_of x).input) where
   turn_is : turn_of h ≡ Stopped (m.Receives c j h.proc.target) (config_of h.proc)
   turn_is = ap (λ s. turn_by s h.proc) is
 
   event_is : event.Receive c ≡ event_of x.limits (system_of x) (turn_of h)
-  event_is = event_quiet x.limits (system_of x) (m.Receives c j h.proc.target) (config_of h.proc) quiet fine ∙ ap (event_of x.limits (system_of x)) (sym turn_is)
+  event_is = event_quiet x.limits (system_of x) (m.Receives c j h.proc.target) (config_of h.proc) quiet fine
+      ∙ ap (event_of x.limits (system_of x)) (sym turn_is)
 
   -- nothing is pending: it waits
   module _ (r : Proc) (en : Enters h.proc r) (free : slice_get x.channels c ≡ Some None) where
@@ -77,24 +87,33 @@ module _ (x : Kernel) (k : IsKernel x) (p w : ℕ) (here : (control_of x).doing 
     first_control = (λ i. record (control_of x) {
       doing = next_doing x k p w here (event.Receive c) (slot.Here r (st.Receiving c j)) i;
       out = x.out - 1;
-      pending = table_set offer_in x.channels c (Some (record { way = way.Receive; process = p; message = j })) (slice_get_within x.channels c None free) i;
+      pending = table_set offer_in x.channels c (Some (record { way = way.Receive; process = p; message = j }))
+          (slice_get_within x.channels c None free) i;
       births = next_births x k p w here (event.Receive c) (slot.Here r (st.Receiving c j)) i;
     })
-        ∙ ap (λ (o : Option (Way × ℕ)). record (offers way.Receive (Receiving c) p c o (control_of x)) { out = x.out - 1; births = births x.journal.entries }) (sym (ap offer_in free))
+        ∙ ap (λ (o : Option (Way × ℕ)). record (offers way.Receive (Receiving c) p c o (control_of x))
+        { out = x.out - 1; births = births x.journal.entries }) (sym (ap offer_in free))
         ∙ ap (λ e. comes_back p e (control_of x)) event_is
 
     first_system : system_of first ≡ after plain (setting_of x) p (turn_of h) (system_of x)
     first_system = (λ i. record (system_of x) {
-      condition = (next_condition x k p w here (event.Receive c) (slot.Here r (st.Receiving c j)) ∙ ap (λ a. at_key ◌==◌ p (Waits (m.Receives c j a) (config_of r)) (system_of x).condition) en.2 ∙ ap (λ d. at_key ◌==◌ p (Waits (m.Receives c j h.proc.target) d) (system_of x).condition) en.0) i;
-      pending = table_set process_in x.channels c (Some (record { way = way.Receive; process = p; message = j })) (slice_get_within x.channels c None free) i;
+      condition = (next_condition x k p w here (event.Receive c) (slot.Here r (st.Receiving c j))
+          ∙ ap (λ a. at_key ◌==◌ p (Waits (m.Receives c j a) (config_of r)) (system_of x).condition) en.2
+          ∙ ap (λ d. at_key ◌==◌ p (Waits (m.Receives c j h.proc.target) d) (system_of x).condition) en.0) i;
+      pending = table_set process_in x.channels c (Some (record { way = way.Receive; process = p; message = j }))
+          (slice_get_within x.channels c None free) i;
       births = next_births x k p w here (event.Receive c) (slot.Here r (st.Receiving c j)) i;
       entries = x.entries + 1;
     })
-        ∙ ap (λ (o : Option ℕ). record (counted plain (setting_of x) (taken plain (setting_of x) p (m.Receives c j h.proc.target) c h.proc.target (entered_now (config_of h.proc)) o (system_of x))) { births = births x.journal.entries }) (sym (ap process_in free))
+        ∙ ap (λ (o : Option ℕ). record (counted plain (setting_of x)
+        (taken plain (setting_of x) p (m.Receives c j h.proc.target) c h.proc.target
+        (entered_now (config_of h.proc)) o (system_of x))) { births = births x.journal.entries })
+        (sym (ap process_in free))
         ∙ after_quiet (setting_of x) (system_of x) p (m.Receives c j h.proc.target) (config_of h.proc) quiet fine
         ∙ ap (λ t. after plain (setting_of x) p t (system_of x)) (sym turn_is)
 
-    first_offers : (d : ℕ) (o : Pending) → slice_get first.channels d ≡ Some (Some o) → WaitsAs (slice_get first.slots o.process) d o
+    first_offers : (d : ℕ) (o : Pending) → slice_get first.channels d ≡ Some (Some o)
+        → WaitsAs (slice_get first.slots o.process) d o
     first_offers d o e = go (number_or c d)
       where
         some_is : {a b : Pending} → Some (Some a) ≡ Some (Some b) → a ≡ b
@@ -102,13 +121,19 @@ module _ (x : Kernel) (k : IsKernel x) (p w : ℕ) (here : (control_of x).doing 
 
         go : (c ≡ d) ⊎ ((c ≢ d) × (c == d ≡ false)) → WaitsAs (slice_get first.slots o.process) d o
         go (inl f) =
-            let at : slice_get first.channels d ≡ Some (Some (record { way = way.Receive; process = p; message = j })) = subst (λ n. slice_get first.channels n ≡ Some (Some (record { way = way.Receive; process = p; message = j }))) f (get_where_set x.channels c _ (slice_get_within x.channels c None free)) in
-            let same : ◌≡◌ {A = Pending} (record { way = way.Receive; process = p; message = j }) o = some_is (sym at ∙ e) in
+            let at : slice_get first.channels d ≡ Some (Some (record { way = way.Receive; process = p; message = j })) =
+            subst (λ n. slice_get first.channels n
+            ≡ Some (Some (record { way = way.Receive; process = p; message = j }))) f
+            (get_where_set x.channels c _ (slice_get_within x.channels c None free)) in
+            let same : ◌≡◌ {A = Pending} (record { way = way.Receive; process = p; message = j }) o =
+            some_is (sym at ∙ e) in
             subst (λ (q : Pending). WaitsAs (slice_get first.slots q.process) d q) same
-            (subst (λ s. WaitsAs s d (record { way = way.Receive; process = p; message = j })) (sym (get_where_set x.slots p (slot.Here r (st.Receiving c j)) (there x k p w here))) (f, refl, refl))
+            (subst (λ s. WaitsAs s d (record { way = way.Receive; process = p; message = j }))
+            (sym (get_where_set x.slots p (slot.Here r (st.Receiving c j)) (there x k p w here))) (f, refl, refl))
         go (inr f) =
             let old : slice_get x.channels d ≡ Some (Some o) = sym (get_beside_set x.channels c d _ f.0) ∙ e in
-            subst (λ t. WaitsAs t d o) (sym (get_beside_set x.slots p o.process _ (λ q. no_waiter x k p w here d o old (sym q)))) (k.offers d o old)
+            subst (λ t. WaitsAs t d o) (sym (get_beside_set x.slots p o.process _
+            (λ q. no_waiter x k p w here d o old (sym q)))) (k.offers d o old)
 
     first_gave : Gave x p h first
     first_gave = record {
@@ -117,9 +142,14 @@ module _ (x : Kernel) (k : IsKernel x) (p w : ℕ) (here : (control_of x).doing 
       setting = (refl, refl, refl);
       entry = ap (λ e. x.journal.entries ++ record { process = p; event = e } ∷ []) event_is;
       whole = whole_after x k p w here h first first_control first_system
-          (length-set x.slots p _ ∙ k.processes ∙ ap (λ (b : Births). b.processes) (sym (next_births x k p w here (event.Receive c) (slot.Here r (st.Receiving c j)))))
-          (length-set x.channels c _ ∙ k.channels ∙ ap (λ (b : Births). b.channels) (sym (next_births x k p w here (event.Receive c) (slot.Here r (st.Receiving c j)))))
-          first_offers (same_numbers x k p w here (slot.Here r (st.Receiving c j)) its_first) (parents_after x k p w here x.parents (event.Receive c) k.parents);
+          (length-set x.slots p _ ∙ k.processes
+          ∙ ap (λ (b : Births). b.processes)
+          (sym (next_births x k p w here (event.Receive c) (slot.Here r (st.Receiving c j)))))
+          (length-set x.channels c _ ∙ k.channels
+          ∙ ap (λ (b : Births). b.channels)
+          (sym (next_births x k p w here (event.Receive c) (slot.Here r (st.Receiving c j)))))
+          first_offers (same_numbers x k p w here (slot.Here r (st.Receiving c j)) its_first)
+          (parents_after x k p w here x.parents (event.Receive c) k.parents);
     }
 
     pub gave_first : Gave x p h (waits_to_receive r c j x)
@@ -132,7 +162,9 @@ module _ (x : Kernel) (k : IsKernel x) (p w : ℕ) (here : (control_of x).doing 
     })) (sym own_first) first_gave
 
   -- an offer to send is pending: it meets
-  module _ (z : ℕ) (pending : slice_get x.channels c ≡ Some (Some (record { way = way.Send; process = z; message = j }))) (t r : Proc) (cs : List Cell) (gives : IsSenderWith (slice_get x.slots z) t cs) (en : EntersWith h.proc cs r) where
+  module _ (z : ℕ) (pending : slice_get x.channels c
+      ≡ Some (Some (record { way = way.Send; process = z; message = j }))) (t r : Proc) (cs : List Cell)
+      (gives : IsSenderWith (slice_get x.slots z) t cs) (en : EntersWith h.proc cs r) where
     own : r.number ≡ p
     own = en.1 ∙ number
 
@@ -155,14 +187,16 @@ module _ (x : Kernel) (k : IsKernel x) (p w : ℕ) (here : (control_of x).doing 
     z_there : z < length x.slots
     z_there = go (slice_get x.slots z) refl at_z
       where
-        go : (o : Option Slot) → slice_get x.slots z ≡ o → WaitsAs o c (record { way = way.Send; process = z; message = j }) → z < length x.slots
+        go : (o : Option Slot) → slice_get x.slots z ≡ o
+            → WaitsAs o c (record { way = way.Send; process = z; message = j }) → z < length x.slots
         go None e f = absurd f
         go (Some s) e f = slice_get_within x.slots z s e
 
     received_is : received plain (setting_of x) [] (condition_in (slice_get x.slots z)) ≡ Working (config_of t)
     received_is = go (slice_get x.slots z) gives
       where
-        go : (o : Option Slot) → IsSenderWith o t cs → received plain (setting_of x) [] (condition_in o) ≡ Working (config_of t)
+        go : (o : Option Slot) → IsSenderWith o t cs
+            → received plain (setting_of x) [] (condition_in o) ≡ Working (config_of t)
         go None e = absurd e
         go (Some (slot.Here q st.Ready)) e = absurd e
         go (Some (slot.Out v q)) e = absurd e
@@ -192,11 +226,20 @@ module _ (x : Kernel) (k : IsKernel x) (p w : ℕ) (here : (control_of x).doing 
     p_there : p < length (slice_set x.slots z (slot.Here t st.Ready))
     p_there = subst (λ n. p < n) (sym (length-set x.slots z (slot.Here t st.Ready))) (there x k p w here)
 
-    both_set : {X : Type 0} (f : Option Slot → X) → ◌≡◌ {A = ℕ → X} (λ q. f (slice_get (slice_set (slice_set x.slots z (slot.Here t st.Ready)) p (slot.Here r st.Ready)) q)) (at_key ◌==◌ p (f (Some (slot.Here r st.Ready))) (at_key ◌==◌ z (f (Some (slot.Here t st.Ready))) (λ q. f (slice_get x.slots q))))
-    both_set f = table_set f (slice_set x.slots z (slot.Here t st.Ready)) p (slot.Here r st.Ready) p_there ∙ ap (λ n. at_key ◌==◌ p (f (Some (slot.Here r st.Ready))) n) (table_set f x.slots z (slot.Here t st.Ready) z_there)
+    both_set : {X : Type 0} (f : Option Slot → X)
+        → ◌≡◌ {A = ℕ → X} (λ q. f (slice_get
+        (slice_set (slice_set x.slots z (slot.Here t st.Ready)) p (slot.Here r st.Ready)) q))
+        (at_key ◌==◌ p (f (Some (slot.Here r st.Ready)))
+        (at_key ◌==◌ z (f (Some (slot.Here t st.Ready))) (λ q. f (slice_get x.slots q))))
+    both_set f = table_set f (slice_set x.slots z (slot.Here t st.Ready)) p (slot.Here r st.Ready) p_there
+        ∙ ap (λ n. at_key ◌==◌ p (f (Some (slot.Here r st.Ready))) n)
+        (table_set f x.slots z (slot.Here t st.Ready) z_there)
 
-  module _ (z : ℕ) (pending : slice_get x.channels c ≡ Some (Some (record { way = way.Send; process = z; message = j }))) (t r : Proc) (cs : List Cell) (gives : IsSenderWith (slice_get x.slots z) t cs) (en : EntersWith h.proc cs r) where
-    met_control : control_of (met z pending t r cs gives en) ≡ comes_back p (event_of x.limits (system_of x) (turn_of h)) (control_of x)
+  module _ (z : ℕ) (pending : slice_get x.channels c
+      ≡ Some (Some (record { way = way.Send; process = z; message = j }))) (t r : Proc) (cs : List Cell)
+      (gives : IsSenderWith (slice_get x.slots z) t cs) (en : EntersWith h.proc cs r) where
+    met_control : control_of (met z pending t r cs gives en)
+        ≡ comes_back p (event_of x.limits (system_of x) (turn_of h)) (control_of x)
     unfolding met
     met_control = (λ i. record (control_of x) {
       doing = both_set z pending t r cs gives en doing_in i;
@@ -205,7 +248,8 @@ module _ (x : Kernel) (k : IsKernel x) (p w : ℕ) (here : (control_of x).doing 
       pending = table_set offer_in x.channels c None (slice_get_within x.channels c _ pending) i;
       births = next_births x k p w here (event.Receive c) (slot.Here r st.Ready) i;
     })
-        ∙ ap (λ (o : Option (Way × ℕ)). record (offers way.Receive (Receiving c) p c o (control_of x)) { out = x.out - 1; births = births x.journal.entries }) (sym (ap offer_in pending))
+        ∙ ap (λ (o : Option (Way × ℕ)). record (offers way.Receive (Receiving c) p c o (control_of x))
+        { out = x.out - 1; births = births x.journal.entries }) (sym (ap offer_in pending))
         ∙ ap (λ e. comes_back p e (control_of x)) event_is
 
     met_system : system_of (met z pending t r cs gives en) ≡ after plain (setting_of x) p (turn_of h) (system_of x)
@@ -213,17 +257,29 @@ module _ (x : Kernel) (k : IsKernel x) (p w : ℕ) (here : (control_of x).doing 
     met_system = (λ i. record (system_of x) {
       condition = (both_set z pending t r cs gives en condition_in
           ∙ ap (λ d. at_key ◌==◌ p (Working d) (at_key ◌==◌ z (Working (config_of t)) (system_of x).condition)) en.0
-          ∙ ap (λ bs. at_key ◌==◌ p (Working (on_store (put_cells plain h.proc.target bs) (entered_now (config_of h.proc)))) (at_key ◌==◌ z (Working (config_of t)) (system_of x).condition)) (sym (message_is z pending t r cs gives en))
-          ∙ ap (λ y. at_key ◌==◌ p (Working (on_store (put_cells plain h.proc.target (message_of plain (setting_of x) (stop_of (condition_in (slice_get x.slots z))))) (entered_now (config_of h.proc)))) (at_key ◌==◌ z y (system_of x).condition)) (sym (received_is z pending t r cs gives en))) i;
+          ∙ ap (λ bs. at_key ◌==◌ p (Working
+          (on_store (put_cells plain h.proc.target bs) (entered_now (config_of h.proc))))
+          (at_key ◌==◌ z (Working (config_of t)) (system_of x).condition))
+          (sym (message_is z pending t r cs gives en))
+          ∙ ap (λ y. at_key ◌==◌ p (Working (on_store
+          (put_cells plain h.proc.target
+          (message_of plain (setting_of x) (stop_of (condition_in (slice_get x.slots z)))))
+          (entered_now (config_of h.proc)))) (at_key ◌==◌ z y (system_of x).condition))
+          (sym (received_is z pending t r cs gives en))) i;
       pending = table_set process_in x.channels c None (slice_get_within x.channels c _ pending) i;
       births = next_births x k p w here (event.Receive c) (slot.Here r st.Ready) i;
       entries = x.entries + 1;
     })
-        ∙ ap (λ (o : Option ℕ). record (counted plain (setting_of x) (taken plain (setting_of x) p (m.Receives c j h.proc.target) c h.proc.target (entered_now (config_of h.proc)) o (system_of x))) { births = births x.journal.entries }) (sym (ap process_in pending))
+        ∙ ap (λ (o : Option ℕ). record (counted plain (setting_of x)
+        (taken plain (setting_of x) p (m.Receives c j h.proc.target) c h.proc.target
+        (entered_now (config_of h.proc)) o (system_of x))) { births = births x.journal.entries })
+        (sym (ap process_in pending))
         ∙ after_quiet (setting_of x) (system_of x) p (m.Receives c j h.proc.target) (config_of h.proc) quiet fine
         ∙ ap (λ t. after plain (setting_of x) p t (system_of x)) (sym turn_is)
 
-    met_offers : (d : ℕ) (o : Pending) → slice_get (slice_set x.channels c None) d ≡ Some (Some o) → WaitsAs (slice_get (slice_set (slice_set x.slots z (slot.Here t st.Ready)) p (slot.Here r st.Ready)) o.process) d o
+    met_offers : (d : ℕ) (o : Pending) → slice_get (slice_set x.channels c None) d ≡ Some (Some o)
+        → WaitsAs (slice_get (slice_set (slice_set x.slots z (slot.Here t st.Ready)) p (slot.Here r st.Ready))
+        o.process) d o
     met_offers d o e = go (number_or c d)
       where
         one_channel : (s : Option Slot) (a b : Pending) → WaitsAs s c a → WaitsAs s d b → c ≡ d
@@ -238,19 +294,28 @@ module _ (x : Kernel) (k : IsKernel x) (p w : ℕ) (here : (control_of x).doing 
         one_channel (Some (slot.Here q st.Over)) a b e f = absurd e
         one_channel (Some (slot.Gone q)) a b e f = absurd e
 
-        go : (c ≡ d) ⊎ ((c ≢ d) × (c == d ≡ false)) → WaitsAs (slice_get (slice_set (slice_set x.slots z (slot.Here t st.Ready)) p (slot.Here r st.Ready)) o.process) d o
+        go : (c ≡ d) ⊎ ((c ≢ d) × (c == d ≡ false))
+            → WaitsAs (slice_get (slice_set (slice_set x.slots z (slot.Here t st.Ready)) p (slot.Here r st.Ready))
+            o.process) d o
         go (inl f) =
-            let at : slice_get (slice_set x.channels c None) d ≡ Some None = subst (λ n. slice_get (slice_set x.channels c None) n ≡ Some None) f (get_where_set x.channels c None (slice_get_within x.channels c _ pending)) in
+            let at : slice_get (slice_set x.channels c None) d ≡ Some None =
+            subst (λ n. slice_get (slice_set x.channels c None) n ≡ Some None) f
+            (get_where_set x.channels c None (slice_get_within x.channels c _ pending)) in
             absurd (cc (at, e))
         go (inr f) =
             let old : slice_get x.channels d ≡ Some (Some o) = sym (get_beside_set x.channels c d None f.0) ∙ e in
-            let not_z : z ≢ o.process = λ q. f.0 (one_channel (slice_get x.slots z) _ o (at_z z pending t r cs gives en) (subst (λ n. WaitsAs (slice_get x.slots n) d o) (sym q) (k.offers d o old))) in
-            subst (λ s. WaitsAs s d o) (sym (get_beside_set (slice_set x.slots z (slot.Here t st.Ready)) p o.process (slot.Here r st.Ready) (λ q. no_waiter x k p w here d o old (sym q)) ∙ get_beside_set x.slots z o.process (slot.Here t st.Ready) not_z)) (k.offers d o old)
+            let not_z : z ≢ o.process = λ q. f.0
+            (one_channel (slice_get x.slots z) _ o (at_z z pending t r cs gives en)
+            (subst (λ n. WaitsAs (slice_get x.slots n) d o) (sym q) (k.offers d o old))) in
+            subst (λ s. WaitsAs s d o) (sym (get_beside_set (slice_set x.slots z (slot.Here t st.Ready)) p o.process
+            (slot.Here r st.Ready) (λ q. no_waiter x k p w here d o old (sym q))
+            ∙ get_beside_set x.slots z o.process (slot.Here t st.Ready) not_z)) (k.offers d o old)
 
     got_number : IsOwn (setting_of x).input t z
     got_number = go (slice_get x.slots z) gives (k.numbers z)
       where
-        go : (o : Option Slot) → IsSenderWith o t cs → NumberIn (setting_of x).input o z → IsOwn (setting_of x).input t z
+        go : (o : Option Slot) → IsSenderWith o t cs → NumberIn (setting_of x).input o z
+            → IsOwn (setting_of x).input t z
         go None e n = absurd e
         go (Some (slot.Here q st.Ready)) e n = absurd e
         go (Some (slot.Out v q)) e n = absurd e
@@ -262,13 +327,26 @@ module _ (x : Kernel) (k : IsKernel x) (p w : ℕ) (here : (control_of x).doing 
         go (Some (slot.Here q st.Over)) e n = absurd e
         go (Some (slot.Gone q)) e n = absurd e
 
-    met_numbers : (q : ℕ) → NumberIn (setting_of x).input (slice_get (slice_set (slice_set x.slots z (slot.Here t st.Ready)) p (slot.Here r st.Ready)) q) q
+    met_numbers : (q : ℕ) → NumberIn (setting_of x).input
+        (slice_get (slice_set (slice_set x.slots z (slot.Here t st.Ready)) p (slot.Here r st.Ready)) q) q
     met_numbers q = go (number_or p q) (number_or z q)
       where
-        go : (p ≡ q) ⊎ ((p ≢ q) × (p == q ≡ false)) → (z ≡ q) ⊎ ((z ≢ q) × (z == q ≡ false)) → NumberIn (setting_of x).input (slice_get (slice_set (slice_set x.slots z (slot.Here t st.Ready)) p (slot.Here r st.Ready)) q) q
-        go (inl is) o = subst (λ i. NumberIn (setting_of x).input (slice_get (slice_set (slice_set x.slots z (slot.Here t st.Ready)) p (slot.Here r st.Ready)) i) i) is (subst (λ s. NumberIn (setting_of x).input s p) (sym (get_where_set (slice_set x.slots z (slot.Here t st.Ready)) p (slot.Here r st.Ready) (p_there z pending t r cs gives en))) (its z pending t r cs gives en))
-        go (inr n) (inl is) = subst (λ s. NumberIn (setting_of x).input s q) (sym (get_beside_set (slice_set x.slots z (slot.Here t st.Ready)) p q (slot.Here r st.Ready) n.0)) (subst (λ i. NumberIn (setting_of x).input (slice_get (slice_set x.slots z (slot.Here t st.Ready)) i) i) is (subst (λ s. NumberIn (setting_of x).input s z) (sym (get_where_set x.slots z (slot.Here t st.Ready) (z_there z pending t r cs gives en))) got_number))
-        go (inr n) (inr o) = subst (λ s. NumberIn (setting_of x).input s q) (sym (get_beside_set (slice_set x.slots z (slot.Here t st.Ready)) p q (slot.Here r st.Ready) n.0 ∙ get_beside_set x.slots z q (slot.Here t st.Ready) o.0)) (k.numbers q)
+        go : (p ≡ q) ⊎ ((p ≢ q) × (p == q ≡ false)) → (z ≡ q) ⊎ ((z ≢ q) × (z == q ≡ false))
+            → NumberIn (setting_of x).input (slice_get
+            (slice_set (slice_set x.slots z (slot.Here t st.Ready)) p (slot.Here r st.Ready)) q) q
+        go (inl is) o = subst (λ i. NumberIn (setting_of x).input
+            (slice_get (slice_set (slice_set x.slots z (slot.Here t st.Ready)) p (slot.Here r st.Ready)) i) i) is
+            (subst (λ s. NumberIn (setting_of x).input s p)
+            (sym (get_where_set (slice_set x.slots z (slot.Here t st.Ready)) p (slot.Here r st.Ready)
+            (p_there z pending t r cs gives en))) (its z pending t r cs gives en))
+        go (inr n) (inl is) = subst (λ s. NumberIn (setting_of x).input s q)
+            (sym (get_beside_set (slice_set x.slots z (slot.Here t st.Ready)) p q (slot.Here r st.Ready) n.0))
+            (subst (λ i. NumberIn (setting_of x).input (slice_get (slice_set x.slots z (slot.Here t st.Ready)) i) i) is
+            (subst (λ s. NumberIn (setting_of x).input s z)
+            (sym (get_where_set x.slots z (slot.Here t st.Ready) (z_there z pending t r cs gives en))) got_number))
+        go (inr n) (inr o) = subst (λ s. NumberIn (setting_of x).input s q)
+            (sym (get_beside_set (slice_set x.slots z (slot.Here t st.Ready)) p q (slot.Here r st.Ready) n.0
+            ∙ get_beside_set x.slots z q (slot.Here t st.Ready) o.0)) (k.numbers q)
 
     met_gave : Gave x p h (met z pending t r cs gives en)
     unfolding met
@@ -278,8 +356,12 @@ module _ (x : Kernel) (k : IsKernel x) (p w : ℕ) (here : (control_of x).doing 
       setting = (refl, refl, refl);
       entry = ap (λ e. x.journal.entries ++ record { process = p; event = e } ∷ []) event_is;
       whole = whole_after x k p w here h (met z pending t r cs gives en) met_control met_system
-          (length-set (slice_set x.slots z (slot.Here t st.Ready)) p _ ∙ length-set x.slots z _ ∙ k.processes ∙ ap (λ (b : Births). b.processes) (sym (next_births x k p w here (event.Receive c) (slot.Here r st.Ready))))
-          (length-set x.channels c _ ∙ k.channels ∙ ap (λ (b : Births). b.channels) (sym (next_births x k p w here (event.Receive c) (slot.Here r st.Ready))))
+          (length-set (slice_set x.slots z (slot.Here t st.Ready)) p _ ∙ length-set x.slots z _ ∙ k.processes
+          ∙ ap (λ (b : Births). b.processes)
+          (sym (next_births x k p w here (event.Receive c) (slot.Here r st.Ready))))
+          (length-set x.channels c _ ∙ k.channels
+          ∙ ap (λ (b : Births). b.channels)
+          (sym (next_births x k p w here (event.Receive c) (slot.Here r st.Ready))))
           met_offers met_numbers (parents_after x k p w here x.parents (event.Receive c) k.parents);
     }
 
@@ -296,7 +378,8 @@ module _ (x : Kernel) (k : IsKernel x) (p w : ℕ) (here : (control_of x).doing 
 
 -- ---- the fault of an offer, by what is pending
 
-pub clash_same : (o : Option Slot) (c k : ℕ) (q : Pending) → WaitsAs o c q → q.way ≡ way.Receive → clash_by way.Receive k (stop_of (condition_in o)) ≡ Some fault.F6
+pub clash_same : (o : Option Slot) (c k : ℕ) (q : Pending) → WaitsAs o c q → q.way ≡ way.Receive
+    → clash_by way.Receive k (stop_of (condition_in o)) ≡ Some fault.F6
 clash_same None c k q e f = absurd e
 clash_same (Some (slot.Here r st.Ready)) c k q e f = absurd e
 clash_same (Some (slot.Out v r)) c k q e f = absurd e
@@ -308,7 +391,8 @@ clash_same (Some slot.Ended) c k q e f = absurd e
 clash_same (Some (slot.Here r st.Over)) c k q e f = absurd e
 clash_same (Some (slot.Gone r)) c k q e f = absurd e
 
-pub clash_other : (o : Option Slot) (c k : ℕ) (q : Pending) → WaitsAs o c q → q.way ≡ way.Send → clash_by way.Receive k (stop_of (condition_in o)) ≡ (if q.message == k then None else Some fault.F7)
+pub clash_other : (o : Option Slot) (c k : ℕ) (q : Pending) → WaitsAs o c q → q.way ≡ way.Send
+    → clash_by way.Receive k (stop_of (condition_in o)) ≡ (if q.message == k then None else Some fault.F7)
 clash_other None c k q e f = absurd e
 clash_other (Some (slot.Here r st.Ready)) c k q e f = absurd e
 clash_other (Some (slot.Out v r)) c k q e f = absurd e
@@ -321,32 +405,52 @@ clash_other (Some (slot.Here r st.Over)) c k q e f = absurd e
 clash_other (Some (slot.Gone r)) c k q e f = absurd e
 
 -- with nothing, with one of its way, with one of the other way pending
-module _ (x : Kernel) (k : IsKernel x) (c j : ℕ) (a : Address) (d : m.Config (Memory Plain)) (room : nat_lt x.limits.entries (x.entries + 1) ≡ false) where
-  by_pending : fault_of x.limits (system_of x) (Stopped (m.Receives c j a) d) ≡ clash_by way.Receive j (pending_stop (system_of x) (process_in (slice_get x.channels c)))
+module _ (x : Kernel) (k : IsKernel x) (c j : ℕ) (a : Address) (d : m.Config (Memory Plain))
+    (room : nat_lt x.limits.entries (x.entries + 1) ≡ false) where
+  by_pending : fault_of x.limits (system_of x) (Stopped (m.Receives c j a) d)
+      ≡ clash_by way.Receive j (pending_stop (system_of x) (process_in (slice_get x.channels c)))
   by_pending = clash_fault x.limits (system_of x) c j a d room
 
-  pub fault_free : slice_get x.channels c ≡ Some None → fault_of x.limits (system_of x) (Stopped (m.Receives c j a) d) ≡ None
+  pub fault_free : slice_get x.channels c ≡ Some None
+      → fault_of x.limits (system_of x) (Stopped (m.Receives c j a) d) ≡ None
   fault_free e = by_pending ∙ ap (λ o. clash_by way.Receive j (pending_stop (system_of x) (process_in o))) e
 
-  pub fault_same : (q : Pending) → slice_get x.channels c ≡ Some (Some q) → q.way ≡ way.Receive → fault_of x.limits (system_of x) (Stopped (m.Receives c j a) d) ≡ Some fault.F6
-  fault_same q e f = by_pending ∙ ap (λ o. clash_by way.Receive j (pending_stop (system_of x) (process_in o))) e ∙ clash_same (slice_get x.slots q.process) c j q (k.offers c q e) f
+  pub fault_same : (q : Pending) → slice_get x.channels c ≡ Some (Some q) → q.way ≡ way.Receive
+      → fault_of x.limits (system_of x) (Stopped (m.Receives c j a) d) ≡ Some fault.F6
+  fault_same q e f = by_pending ∙ ap (λ o. clash_by way.Receive j (pending_stop (system_of x) (process_in o))) e
+      ∙ clash_same (slice_get x.slots q.process) c j q (k.offers c q e) f
 
-  pub fault_other : (q : Pending) → slice_get x.channels c ≡ Some (Some q) → q.way ≡ way.Send → fault_of x.limits (system_of x) (Stopped (m.Receives c j a) d) ≡ (if q.message == j then None else Some fault.F7)
-  fault_other q e f = by_pending ∙ ap (λ o. clash_by way.Receive j (pending_stop (system_of x) (process_in o))) e ∙ clash_other (slice_get x.slots q.process) c j q (k.offers c q e) f
+  pub fault_other : (q : Pending) → slice_get x.channels c ≡ Some (Some q) → q.way ≡ way.Send
+      → fault_of x.limits (system_of x) (Stopped (m.Receives c j a) d)
+      ≡ (if q.message == j then None else Some fault.F7)
+  fault_other q e f = by_pending ∙ ap (λ o. clash_by way.Receive j (pending_stop (system_of x) (process_in o))) e
+      ∙ clash_other (slice_get x.slots q.process) c j q (k.offers c q e) f
 
 -- the message of the sender fits at the target
-pub sender_fits : (x : Kernel) (k : IsKernel x) (w : ℕ) (h : Handed) (c j : ℕ) → h.stop ≡ stop.Receive c j → x.faulted ≡ false → fault_of x.limits (system_of x) (Stopped (m.Receives c j h.proc.target) (config_of h.proc)) ≡ None
-    → Fits x w h → (q : Pending) → slice_get x.channels c ≡ Some (Some q) → q.way ≡ way.Send → IsSender (slice_get x.slots q.process) h.proc
+pub sender_fits : (x : Kernel) (k : IsKernel x) (w : ℕ) (h : Handed) (c j : ℕ) → h.stop ≡ stop.Receive c j
+    → x.faulted ≡ false → fault_of x.limits (system_of x) (Stopped (m.Receives c j h.proc.target) (config_of h.proc))
+    ≡ None
+    → Fits x w h → (q : Pending) → slice_get x.channels c ≡ Some (Some q) → q.way ≡ way.Send
+    → IsSender (slice_get x.slots q.process) h.proc
 sender_fits x k w h c j is quiet fine fits q e f = go (slice_get x.slots q.process) refl (k.offers c q e)
   where
     stops : StopsAt (setting_of x) (system_of x) h.proc.number (m.Receives c j h.proc.target) (config_of h.proc)
-    stops = record { at = fits.at; runs = fits.runs; turn = subst (λ t. IsTurn (memory plain (setting_of x)) (setting_of x).code fits.at t) (ap (λ s. turn_by s h.proc) is) fits.turn; quiet = quiet; fine = fine }
+    stops = record {
+      at = fits.at;
+      runs = fits.runs;
+      turn = subst (λ t. IsTurn (memory plain (setting_of x)) (setting_of x).code fits.at t)
+          (ap (λ s. turn_by s h.proc) is) fits.turn;
+      quiet = quiet;
+      fine = fine;
+    }
 
     go : (o : Option Slot) → slice_get x.slots q.process ≡ o → WaitsAs o c q → IsSender o h.proc
     go None s e2 = absurd e2
     go (Some (slot.Here r st.Ready)) s e2 = absurd e2
     go (Some (slot.Out v r)) s e2 = absurd e2
-    go (Some (slot.Here r (st.Sending d i bs))) s e2 = fits.safe.receives h.proc.number q.process c j i h.proc.target bs (config_of h.proc) (config_of r) stops (ap process_in e) (ap condition_in s ∙ ap (λ n. Waits (m.Sends n i bs) (config_of r)) e2.0)
+    go (Some (slot.Here r (st.Sending d i bs))) s e2 =
+        fits.safe.receives h.proc.number q.process c j i h.proc.target bs (config_of h.proc) (config_of r) stops
+        (ap process_in e) (ap condition_in s ∙ ap (λ n. Waits (m.Sends n i bs) (config_of r)) e2.0)
     go (Some (slot.Here r (st.Receiving d i))) s e2 = absurd (let g : q.way ≡ way.Receive = e2.2 in cc (f, g))
     go (Some (slot.Here r (st.Joining n))) s e2 = absurd e2
     go (Some (slot.Here r st.Laid)) s e2 = absurd e2

@@ -55,14 +55,16 @@ pub written_is : (slots : List Slot) (bs : List ℕ) → written slots ≡ Some 
 written_is [] bs e = absurd (cc e)
 written_is (slot.Here p s ∷ ss) bs e = go (written_by p) refl e (λ f. written_is ss bs f)
   where
-    go : (o : Option (List ℕ)) → written_by p ≡ o → or_rest o (written ss) ≡ Some bs → (written ss ≡ Some bs → Writes ss bs) → Writes (slot.Here p s ∷ ss) bs
+    go : (o : Option (List ℕ)) → written_by p ≡ o → or_rest o (written ss) ≡ Some bs
+        → (written ss ≡ Some bs → Writes ss bs) → Writes (slot.Here p s ∷ ss) bs
     go (Some cs) is f h = record { process = zero; proc = p; state = s; at = refl; output = is ∙ f }
     go None is f h = later (slot.Here p s) ss bs (h f)
 written_is (slot.Out w p ∷ ss) bs e = later (slot.Out w p) ss bs (written_is ss bs e)
 written_is (slot.Ended ∷ ss) bs e = later slot.Ended ss bs (written_is ss bs e)
 written_is (slot.Gone p ∷ ss) bs e = later (slot.Gone p) ss bs (written_is ss bs e)
 
-pub writes_store : (slots : List Slot) (bs : List ℕ) (w : Writes slots bs) → (store_in (condition_in (slice_get slots w.process)) ≡ Some w.proc.store) × (plain.output w.proc.store ≡ Some bs)
+pub writes_store : (slots : List Slot) (bs : List ℕ) (w : Writes slots bs)
+    → (store_in (condition_in (slice_get slots w.process)) ≡ Some w.proc.store) × (plain.output w.proc.store ≡ Some bs)
 writes_store slots bs w = (ap (λ o. store_in (condition_in o)) w.at ∙ store_here w.proc w.state, w.output)
 
 none_first : (o r : Option (List ℕ)) → or_rest o r ≡ None → (o ≡ None) × (r ≡ None)
@@ -70,7 +72,8 @@ none_first None r e = (refl, e)
 none_first (Some bs) r e = absurd (cc e)
 
 -- who is here does not hold it, where none is found
-pub none_writes : (slots : List Slot) → written slots ≡ None → (q : ℕ) (m : Plain) (bs : List ℕ) → ((w : ℕ) → doing_in (slice_get slots q) ≡ Out w → ⊥) → (doing_in (slice_get slots q) ≡ Gone → ⊥)
+pub none_writes : (slots : List Slot) → written slots ≡ None → (q : ℕ) (m : Plain) (bs : List ℕ)
+    → ((w : ℕ) → doing_in (slice_get slots q) ≡ Out w → ⊥) → (doing_in (slice_get slots q) ≡ Gone → ⊥)
     → store_in (condition_in (slice_get slots q)) ≡ Some m → plain.output m ≡ Some bs → ⊥
 none_writes [] e q m bs o g h x = absurd (cc h)
 none_writes (s ∷ ss) e (suc q) m bs o g h x = none_writes ss (none_first (written_in s) (written ss) e).1 q m bs o g h x
@@ -88,13 +91,22 @@ none_writes (slot.Gone p ∷ ss) e zero m bs o g h x = g refl
 pub held : (y : Kernel) (bs : List ℕ) → written y.slots ≡ Some bs → HeldHere y bs
 held y bs e =
     let w = written_is y.slots bs e in
-    let s = writes_store y.slots bs w in
-    (w.process, w.proc.store, ((λ v f. not_out w.proc w.state v (ap doing_in (sym w.at) ∙ f)), (λ f. not_gone w.proc w.state (ap doing_in (sym w.at) ∙ f))), s.0, s.1)
+    let s = writes_store y.slots bs w in (
+      w.process,
+      w.proc.store,
+      (
+        (λ v f. not_out w.proc w.state v (ap doing_in (sym w.at) ∙ f)),
+        (λ f. not_gone w.proc w.state (ap doing_in (sym w.at) ∙ f)),
+      ),
+      s.0,
+      s.1,
+    )
 
 pub not_held : (y : Kernel) → written y.slots ≡ None → (bs : List ℕ) → HeldHere y bs → ⊥
 not_held y e bs h = none_writes y.slots e h.0 h.1 bs h.2.0 h.2.1 h.3 h.4
 
-pub matched : {R : Type 0} (f : R → List ℕ) (o : Option R) (N : Type 0) (P : List ℕ → Type 0) (w : Option (List ℕ)) → MatchOption o (w ≡ None) (λ r. w ≡ Some (f r)) → (w ≡ None → N) → ((bs : List ℕ) → w ≡ Some bs → P bs)
+pub matched : {R : Type 0} (f : R → List ℕ) (o : Option R) (N : Type 0) (P : List ℕ → Type 0) (w : Option (List ℕ))
+    → MatchOption o (w ≡ None) (λ r. w ≡ Some (f r)) → (w ≡ None → N) → ((bs : List ℕ) → w ≡ Some bs → P bs)
     → MatchOption o N (λ r. P (f r))
 matched f None N P w h a b = a h
 matched f (Some r) N P w h a b = b (f r) h

@@ -1,6 +1,8 @@
+-- None of this belongs to what the program promises: it is for contracts between crates.
 -- What the kernel may be asked, by the history that a seat has seen, and what comes of it: the contract of the kernel
 -- as an object that a room keeps. Each ask is one step, so that the room needs to know no more than these relations.
-use Rattle.std.specs.Prelude.{◌≡◌, ◌≢◌, ◌⊎◌, ℕ, ◌+◌, ◌<◌, ◌≤◌, List, [], ◌++◌, Option, Some, None, IsSome, Bool, true, false}
+use Rattle.std.specs.Prelude.{◌≡◌, ◌≢◌, ◌⊎◌, ℕ, ◌+◌, ◌<◌, ◌≤◌, List, [], ◌++◌, Option, Some, None, IsSome, Bool, true}
+use Rattle.std.specs.Prelude.{false}
 use Rattle.std.specs.Option.{option_map}
 use Rattle.sp_cell.specs.Map.{Plain}
 use Rattle.sp_journal.specs.declared.entry.Note.{Note}
@@ -53,7 +55,8 @@ pub record CanServe (x : Kernel) (w : ℕ) (a : Ask) : Type 0 where
 -- what is got is the process that the note names, in the state that the system has for it
 abbrev pub Answers : Kernel → Got → Option ℕ → Type 0
 Answers y (got.Work p) None = ⊥
-Answers y (got.Work p) (Some q) = (p.number ≡ q) × ((system_of y).condition q ≡ Working (config_of p)) × (p.input.value ≡ (setting_of y).input)
+Answers y (got.Work p) (Some q) = (p.number ≡ q) × ((system_of y).condition q ≡ Working (config_of p))
+    × (p.input.value ≡ (setting_of y).input)
 Answers y got.Nothing None = (front (control_of y) ≡ None) × ((standing (control_of y) ≡ Running) ⊎ (0 < y.out))
 Answers y got.Nothing (Some q) = ⊥
 Answers y got.Finished None = (standing (control_of y) ≢ Running) × (y.out ≡ 0)

@@ -1,3 +1,4 @@
+-- None of this belongs to what the program promises: it is for contracts between crates.
 -- How a run ends, and what is left of it. The contract of `close` promises it, from the notes of the room and the
 -- kernel that was left.
 use Rattle.std.specs.Prelude.{◌≡◌, ◌<◌, ℕ, suc, List, [], ◌∷◌, Option, Some, None}
@@ -74,7 +75,8 @@ pub record AreWaiters (y : Kernel) (ws : List Waiter) : Type 0 where
 abbrev pub EndIs : Kernel → End → Type 0
 EndIs y end.Done = standing (control_of y) ≡ IsDone
 EndIs y (end.Deadlock ws) = (standing (control_of y) ≡ IsDeadlock) × AreWaiters y ws
-EndIs y (end.Fault name f) = (standing (control_of y) ≡ IsFault) × (p : ℕ) × (fault_in y.journal.entries ≡ Some (p, f)) × (name ≡ proc_name ((births y.journal.entries).name p))
+EndIs y (end.Fault name f) = (standing (control_of y) ≡ IsFault) × (p : ℕ) × (fault_in y.journal.entries ≡ Some (p, f))
+    × (name ≡ proc_name ((births y.journal.entries).name p))
 EndIs y end.Memory = standing (control_of y) ≡ IsMemory
 
 -- it stands at this end, or goes on
@@ -93,7 +95,9 @@ pub record IsNamed (y : Kernel) : Type 0 where
 
 -- a process that the kernel has holds this output
 abbrev pub HeldHere : Kernel → List ℕ → Type 0
-HeldHere y bs = (q : ℕ) × (m : Plain) × (((w : ℕ) → (control_of y).doing q ≡ Out w → ⊥) × ((control_of y).doing q ≡ Gone → ⊥)) × (store_in ((system_of y).condition q) ≡ Some m) × (plain.output m ≡ Some bs)
+HeldHere y bs = (q : ℕ) × (m : Plain) × (((w : ℕ) → (control_of y).doing q ≡ Out w → ⊥)
+    × ((control_of y).doing q ≡ Gone → ⊥)) × (store_in ((system_of y).condition q) ≡ Some m)
+    × (plain.output m ≡ Some bs)
 
 -- an output, or nothing
 abbrev pub or_empty : Option (List ℕ) → List ℕ

@@ -1,3 +1,4 @@
+-- None of this belongs to what the program promises: it is for contracts between crates.
 -- What the end of a process does to the kernel. The contracts of `end` cite it; that it is a legal step of the control
 -- and the system is proved from it.
 use Rattle.std.specs.Prelude.{◌≡◌, ℕ, ◌-◌, ◌==◌, [], ◌∷◌, ◌++◌, Option, Some, None, if◌then◌else◌, slice_get, slice_set}
@@ -33,7 +34,8 @@ one_fewer n = if n == 1 then st.Ready else st.Joining (n - 1)
 
 -- an entry more; after the last child the parent z is ready
 abbrev pub noted_end : ℕ → ℕ → Kernel → Kernel
-noted_end p z x = record (entered p event.End x) { ready = if left_in (slice_get x.slots z) == 1 then x.ready ++ z ∷ [] else x.ready }
+noted_end p z x = record (entered p event.End x)
+    { ready = if left_in (slice_get x.slots z) == 1 then x.ready ++ z ∷ [] else x.ready }
 
 -- child p has ended, and its parent z is now in this slot
 abbrev pub ends_child : ℕ → ℕ → Slot → Kernel → Kernel
@@ -59,7 +61,8 @@ IsJoiner (Some (slot.Gone q)) p = ⊥
 
 -- q took back from p, and is r now
 abbrev pub TookBack : Proc → Proc → Proc → Type 0
-TookBack q p r = (config_of r ≡ on_store (λ m. plain.joined m p.store) (config_of q)) × (r.number ≡ q.number) × (r.input.value ≡ q.input.value)
+TookBack q p r = (config_of r ≡ on_store (λ m. plain.joined m p.store) (config_of q)) × (r.number ≡ q.number)
+    × (r.input.value ≡ q.input.value)
 
 -- the slot of one that joins, after it took back from p
 abbrev pub Joins : Option Slot → Proc → Slot → Type 0

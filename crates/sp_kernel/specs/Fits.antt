@@ -1,3 +1,4 @@
+-- None of this belongs to what the program promises: it is for contracts between crates.
 -- What may be handed in: a turn that a process out with this worker can have made. Each ask requires it, and the
 -- runner shows it of the turn that it ran.
 use Rattle.std.specs.Prelude.{◌≡◌, ℕ, ◌<◌, length, Some}
@@ -58,5 +59,6 @@ pub record Fits (x : Kernel) (w : ℕ) (h : Handed) : Type 0 where
   pub fork : KeepsFork h.stop h.proc
   pub input : h.proc.input.value ≡ (setting_of x).input
   -- its parent, if it has one, waits for it
-  pub parent : (b : Birth) → (system_of x).births.birth h.proc.number ≡ Some b → (n : ℕ) × ((control_of x).doing b.parent ≡ Joining n)
+  pub parent : (b : Birth) → (system_of x).births.birth h.proc.number ≡ Some b → (n : ℕ)
+      × ((control_of x).doing b.parent ≡ Joining n)
   pub code : FitsCode (setting_of x).code

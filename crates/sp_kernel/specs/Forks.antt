@@ -1,6 +1,8 @@
+-- None of this belongs to what the program promises: it is for contracts between crates.
 -- What a fork does to the kernel. The contracts of `fork` cite it; that it is a legal step of the control and the
 -- system is proved from it.
-use Rattle.std.specs.Prelude.{◌≡◌, ℕ, ℤ, Bool, nat_lt, ◌+◌, ◌-◌, List, [], ◌∷◌, ◌++◌, length, Some, slice_get, slice_set}
+use Rattle.std.specs.Prelude.{◌≡◌, ℕ, ℤ, Bool, nat_lt, ◌+◌, ◌-◌, List, [], ◌∷◌, ◌++◌, length, Some, slice_get}
+use Rattle.std.specs.Prelude.{slice_set}
 use Rattle.sp_journal.specs.declared.entry.Event.TheVariants as event
 use Rattle.sp_journal.specs.Queue.{numbers}
 use Rattle.sp_code.specs.PlainStore.{plain}
@@ -43,7 +45,8 @@ forks p n slots x = record x {
 
 -- from here on its ticks count for the next pause, and it has handed over what the fork hands over
 abbrev pub HandsOver : Kernel → Proc → ℕ → Proc → Type 0
-HandsOver x p n q = (config_of q ≡ on_store (λ m. plain.handed m (plan_by x.code.value p n)) (entered_now (config_of p))) × (q.number ≡ p.number) × (q.input.value ≡ p.input.value)
+HandsOver x p n q = (config_of q ≡ on_store (λ m. plain.handed m (plan_by x.code.value p n))
+    (entered_now (config_of p))) × (q.number ≡ p.number) × (q.input.value ≡ p.input.value)
 
 -- the process p forked n children
 pub record HasForked (x : Kernel) (p : Proc) (n : ℕ) (y : Kernel) : Type 0 where

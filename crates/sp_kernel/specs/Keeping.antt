@@ -1,13 +1,16 @@
+-- None of this belongs to what the program promises: it is for contracts between crates.
 -- The laws of the kernel as an object that a room keeps: what a note tells of the kernel, and that a seat's knowledge
 -- lasts. The room asks its object for these proofs, so they stand in specs.
-use Rattle.std.proofs.Common.{◌≡◌, ◌≢◌, ℕ, ◌+◌, ◌<◌, ◌≤◌, ◌==◌, Bool, true, false, List, [], ◌∷◌, ◌++◌, append_assoc, length, Some, None, refl, sym, ap, ◌∙◌, subst, arith}
+use Rattle.std.proofs.Common.{◌≡◌, ◌≢◌, ℕ, ◌+◌, ◌<◌, ◌≤◌, ◌==◌, Bool, true, false, List, [], ◌∷◌, ◌++◌, append_assoc}
+use Rattle.std.proofs.Common.{length, Some, None, refl, sym, ap, ◌∙◌, subst, arith}
 use Rattle.sp_cell.specs.Map.{Plain}
 use Rattle.sp_journal.specs.declared.entry.Note.{Note}
 use Rattle.sp_code.specs.Machine.{Config, Sends, Receives, Stop as MachineStop}
 use Rattle.sp_code.specs.Memory.{Setting, Memory, memory}
 use Rattle.sp_code.specs.PlainStore.{plain}
 use Rattle.sp_code.specs.Turns.{IsTurn, Stopped}
-use Rattle.sp_code.specs.Control.{Control, Out, Joining, control_at_start, control, noted, noted_all, entries_of, entry_of}
+use Rattle.sp_code.specs.Control.{Control, Out, Joining, control_at_start, control, noted, noted_all, entries_of}
+use Rattle.sp_code.specs.Control.{entry_of}
 use Rattle.sp_code.specs.System.{System, Working, opening, IsSystem}
 use Rattle.sp_room.specs.History.{LeadsTo as Told, notes_by, StartsWith, either_list}
 use mathlib.Core.List.{append-nil}
@@ -22,7 +25,8 @@ use Rattle.sp_kernel.specs.declared.ask.Got.TheVariants as got
 use Rattle.sp_kernel.specs.Procs.{config_of, turn_by, turn_of}
 use Rattle.sp_kernel.specs.Kernels.{control_of, system_of, setting_of, IsKernel}
 use Rattle.sp_kernel.specs.Fits.{Fits, FitsCode, IsOffered, IsWhole}
-use Rattle.sp_kernel.specs.Asks.{IsOpening, CanServe, FitsAsk, HoldsOut, HasRun, MayAsk, StandsFor, Steps, Notes, is_abandon, refusal}
+use Rattle.sp_kernel.specs.Asks.{IsOpening, CanServe, FitsAsk, HoldsOut, HasRun, MayAsk, StandsFor, Steps, Notes}
+use Rattle.sp_kernel.specs.Asks.{is_abandon, refusal}
 use Rattle.sp_code.specs.Sound.{IsSafeSystem}
 use Rattle.sp_journal.specs.declared.entry.Birth.{Birth}
 use Rattle.sp_history.specs.Channels.{StopHas}
@@ -39,21 +43,26 @@ pub none_same : (x : Kernel) (w : ℕ) (a : Ask) (y : Kernel) (g : Got) → Step
 none_same x w a y g m = m.0
 
 -- a note has changed the kernel
-pub note_changes : (x : Kernel) (w : ℕ) (a : Ask) (y : Kernel) (g : Got) (n : Note) → Steps x w a y g (Some n) → y ≡ x → ⊥
+pub note_changes : (x : Kernel) (w : ℕ) (a : Ask) (y : Kernel) (g : Got) (n : Note) → Steps x w a y g (Some n) → y ≡ x
+    → ⊥
 note_changes x w a y g n m same = m.changed same
 
 -- an abandon has a note
-pub abandon_notes : (x : Kernel) (w : ℕ) (a : Ask) (y : Kernel) (g : Got) → is_abandon a ≡ true → Steps x w a y g None → ⊥
+pub abandon_notes : (x : Kernel) (w : ℕ) (a : Ask) (y : Kernel) (g : Got) → is_abandon a ≡ true → Steps x w a y g None
+    → ⊥
 abandon_notes x w (ask.Turn h) y g is m = absurd (cc is)
 abandon_notes x w (ask.Abandon p) y g is m = m.1
 
 -- a note names its worker
-pub note_names : (x : Kernel) (w : ℕ) (a : Ask) (y : Kernel) (g : Got) (n : Note) → Steps x w a y g (Some n) → n.worker ≡ w
+pub note_names : (x : Kernel) (w : ℕ) (a : Ask) (y : Kernel) (g : Got) (n : Note) → Steps x w a y g (Some n)
+    → n.worker ≡ w
 note_names x w a y g n m = m.worker
 
 -- what a refusal gives back is what was asked
-pub refusal_returns : (a b : Ask) (g : Got) → is_abandon a ≡ false → is_abandon b ≡ false → refusal a g → refusal b g → a ≡ b
-refusal_returns (ask.Turn h) (ask.Turn i) g one two p q = let e : got.Refused h ≡ got.Refused i = sym p ∙ q in let f : h ≡ i = cc e in ap ask.Turn f
+pub refusal_returns : (a b : Ask) (g : Got) → is_abandon a ≡ false → is_abandon b ≡ false → refusal a g → refusal b g
+    → a ≡ b
+refusal_returns (ask.Turn h) (ask.Turn i) g one two p q = let e : got.Refused h ≡ got.Refused i = sym p ∙ q in
+    let f : h ≡ i = cc e in ap ask.Turn f
 refusal_returns (ask.Turn h) (ask.Abandon p) g one two a b = absurd (cc two)
 refusal_returns (ask.Abandon p) b g one two a c = absurd (cc one)
 
@@ -83,22 +92,35 @@ came x (n ∷ ns) y k r =
     let one : Notes x r.1 r.2 r.0 r.3 n = r.4 in
     let rest = came r.0 ns y one.whole r.5 in
     record {
-      reaches = (system_of r.0, one.follows, subst (λ (g : Setting). Reaches plain g (noted n (control_of x)) (system_of r.0) ns (system_of y)) one.setting (subst (λ (c : Control). Reaches plain (setting_of r.0) c (system_of r.0) ns (system_of y)) one.control rest.reaches));
+      reaches = (
+        system_of r.0,
+        one.follows,
+        subst (λ (g : Setting). Reaches plain g (noted n (control_of x)) (system_of r.0) ns (system_of y)) one.setting
+            (subst (λ (c : Control). Reaches plain (setting_of r.0) c (system_of r.0) ns (system_of y)) one.control
+            rest.reaches),
+      );
       control = rest.control ∙ ap (noted_all ns) one.control;
       setting = rest.setting ∙ one.setting;
       whole = rest.whole;
       out = omega (arith, one.out, rest.out);
       abandons = omega (arith, one.abandons, rest.abandons);
-      journal = rest.journal ∙ ap (λ l. l ++ entries_of ns) one.journal ∙ append_assoc x.journal.entries (entry_of n.given n.event) (entries_of ns);
+      journal = rest.journal ∙ ap (λ l. l ++ entries_of ns) one.journal
+          ∙ append_assoc x.journal.entries (entry_of n.given n.event) (entries_of ns);
     }
 
 -- ---- what may be asked may be asked later
 
-notes_append : (w : ℕ) (xs ys : List Note) → notes_by (λ (n : Note). n.worker) w (xs ++ ys) ≡ notes_by (λ (n : Note). n.worker) w xs ++ notes_by (λ (n : Note). n.worker) w ys
+notes_append : (w : ℕ) (xs ys : List Note) → notes_by (λ (n : Note). n.worker) w (xs ++ ys)
+    ≡ notes_by (λ (n : Note). n.worker) w xs ++ notes_by (λ (n : Note). n.worker) w ys
 notes_append w [] ys = refl
 notes_append w (x ∷ xs) ys = go (notes_append w xs ys) (x.worker == w)
   where
-    go : notes_by (λ (n : Note). n.worker) w (xs ++ ys) ≡ notes_by (λ (n : Note). n.worker) w xs ++ notes_by (λ (n : Note). n.worker) w ys → (b : Bool) → either_list b (x ∷ notes_by (λ (n : Note). n.worker) w (xs ++ ys)) (notes_by (λ (n : Note). n.worker) w (xs ++ ys)) ≡ either_list b (x ∷ notes_by (λ (n : Note). n.worker) w xs) (notes_by (λ (n : Note). n.worker) w xs) ++ notes_by (λ (n : Note). n.worker) w ys
+    go : notes_by (λ (n : Note). n.worker) w (xs ++ ys) ≡ notes_by (λ (n : Note). n.worker) w xs
+        ++ notes_by (λ (n : Note). n.worker) w ys → (b : Bool)
+        → either_list b (x ∷ notes_by (λ (n : Note). n.worker) w (xs ++ ys))
+        (notes_by (λ (n : Note). n.worker) w (xs ++ ys))
+        ≡ either_list b (x ∷ notes_by (λ (n : Note). n.worker) w xs) (notes_by (λ (n : Note). n.worker) w xs)
+        ++ notes_by (λ (n : Note). n.worker) w ys
     go e true = ap (λ l. x ∷ l) e
     go e false = e
 
@@ -114,22 +136,31 @@ none_by : (w : ℕ) (ns : List Note) → notes_by (λ (n : Note). n.worker) w ns
 none_by w [] e = tt {0}
 none_by w (n ∷ ns) e = go (n.worker == w) refl e (λ h. none_by w ns h)
   where
-    go : (b : Bool) → n.worker == w ≡ b → either_list b (n ∷ notes_by (λ (m : Note). m.worker) w ns) (notes_by (λ (m : Note). m.worker) w ns) ≡ [] → (notes_by (λ (m : Note). m.worker) w ns ≡ [] → NoneBy w ns) → (n.worker ≢ w) × NoneBy w ns
+    go : (b : Bool) → n.worker == w ≡ b → either_list b (n ∷ notes_by (λ (m : Note). m.worker) w ns)
+        (notes_by (λ (m : Note). m.worker) w ns) ≡ [] → (notes_by (λ (m : Note). m.worker) w ns ≡ [] → NoneBy w ns)
+        → (n.worker ≢ w) × NoneBy w ns
     go true f h on = absurd (cc h)
-    go false f h on = ((λ is. let t : n.worker == w ≡ true = subst (λ y. n.worker == y ≡ true) is (itself n.worker) in absurd (cc (f, t))), on h)
+    go false f h on = (
+      (λ is. let t : n.worker == w ≡ true = subst (λ y. n.worker == y ≡ true) is (itself n.worker) in
+          absurd (cc (f, t))),
+      on h,
+    )
 
 module _ (x : Kernel) (fine : IsOpening x) (log : List Note) (y : Kernel) (told : Told Steps x log y) where
   pub it : Came x log y
   it = came x log y fine.whole told
 
   pub from_start : Reaches plain (setting_of x) control_at_start (opening plain (setting_of x)) log (system_of y)
-  from_start = subst (λ (s : System Plain). Reaches plain (setting_of x) control_at_start s log (system_of y)) fine.system (subst (λ (c : Control). Reaches plain (setting_of x) c (system_of x) log (system_of y)) fine.control it.reaches)
+  from_start = subst (λ (s : System Plain). Reaches plain (setting_of x) control_at_start s log (system_of y))
+      fine.system (subst (λ (c : Control). Reaches plain (setting_of x) c (system_of x) log (system_of y)) fine.control
+      it.reaches)
 
   pub control_is : control_of y ≡ control log
   control_is = it.control ∙ ap (noted_all log) fine.control
 
   pub along : IsSystem plain (setting_of x) (entries_of log) (system_of y)
-  along = reaches_leads plain (setting_of x) control_at_start (opening plain (setting_of x)) (system_of y) log from_start
+  along = reaches_leads plain (setting_of x) control_at_start (opening plain (setting_of x)) (system_of y) log
+      from_start
 
   few_out : length log < 18446744073709551615 → y.out + 1 < 18446744073709551616
   few_out short = omega (arith, it.out, fine.out, short)
@@ -137,22 +168,31 @@ module _ (x : Kernel) (fine : IsOpening x) (log : List Note) (y : Kernel) (told 
   few_abandons : length log < 18446744073709551615 → y.abandons + 1 < 18446744073709551616
   few_abandons short = omega (arith, it.abandons, fine.abandons, short)
 
-  module _ (w : ℕ) (seen own : List Note) (mine : notes_by (λ (n : Note). n.worker) w seen ≡ own) (starts : StartsWith log seen) (by : notes_by (λ (n : Note). n.worker) w log ≡ own) where
+  module _ (w : ℕ) (seen own : List Note) (mine : notes_by (λ (n : Note). n.worker) w seen ≡ own)
+      (starts : StartsWith log seen) (by : notes_by (λ (n : Note). n.worker) w log ≡ own) where
     no_more : notes_by (λ (n : Note). n.worker) w starts.0 ≡ []
-    no_more = nothing_more (notes_by (λ (n : Note). n.worker) w seen) _ (sym (notes_append w seen starts.0) ∙ ap (notes_by (λ (n : Note). n.worker) w) (sym starts.1) ∙ by ∙ sym mine)
+    no_more = nothing_more (notes_by (λ (n : Note). n.worker) w seen) _
+        (sym (notes_append w seen starts.0) ∙ ap (notes_by (λ (n : Note). n.worker) w) (sym starts.1) ∙ by ∙ sym mine)
 
     -- so its worker left no note since
     quiet : NoneBy w starts.0
     quiet = none_by w starts.0 no_more
 
     -- what is out with the worker is as it was
-    as_before : (s : System Plain) (p : ℕ) (at : Config (Memory Plain)) → Reaches plain (setting_of x) control_at_start (opening plain (setting_of x)) seen s → (control seen).doing p ≡ Out w → s.condition p ≡ Working at
+    as_before : (s : System Plain) (p : ℕ) (at : Config (Memory Plain))
+        → Reaches plain (setting_of x) control_at_start (opening plain (setting_of x)) seen s
+        → (control seen).doing p ≡ Out w → s.condition p ≡ Working at
         → ((control log).doing p ≡ Out w) × ((system_of y).condition p ≡ Working at)
     as_before s p at r out runs =
-        let f = reaches_front plain (setting_of x) control_at_start (opening plain (setting_of x)) (system_of y) seen starts.0 (subst (λ (l : List Note). Reaches plain (setting_of x) control_at_start (opening plain (setting_of x)) l (system_of y)) starts.1 from_start) in
-        let same : s ≡ f.0 = reaches_same plain (setting_of x) control_at_start (opening plain (setting_of x)) s f.0 seen r f.1 in
-        let kept = reaches_keeps plain (setting_of x) control_at_start (opening plain (setting_of x)) f.0 seen orderly_start (agrees_start plain (setting_of x)) f.1 in
-        let o = stays plain (setting_of x) (control seen) f.0 (system_of y) starts.0 kept.0 kept.1 f.2 p w at quiet out (ap (λ (z : System Plain). z.condition p) (sym same) ∙ runs) in
+        let f = reaches_front plain (setting_of x) control_at_start (opening plain (setting_of x)) (system_of y) seen
+        starts.0 (subst (λ (l : List Note). Reaches plain (setting_of x) control_at_start
+        (opening plain (setting_of x)) l (system_of y)) starts.1 from_start) in
+        let same : s ≡ f.0 = reaches_same plain (setting_of x) control_at_start (opening plain (setting_of x)) s f.0
+        seen r f.1 in
+        let kept = reaches_keeps plain (setting_of x) control_at_start (opening plain (setting_of x)) f.0 seen
+        orderly_start (agrees_start plain (setting_of x)) f.1 in
+        let o = stays plain (setting_of x) (control seen) f.0 (system_of y) starts.0 kept.0 kept.1 f.2 p w at quiet out
+        (ap (λ (z : System Plain). z.condition p) (sym same) ∙ runs) in
         (ap (λ (c : Control). c.doing p) (ap control starts.1 ∙ noted_append seen starts.0 control_at_start) ∙ o.0, o.1)
 
     module _ (q : ℕ) (h : HoldsOut (setting_of x) seen w q) where
@@ -169,23 +209,31 @@ module _ (x : Kernel) (fine : IsOpening x) (log : List Note) (y : Kernel) (told 
       held_now = record { system = system_of y; reaches = from_start; out = kept.0; at = h.at; runs = kept.1 }
 
       -- the parent of a child that is out waits for it
-      pub parent_waits : (b : Birth) → (system_of y).births.birth q ≡ Some b → (n : ℕ) × ((control_of y).doing b.parent ≡ Joining n)
+      pub parent_waits : (b : Birth) → (system_of y).births.birth q ≡ Some b → (n : ℕ)
+          × ((control_of y).doing b.parent ≡ Joining n)
       parent_waits b e =
-          let j = parent_joins (control log) (children_all plain (setting_of x) control_at_start (opening plain (setting_of x)) (system_of y) log orderly_start (agrees_start plain (setting_of x)) children_start from_start) q w b kept.0
+          let j = parent_joins (control log)
+          (children_all plain (setting_of x) control_at_start (opening plain (setting_of x)) (system_of y) log
+          orderly_start (agrees_start plain (setting_of x)) children_start from_start) q w b kept.0
           (ap (λ (c : Control). c.births.birth q) (sym control_is) ∙ e) in
           (j.0, ap (λ (c : Control). c.doing b.parent) control_is ∙ j.1)
 
     -- it offers on a channel that is there
-    offered_now : (h : Handed) (at : Config (Memory Plain)) → (system_of y).condition h.proc.number ≡ Working at → IsTurn (memory plain (setting_of x)) (setting_of x).code at (turn_of h) → IsWhole h.stop → IsOffered (length y.channels) h.stop
+    offered_now : (h : Handed) (at : Config (Memory Plain)) → (system_of y).condition h.proc.number ≡ Working at
+        → IsTurn (memory plain (setting_of x)) (setting_of x).code at (turn_of h) → IsWhole h.stop
+        → IsOffered (length y.channels) h.stop
     offered_now h at runs turn whole = go h.stop whole turn
       where
         spoken : IsSpoken (system_of y)
         spoken = system_spoken (setting_of x) (entries_of log) (system_of y) along
 
-        there : (stop : MachineStop) → IsTurn (memory plain (setting_of x)) (setting_of x).code at (Stopped stop (config_of h.proc)) → StopHas (λ c. c < (system_of y).births.channels) stop
-        there stop t = (turn_spoken (setting_of x) (system_of y) h.proc.number at (Stopped stop (config_of h.proc)) spoken runs t).0
+        there : (stop : MachineStop) → IsTurn (memory plain (setting_of x)) (setting_of x).code at
+            (Stopped stop (config_of h.proc)) → StopHas (λ c. c < (system_of y).births.channels) stop
+        there stop t = (turn_spoken (setting_of x) (system_of y) h.proc.number at (Stopped stop (config_of h.proc))
+            spoken runs t).0
 
-        go : (s : Stop) → IsWhole s → IsTurn (memory plain (setting_of x)) (setting_of x).code at (turn_by s h.proc) → IsOffered (length y.channels) s
+        go : (s : Stop) → IsWhole s → IsTurn (memory plain (setting_of x)) (setting_of x).code at (turn_by s h.proc)
+            → IsOffered (length y.channels) s
         go (stop.Send c k cs) b t = subst (λ n. c < n) (sym it.whole.channels) (there (Sends c k cs) t).0
         go (stop.Receive c k) b t = subst (λ n. c < n) (sym it.whole.channels) (there (Receives c k h.proc.target) t)
         go stop.Pause b t = tt {0}
@@ -201,22 +249,42 @@ module _ (x : Kernel) (fine : IsOpening x) (log : List Note) (y : Kernel) (told 
       at = m.holds.at;
       runs = runs_now h.proc.number m.holds;
       turn = subst (λ (g : Setting). IsTurn (memory plain g) g.code m.holds.at (turn_of h)) (sym it.setting) m.turn;
-      safe = subst (λ (g : Setting). IsSafeSystem g (system_of y)) (sym it.setting) (fine.sound.safe x.root.value.input.value x.limits fine.limits (entries_of log) (system_of y) along);
+      safe = subst (λ (g : Setting). IsSafeSystem g (system_of y)) (sym it.setting)
+          (fine.sound.safe x.root.value.input.value x.limits fine.limits (entries_of log) (system_of y) along);
       offered = offered_now h m.holds.at (runs_now h.proc.number m.holds) m.turn m.whole;
       fork = m.fork;
       input = m.input ∙ ap (λ (g : Setting). g.input) (sym it.setting);
       parent = parent_waits h.proc.number m.holds;
-      code = subst (λ (g : Setting). FitsCode g.code) (sym it.setting) (record { blocks = fine.sound.blocks; formals = fine.sound.formals });
+      code = subst (λ (g : Setting). FitsCode g.code) (sym it.setting)
+          (record { blocks = fine.sound.blocks; formals = fine.sound.formals });
     }
 
     pub later : (a : Ask) → StandsFor (setting_of x) seen w a → StandsFor (setting_of x) log w a × FitsAsk y w a
     later (ask.Turn None) m = (tt {0}, tt {0})
-    later (ask.Turn (Some h)) m = (record { holds = held_now h.proc.number m.holds; turn = m.turn; fork = m.fork; input = m.input; whole = m.whole }, fits_now h m)
+    later (ask.Turn (Some h)) m = (
+      record {
+        holds = held_now h.proc.number m.holds;
+        turn = m.turn;
+        fork = m.fork;
+        input = m.input;
+        whole = m.whole;
+      },
+      fits_now h m,
+    )
     later (ask.Abandon None) m = (tt {0}, tt {0})
     later (ask.Abandon (Some p)) m = (held_now p.number m, out_now p.number m)
 
-pub asks_last : (x : Kernel) (w : ℕ) (seen own : List Note) (a : Ask) (log : List Note) (y : Kernel) → IsOpening x → MayAsk x w seen own a → StartsWith log seen → notes_by (λ (n : Note). n.worker) w log ≡ own → Told Steps x log y → length log < 18446744073709551615
+pub asks_last : (x : Kernel) (w : ℕ) (seen own : List Note) (a : Ask) (log : List Note) (y : Kernel) → IsOpening x
+    → MayAsk x w seen own a → StartsWith log seen → notes_by (λ (n : Note). n.worker) w log ≡ own → Told Steps x log y
+    → length log < 18446744073709551615
     → MayAsk x w log own a × CanServe y w a
 asks_last x w seen own a log y fine may starts by told short =
-    let l = later x fine log y told w seen own may.0 starts by a may.1 in
-    ((by, l.0), record { whole = (it x fine log y told).whole; out = few_out x fine log y told short; abandons = few_abandons x fine log y told short; fits = l.1 })
+    let l = later x fine log y told w seen own may.0 starts by a may.1 in (
+      (by, l.0),
+      record {
+        whole = (it x fine log y told).whole;
+        out = few_out x fine log y told short;
+        abandons = few_abandons x fine log y told short;
+        fits = l.1;
+      },
+    )

@@ -1,6 +1,8 @@
+-- None of this belongs to what the program promises: it is for contracts between crates.
 -- The kernel in memory as the definitions see it: the control and the system that its slots, queue and journal stand
 -- for, its invariant, and what each call does (`Takes`, `Gave`, `Abandons`). All contracts of the kernel cite it.
-use Rattle.std.specs.Prelude.{◌≡◌, ℕ, ◌+◌, ◌-◌, List, [], ◌∷◌, ◌++◌, length, Option, Some, None, Bool, slice_get, slice_set, nat_lt, ◌||◌}
+use Rattle.std.specs.Prelude.{◌≡◌, ℕ, ◌+◌, ◌-◌, List, [], ◌∷◌, ◌++◌, length, Option, Some, None, Bool, slice_get}
+use Rattle.std.specs.Prelude.{slice_set, nat_lt, ◌||◌}
 use Rattle.std.specs.Option.{option_map}
 use Rattle.sp_cell.specs.Map.{Plain}
 use Rattle.sp_journal.specs.declared.entry.Way.{Way}
@@ -14,10 +16,13 @@ use Rattle.sp_code.specs.Machine as m
 use Rattle.sp_code.specs.Memory.{Setting}
 use Rattle.sp_code.specs.PlainStore.{plain}
 use Rattle.sp_code.specs.Sound.{run_of}
-use Rattle.sp_code.specs.Control.{Control, Doing, Unborn, Ready, Out, Sending, Receiving, Joining, Laid, Ended, Gone, comes_back, behind, takes, abandons, front, has_ended, standing, Standing, Running, IsDone, IsDeadlock, IsFault, IsMemory}
+use Rattle.sp_code.specs.Control.{Control, Doing, Unborn, Ready, Out, Sending, Receiving, Joining, Laid, Ended, Gone}
+use Rattle.sp_code.specs.Control.{comes_back, behind, takes, abandons, front, has_ended, standing, Standing, Running}
+use Rattle.sp_code.specs.Control.{IsDone, IsDeadlock, IsFault, IsMemory}
 use Rattle.sp_kernel.specs.declared.kernel.Standing.{Standing as Told}
 use Rattle.sp_kernel.specs.declared.kernel.Standing.TheVariants as told
-use Rattle.sp_code.specs.System.{System, Condition, Absent, Working, Waits, Joins, Laid as IsLaid, Gone as HasGone, Over, after, event_of}
+use Rattle.sp_code.specs.System.{System, Condition, Absent, Working, Waits, Joins, Laid as IsLaid, Gone as HasGone}
+use Rattle.sp_code.specs.System.{Over, after, event_of}
 use Rattle.sp_kernel.specs.declared.slot.Slot.{Slot}
 use Rattle.sp_kernel.specs.declared.slot.Slot.TheVariants as slot
 use Rattle.sp_kernel.specs.declared.slot.State.TheVariants as st
@@ -139,7 +144,8 @@ pub record IsKernel (x : Kernel) : Type 0 where
   pub agrees : Agrees (control_of x) (system_of x)
   pub processes : length x.slots ≡ (births x.journal.entries).processes
   pub channels : length x.channels ≡ (births x.journal.entries).channels
-  pub offers : (c : ℕ) (o : Pending) → slice_get x.channels c ≡ Some (Some o) → WaitsAs (slice_get x.slots o.process) c o
+  pub offers : (c : ℕ) (o : Pending) → slice_get x.channels c ≡ Some (Some o)
+      → WaitsAs (slice_get x.slots o.process) c o
   pub numbers : (q : ℕ) → NumberIn (setting_of x).input (slice_get x.slots q) q
   pub parents : HasParents x.parents (births x.journal.entries)
 
@@ -151,7 +157,11 @@ entered q e x = record x { journal = record { entries = x.journal.entries ++ rec
 
 -- process q comes back, with an entry, and is in this slot
 abbrev pub back : ℕ → Event → Slot → Kernel → Kernel
-back q e s x = record x { slots = slice_set x.slots q s; journal = record { entries = x.journal.entries ++ record { process = q; event = e } ∷ [] }; out = x.out - 1 }
+back q e s x = record x {
+  slots = slice_set x.slots q s;
+  journal = record { entries = x.journal.entries ++ record { process = q; event = e } ∷ [] };
+  out = x.out - 1;
+}
 
 -- process q is in this slot
 abbrev pub seated : ℕ → Slot → Kernel → Kernel
@@ -178,7 +188,8 @@ pub record Gave (x : Kernel) (p : ℕ) (h : Handed) (y : Kernel) : Type 0 where
   pub control : control_of y ≡ comes_back p (event_of x.limits (system_of x) (turn_of h)) (control_of x)
   pub system : system_of y ≡ after plain (setting_of x) p (turn_of h) (system_of x)
   pub setting : (y.code ≡ x.code) × (y.limits ≡ x.limits) × (y.root ≡ x.root)
-  pub entry : y.journal.entries ≡ x.journal.entries ++ record { process = p; event = event_of x.limits (system_of x) (turn_of h) } ∷ []
+  pub entry : y.journal.entries ≡ x.journal.entries
+      ++ record { process = p; event = event_of x.limits (system_of x) (turn_of h) } ∷ []
   pub whole : IsKernel y
 
 -- the slot of a ready process
@@ -200,7 +211,8 @@ pub record Takes (x : Kernel) (w : ℕ) (y : Kernel) (r : Option Proc) : Type 0 
   pub front : option_map (λ (p : Proc). p.number) r ≡ front (control_of x)
   pub system : system_of y ≡ system_of x
   pub same : r ≡ None → y ≡ x
-  pub work : (p : Proc) → r ≡ Some p → ((system_of x).condition p.number ≡ Working (config_of p)) × (p.input.value ≡ (setting_of x).input)
+  pub work : (p : Proc) → r ≡ Some p → ((system_of x).condition p.number ≡ Working (config_of p))
+      × (p.input.value ≡ (setting_of x).input)
   pub setting : (y.code ≡ x.code) × (y.limits ≡ x.limits) × (y.root ≡ x.root)
   pub journal : y.journal ≡ x.journal
   pub whole : IsKernel y

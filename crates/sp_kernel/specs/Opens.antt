@@ -1,3 +1,4 @@
+-- None of this belongs to what the program promises: it is for contracts between crates.
 -- What an open does to the kernel. The contracts of `open` cite it; that it is a legal step of the control and the
 -- system is proved from it.
 use Rattle.std.specs.Prelude.{◌≡◌, ℕ, ◌+◌, [], ◌∷◌, ◌++◌, None}
@@ -15,8 +16,10 @@ use Rattle.sp_kernel.specs.Kernels.{back}
 
 -- a channel more, on which nothing is pending
 abbrev pub opens : Proc → Kernel → Kernel
-opens p x = record (back p.number event.Open (slot.Here p st.Ready) x) { ready = x.ready ++ p.number ∷ []; channels = x.channels ++ None ∷ []; entries = x.entries + 1 }
+opens p x = record (back p.number event.Open (slot.Here p st.Ready) x)
+    { ready = x.ready ++ p.number ∷ []; channels = x.channels ++ None ∷ []; entries = x.entries + 1 }
 
 -- from here on its ticks count for the next pause, and it has the number of a channel
 abbrev pub EntersAt : Proc → ℕ → Proc → Type 0
-EntersAt p c q = (config_of q ≡ on_store (put_cell plain p.target (cell.Channel c)) (entered_now (config_of p))) × (q.number ≡ p.number) × (q.input.value ≡ p.input.value)
+EntersAt p c q = (config_of q ≡ on_store (put_cell plain p.target (cell.Channel c)) (entered_now (config_of p)))
+    × (q.number ≡ p.number) × (q.input.value ≡ p.input.value)

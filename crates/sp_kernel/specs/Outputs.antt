@@ -1,3 +1,4 @@
+-- None of this belongs to what the program promises: it is for contracts between crates.
 -- The output of a process that the kernel has: the contracts of the end look for it slot by slot. That there is one
 -- such process is a law of `sp_history`.
 use Rattle.std.specs.Prelude.{ℕ, List, [], ◌∷◌, Option, Some, None}

@@ -1,3 +1,4 @@
+-- None of this belongs to what the program promises: it is for contracts between crates.
 -- A process in memory as the definitions see it, and the turn that was handed in: the words of `sp_machine`, passed on,
 -- with those that the kernel's contracts need besides.
 use Rattle.std.specs.Prelude.{◌≡◌, ℕ, List, Option}
@@ -26,4 +27,5 @@ turn_of h = turn_by h.stop h.proc
 
 -- from here on its ticks count for the next pause
 abbrev pub Enters : Proc → Proc → Type 0
-Enters p q = (config_of q ≡ entered_now (config_of p)) × (q.number ≡ p.number) × (q.target ≡ p.target) × (q.input.value ≡ p.input.value)
+Enters p q = (config_of q ≡ entered_now (config_of p)) × (q.number ≡ p.number) × (q.target ≡ p.target)
+    × (q.input.value ≡ p.input.value)

@@ -1,3 +1,4 @@
+-- None of this belongs to what the program promises: it is for contracts between crates.
 -- What an offer to receive does to the kernel. The contracts of `receive` cite it; that it is a legal step of the
 -- control and the system is proved from it.
 use Rattle.std.specs.Prelude.{◌≡◌, ℕ, ◌+◌, ◌-◌, List, [], ◌∷◌, ◌++◌, Option, Some, None, slice_get, slice_set}
@@ -61,8 +62,10 @@ IsSenderWith (Some (slot.Gone q)) t cs = ⊥
 
 -- from here on its ticks count for the next pause, and it has the message
 abbrev pub EntersWith : Proc → List Cell → Proc → Type 0
-EntersWith p cs q = (config_of q ≡ on_store (put_cells plain p.target cs) (entered_now (config_of p))) × (q.number ≡ p.number) × (q.input.value ≡ p.input.value)
+EntersWith p cs q = (config_of q ≡ on_store (put_cells plain p.target cs) (entered_now (config_of p)))
+    × (q.number ≡ p.number) × (q.input.value ≡ p.input.value)
 
 -- process p received the message of z, and both are ready
 abbrev pub HasReceived : Kernel → Proc → ℕ → ℕ → Kernel → Type 0
-HasReceived x p c z y = (q t : Proc) × (cs : List Cell) × IsSenderWith (slice_get x.slots z) t cs × EntersWith p cs q × (y ≡ meets_receiving q t c z x)
+HasReceived x p c z y = (q t : Proc) × (cs : List Cell) × IsSenderWith (slice_get x.slots z) t cs × EntersWith p cs q
+    × (y ≡ meets_receiving q t c z x)

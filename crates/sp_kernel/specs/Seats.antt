@@ -1,3 +1,4 @@
+-- None of this belongs to what the program promises: it is for contracts between crates.
 -- Children that stand in their slots: the contract of the loop that puts them there.
 use Rattle.std.specs.Prelude.{◌≡◌, ℕ, ◌+◌, ◌<◌, ◌≤◌, List, length, Some, slice_get}
 use Rattle.sp_machine.specs.declared.state.State.{State as Proc}
@@ -10,4 +11,5 @@ pub record Seated (xs : List Slot) (first : ℕ) (children : List Proc) (ys : Li
   pub same : length ys ≡ length xs
   pub before : (q : ℕ) → q < first → slice_get ys q ≡ slice_get xs q
   pub after : (q : ℕ) → first + length children ≤ q → slice_get ys q ≡ slice_get xs q
-  pub seats : (k : ℕ) (c : Proc) → slice_get children k ≡ Some c → slice_get ys (first + k) ≡ Some (slot.Here c st.Ready)
+  pub seats : (k : ℕ) (c : Proc) → slice_get children k ≡ Some c
+      → slice_get ys (first + k) ≡ Some (slot.Here c st.Ready)

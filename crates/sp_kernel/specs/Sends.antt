@@ -1,3 +1,4 @@
+-- None of this belongs to what the program promises: it is for contracts between crates.
 -- What an offer to send does to the kernel. The contracts of `send` cite it; that it is a legal step of the control
 -- and the system is proved from it.
 use Rattle.std.specs.Prelude.{◌≡◌, ℕ, ◌+◌, ◌-◌, List, [], ◌∷◌, ◌++◌, Option, Some, None, slice_get, slice_set}
@@ -48,7 +49,9 @@ IsReceiver (Some (slot.Gone p)) cs = ⊥
 
 -- the receiver is r once it has the cells
 abbrev pub Receives : Option Slot → List Cell → Proc → Type 0
-Receives (Some (slot.Here p (st.Receiving c k))) cs r = (config_of r ≡ on_store (put_cells plain p.target cs) (config_of p)) × (r.number ≡ p.number) × (r.input.value ≡ p.input.value)
+Receives (Some (slot.Here p (st.Receiving c k))) cs r =
+    (config_of r ≡ on_store (put_cells plain p.target cs) (config_of p)) × (r.number ≡ p.number)
+    × (r.input.value ≡ p.input.value)
 Receives None cs r = ⊥
 Receives (Some (slot.Here p st.Ready)) cs r = ⊥
 Receives (Some (slot.Out w p)) cs r = ⊥

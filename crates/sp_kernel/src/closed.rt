@@ -1,6 +1,7 @@
 //! A run that is over: its end, its journal and its output.
 
-ghost use Rattle.std.specs.Prelude.{◌≡◌, ◌≢◌, ◌<◌, ◌++◌, ℕ, List, [], Some, None, MatchOption, IfOk, OnOk, length, slice_get};
+ghost use Rattle.std.specs.Prelude.{◌≡◌, ◌≢◌, ◌<◌, ◌++◌, ℕ, List, [], Some, None, MatchOption, IfOk, OnOk, length};
+ghost use Rattle.std.specs.Prelude.{slice_get};
 ghost use Rattle.std.specs.List.Sorted.{IsPermutation};
 ghost use Rattle.sp_journal.specs.Births.{births};
 ghost use Rattle.sp_journal.specs.Ledger.{IsLedger};
@@ -12,7 +13,8 @@ ghost use Rattle.sp_room.specs.Ends.{object_of, notes_of};
 ghost use Rattle.sp_kernel.specs.Faults.{fault_in};
 ghost use Rattle.sp_kernel.specs.Outputs.{written};
 ghost use Rattle.sp_kernel.specs.Kernels.{control_of, system_of};
-ghost use Rattle.sp_kernel.specs.Closes.{AreByName, waiter_of, waiters_from, with_waiter, SpeaksBelow, EndIs, EndsSo, IsNamed, HeldHere, RanFrom, or_empty};
+ghost use Rattle.sp_kernel.specs.Closes.{AreByName, waiter_of, waiters_from, with_waiter, SpeaksBelow, EndIs, EndsSo};
+ghost use Rattle.sp_kernel.specs.Closes.{IsNamed, HeldHere, RanFrom, or_empty};
 
 use crate::kernel::{Kernel, Standing};
 use crate::slot::{Slot, State};
@@ -103,7 +105,8 @@ fn put_waiter(
     requires ledger { IsLedger ledger.now }
     requires there { number < (births ledger.now.journal.entries).processes }
     requires spoken { SpeaksBelow (births ledger.now.journal.entries).channels slot.now }
-    ensures { OnOk result (waiters.new.items ≡ waiters.old.items ++ with_waiter (births ledger.now.journal.entries) number slot.now []) }
+    ensures { OnOk result (waiters.new.items ≡ waiters.old.items
+        ++ with_waiter (births ledger.now.journal.entries) number slot.now []) }
 {
     match slot {
         Slot::Here(_, State::Sending(channel, _, _)) => {
@@ -124,7 +127,8 @@ fn put_waiter(
 fn waiters_in(alloc: Global, ledger: &Ledger, slots: &[Slot]) -> Result<Vec<Waiter>, Memory>
     requires ledger { IsLedger ledger.now }
     requires there { length slots.now ≡ (births ledger.now.journal.entries).processes }
-    requires spoken { (q : ℕ) (s : Slot) → slice_get slots.now q ≡ Some s → SpeaksBelow (births ledger.now.journal.entries).channels s }
+    requires spoken { (q : ℕ) (s : Slot) → slice_get slots.now q ≡ Some s
+        → SpeaksBelow (births ledger.now.journal.entries).channels s }
     ensures { IfOk result (λ ws. ws.items ≡ waiters_from (births ledger.now.journal.entries) 0 slots.now) }
 {
     let _few = ledger.processes();
@@ -219,14 +223,16 @@ impl Kernel {
         }
     }
 
-    /// The run that a room has brought to its end. Its output is that of the one process that holds it, and empty where a worker
-    /// gave up. At a deadlock no process of it can go on.
+    /// The run that a room has brought to its end. Its output is that of the one process that holds it, and empty where
+    /// a worker gave up. At a deadlock no process of it can go on.
     pub fn close(alloc: Global, settled: Settled<Kernel>) -> Result<Closed, Memory>
         requires ran { RanFrom (notes_of settled) (object_of settled) }
         ensures end { IfOk result (λ c. EndIs (object_of settled) c.end) }
-        ensures idle { standing (control_of (object_of settled)) ≡ IsDeadlock → (q : ℕ) → phase_in ((system_of (object_of settled)).condition q) ≢ Running }
+        ensures idle { standing (control_of (object_of settled)) ≡ IsDeadlock → (q : ℕ)
+            → phase_in ((system_of (object_of settled)).condition q) ≢ Running }
         ensures journal { IfOk result (λ c. c.journal.entries ≡ entries_of (notes_of settled)) }
-        ensures output { IfOk result (λ c. (object_of settled).abandons ≡ 0 → (q : ℕ) × IsOutputOf (system_of (object_of settled)) q c.output) }
+        ensures output { IfOk result (λ c. (object_of settled).abandons ≡ 0 → (q : ℕ)
+            × IsOutputOf (system_of (object_of settled)) q c.output) }
         ensures none { IfOk result (λ c. 0 < (object_of settled).abandons → c.output ≡ []) }
     {
         let kernel = settled.into_object();

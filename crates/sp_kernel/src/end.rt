@@ -52,7 +52,8 @@ impl Kernel {
     // The first process ends.
     fn end_root(&mut self, mut proc: Proc) -> Result<(), Proc>
         requires there { proc.number < length self.old.slots }
-        ensures ok { OnOk result ((p : _) × Enters proc p × (self.new ≡ back proc.number event.End (slot.Here p st.Over) self.old)) }
+        ensures ok { OnOk result ((p : _) × Enters proc p
+            × (self.new ≡ back proc.number event.End (slot.Here p st.Over) self.old)) }
         ensures err { OnErr result (self.new ≡ self.old) }
         ensures returned { IfErr result (λ p. p ≡ proc) }
     {
@@ -69,7 +70,8 @@ impl Kernel {
     fn rejoin(&mut self, parent: u32, child: Proc)
         requires there { parent < length self.old.slots }
         requires joiner { IsJoiner (slice_get self.old.slots parent) child }
-        ensures { (t : _) × Joins (slice_get self.old.slots parent) child t × (self.new ≡ record self.old { slots = slice_set self.old.slots parent t }) }
+        ensures { (t : _) × Joins (slice_get self.old.slots parent) child t
+            × (self.new ≡ record self.old { slots = slice_set self.old.slots parent t }) }
     {
         match swap(&mut self.slots, parent, Slot::Ended) {
             Slot::Here(mut process, state) => match state {
@@ -104,7 +106,8 @@ impl Kernel {
         requires there { (proc.number < length self.old.slots) × (parent < length self.old.slots) }
         requires apart { proc.number ≢ parent }
         requires joiner { IsJoiner (slice_get self.old.slots parent) proc }
-        ensures ok { OnOk result ((t : _) × Joins (slice_get self.old.slots parent) proc t × (self.new ≡ ends_child proc.number parent t self.old)) }
+        ensures ok { OnOk result ((t : _) × Joins (slice_get self.old.slots parent) proc t
+            × (self.new ≡ ends_child proc.number parent t self.old)) }
         ensures err { OnErr result (self.new ≡ self.old) }
         ensures returned { IfErr result (λ p. p ≡ proc) }
     {

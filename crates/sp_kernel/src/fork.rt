@@ -30,7 +30,8 @@ impl Kernel {
         Some(count as u32)
     }
 
-    // There is room for the children of a process: in the queue, where they stand, and in the tables. The entry is made.
+    // There is room for the children of a process: in the queue, where they stand, and in the tables. The entry is
+    // made.
     fn admit(&mut self, process: u32, count: u32) -> Result<(), Memory>
         requires { length self.old.slots + count < 4294967296 }
         ensures ok { OnOk result (self.new ≡ admitted process count self.old) }
@@ -59,7 +60,8 @@ impl Kernel {
 
     // The children are not there after all.
     fn dismiss(&mut self, first: u32, families: usize, count: u32)
-        ensures { (x : Kernel) (p : ℕ) → length x.slots ≡ first → length x.parents ≡ families → self.old ≡ admitted p count x → self.new ≡ x }
+        ensures { (x : Kernel) (p : ℕ) → length x.slots ≡ first → length x.parents ≡ families
+            → self.old ≡ admitted p count x → self.new ≡ x }
     {
         self.ready.shorten(count);
         self.slots.truncate(first as usize);

@@ -1,13 +1,16 @@
 //! The processes of a run, its channels and its journal, with the calls `new`, `take`, `give` and `abandon`.
 
-ghost use Rattle.std.specs.Prelude.{◌≡◌, ◌+◌, ◌-◌, ◌<◌, nat_lt, true, false, IfSome, Some, None, [], ◌∷◌, ◌++◌, length, slice_get, slice_set, OnOk, OnErr, IfErr, IfOk};
+ghost use Rattle.std.specs.Prelude.{◌≡◌, ◌+◌, ◌-◌, ◌<◌, nat_lt, true, false, IfSome, Some, None, [], ◌∷◌, ◌++◌, length};
+ghost use Rattle.std.specs.Prelude.{slice_get, slice_set, OnOk, OnErr, IfErr, IfOk};
 ghost use Rattle.sp_journal.specs.declared.entry.Event.TheVariants as event;
 ghost use Rattle.sp_kernel.specs.declared.slot.Slot.TheVariants as slot;
 ghost use Rattle.sp_kernel.specs.declared.slot.State.TheVariants as st;
 ghost use Rattle.sp_code.specs.Control.{has_ended, Out};
 ghost use Rattle.sp_code.specs.Sound.{IsSound, AreLimits, run_of};
 ghost use Rattle.sp_machine.specs.Procs.{config_of, start_of};
-ghost use Rattle.sp_kernel.specs.Kernels.{entered, back, paused, goes_out, lost, doing_in, condition_in, IsReady, IsKernel, Gave, Takes, is_over, control_of, system_of, setting_of, stands_as, Abandons};
+ghost use Rattle.sp_kernel.specs.Kernels.{entered, back, paused, goes_out, lost, doing_in, condition_in, IsReady};
+ghost use Rattle.sp_kernel.specs.Kernels.{IsKernel, Gave, Takes, is_over, control_of, system_of, setting_of, stands_as};
+ghost use Rattle.sp_kernel.specs.Kernels.{Abandons};
 ghost use Rattle.sp_kernel.specs.Fits.{Fits};
 ghost use Rattle.sp_kernel.specs.Asks.{IsOpening};
 ghost use Rattle.sp_machine.specs.declared.state.Stop.TheVariants as stop;
@@ -60,8 +63,8 @@ pub struct Kernel {
 }
 
 impl Kernel {
-    /// A run of the code that begins with this process: it is ready, and the journal is empty. What the kernel needs later it
-    /// takes from `alloc`.
+    /// A run of the code that begins with this process: it is ready, and the journal is empty. What the kernel needs
+    /// later it takes from `alloc`.
 
     pub fn new(alloc: Global, root: Proc, code: Arc<Code>, limits: Limits) -> Result<Kernel, Memory>
         requires root { (config_of root ≡ start_of code.value root.input.value) × (root.number ≡ 0) }
@@ -137,7 +140,8 @@ impl Kernel {
         self.abandons > 0
     }
 
-    /// The oldest ready process goes out with the worker; none exactly where none is ready, or the run does not stand as running.
+    /// The oldest ready process goes out with the worker; none exactly where none is ready, or the run does not stand
+    /// as running.
     pub fn take(&mut self, worker: u32) -> Option<Proc>
         requires whole { IsKernel self.old }
         requires out { self.old.out + 1 < 18446744073709551616 }
@@ -152,8 +156,8 @@ impl Kernel {
         }
     }
 
-    /// Does the one event of what is handed in, and appends its entry. Where memory is refused, nothing has changed, and what was
-    /// handed in comes back.
+    /// Does the one event of what is handed in, and appends its entry. Where memory is refused, nothing has changed,
+    /// and what was handed in comes back.
     pub fn give(&mut self, worker: u32, handed: Handed) -> Result<(), Handed>
         requires whole { IsKernel self.old }
         requires fits { Fits self.old worker handed }
@@ -222,7 +226,8 @@ impl Kernel {
         process: u32,
         event: Event,
     ) -> Result<(), Memory>
-        ensures ok { OnOk result (self.new ≡ record (entered process event self.old) { ready = self.old.ready ++ ready ∷ [] }) }
+        ensures ok { OnOk result (self.new ≡ record (entered process event self.old)
+            { ready = self.old.ready ++ ready ∷ [] }) }
         ensures err { OnErr result (self.new ≡ self.old) }
     {
         self.ready.push(ready)?;
@@ -236,7 +241,8 @@ impl Kernel {
     // One entry more, and two processes at the back of the queue.
     #[tactic(auto, using(crate::proofs::Lines::last_gone))]
     pub(crate) fn note_both(&mut self, other: u32, process: u32, event: Event) -> Result<(), Memory>
-        ensures ok { OnOk result (self.new ≡ record (entered process event self.old) { ready = (self.old.ready ++ other ∷ []) ++ process ∷ [] }) }
+        ensures ok { OnOk result (self.new ≡ record (entered process event self.old)
+            { ready = (self.old.ready ++ other ∷ []) ++ process ∷ [] }) }
         ensures err { OnErr result (self.new ≡ self.old) }
     {
         self.ready.push(other)?;
@@ -259,7 +265,8 @@ impl Kernel {
     // A process that came back after a fault is laid down.
     fn lay(&mut self, handed: Handed) -> Result<(), Handed>
         requires there { handed.proc.number < length self.old.slots }
-        ensures ok { OnOk result (self.new ≡ back handed.proc.number event.Laid (slot.Here handed.proc st.Laid) self.old) }
+        ensures ok { OnOk result (self.new ≡ back handed.proc.number event.Laid (slot.Here handed.proc st.Laid)
+            self.old) }
         ensures err { OnErr result (self.new ≡ self.old) }
         ensures returned { IfErr result (λ h. h ≡ handed) }
     {
@@ -274,7 +281,8 @@ impl Kernel {
     // A process meets a fault.
     pub(crate) fn fail(&mut self, handed: Handed, fault: Fault) -> Result<(), Handed>
         requires there { handed.proc.number < length self.old.slots }
-        ensures ok { OnOk result (self.new ≡ record (back handed.proc.number (event.Fault fault) (slot.Here handed.proc st.Laid) self.old) { faulted = true }) }
+        ensures ok { OnOk result (self.new ≡ record (back handed.proc.number (event.Fault fault)
+            (slot.Here handed.proc st.Laid) self.old) { faulted = true }) }
         ensures err { OnErr result (self.new ≡ self.old) }
         ensures returned { IfErr result (λ h. h ≡ handed) }
     {
@@ -364,7 +372,8 @@ impl Kernel {
     fn lose(&mut self, _worker: u32, number: u32)
         requires out { doing_in (slice_get self.old.slots number) ≡ Out _worker }
         requires abandons { self.old.abandons + 1 < 18446744073709551616 }
-        ensures { (p : _) × (condition_in (Some (slot.Gone p)) ≡ (system_of self.old).condition number) × (self.new ≡ lost number (slot.Gone p) self.old) }
+        ensures { (p : _) × (condition_in (Some (slot.Gone p)) ≡ (system_of self.old).condition number)
+            × (self.new ≡ lost number (slot.Gone p) self.old) }
     {
         match swap(&mut self.slots, number, Slot::Ended) {
             Slot::Out(_, left) => put(&mut self.slots, number, Slot::Gone(left)),

@@ -19,7 +19,10 @@ use sp_machine::{Answer, Proc, Stop};
 impl Kernel {
     // The last entry goes, and who is last in the queue.
     fn unnote(&mut self)
-        ensures { self.new ≡ record self.old { journal = record { entries = without_last self.old.journal.entries }; ready = without_last self.old.ready } }
+        ensures { self.new ≡ record self.old {
+          journal = record { entries = without_last self.old.journal.entries };
+          ready = without_last self.old.ready;
+        } }
     {
         drop_last(&mut self.journal.entries);
         self.ready.untake();
@@ -32,7 +35,8 @@ impl Kernel {
         requires few { self.old.entries + 1 < 18446744073709551616 }
         requires channels { length self.old.channels < 4294967295 }
         requires target { CanTake proc (cell.Channel (length self.old.channels) ∷ []) }
-        ensures ok { OnOk result ((p : _) × EntersAt proc (length self.old.channels) p × (self.new ≡ opens p self.old)) }
+        ensures ok { OnOk result ((p : _) × EntersAt proc (length self.old.channels) p
+            × (self.new ≡ opens p self.old)) }
         ensures err { OnErr result (self.new ≡ self.old) }
         ensures returned { IfErr result (λ p. p ≡ proc) }
     {

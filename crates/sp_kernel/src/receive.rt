@@ -1,6 +1,7 @@
 //! The event of an offer to receive: it waits, it meets an offer to send, or it is a fault.
 
-ghost use Rattle.std.specs.Prelude.{◌≡◌, ◌+◌, ◌<◌, false, Some, None, length, slice_get, slice_index_or, slice_set, OnOk, OnErr, IfErr};
+ghost use Rattle.std.specs.Prelude.{◌≡◌, ◌+◌, ◌<◌, false, Some, None, length, slice_get, slice_index_or, slice_set};
+ghost use Rattle.std.specs.Prelude.{OnOk, OnErr, IfErr};
 ghost use Rattle.sp_journal.specs.declared.entry.Way.TheVariants as way;
 ghost use Rattle.sp_kernel.specs.declared.slot.Slot.TheVariants as slot;
 ghost use Rattle.sp_kernel.specs.declared.slot.State.TheVariants as st;
@@ -45,7 +46,8 @@ impl Kernel {
     fn fetch(&mut self, other: u32, _receiver: &Proc) -> List<Cell>
         requires there { other < length self.old.slots }
         requires sender { IsSender (slice_get self.old.slots other) _receiver.now }
-        ensures given { (q : _) × IsSenderWith (slice_get self.old.slots other) q result × (self.new ≡ seated other (slot.Here q st.Ready) self.old) }
+        ensures given { (q : _) × IsSenderWith (slice_get self.old.slots other) q result
+            × (self.new ≡ seated other (slot.Here q st.Ready) self.old) }
         ensures fits { CanTake _receiver.now result }
     {
         match swap(&mut self.slots, other, Slot::Ended) {
@@ -71,7 +73,8 @@ impl Kernel {
         requires there { (proc.number < length self.old.slots) × (other < length self.old.slots) }
         requires few { self.old.entries + 1 < 18446744073709551616 }
         requires channel { channel < length self.old.channels }
-        requires pending { slice_index_or self.old.channels channel None ≡ Some (record { way = way.Send; process = other; message = message }) }
+        requires pending { slice_index_or self.old.channels channel None
+            ≡ Some (record { way = way.Send; process = other; message = message }) }
         requires sender { IsSender (slice_get self.old.slots other) proc }
         ensures ok { OnOk result (HasReceived self.old proc channel other self.new) }
         ensures err { OnErr result (self.new ≡ self.old) }
@@ -104,7 +107,8 @@ impl Kernel {
         requires whole { IsKernel self.old }
         requires quiet { self.old.faulted ≡ false }
         requires fits { Fits self.old _worker (record { proc = proc; stop = stop.Receive channel message }) }
-        ensures ok { OnOk result (Gave self.old proc.number (record { proc = proc; stop = stop.Receive channel message }) self.new) }
+        ensures ok { OnOk result (Gave self.old proc.number
+            (record { proc = proc; stop = stop.Receive channel message }) self.new) }
         ensures err { OnErr result (self.new ≡ self.old) }
         ensures returned { IfErr result (λ h. h ≡ record { proc = proc; stop = stop.Receive channel message }) }
     {

@@ -1,6 +1,7 @@
 //! The event of an offer to send: it waits, it meets an offer to receive, or it is a fault.
 
-ghost use Rattle.std.specs.Prelude.{◌≡◌, ◌+◌, ◌<◌, false, Some, None, length, slice_get, slice_index_or, slice_set, OnOk, OnErr, IfErr};
+ghost use Rattle.std.specs.Prelude.{◌≡◌, ◌+◌, ◌<◌, false, Some, None, length, slice_get, slice_index_or, slice_set};
+ghost use Rattle.std.specs.Prelude.{OnOk, OnErr, IfErr};
 ghost use Rattle.sp_journal.specs.declared.entry.Way.TheVariants as way;
 ghost use Rattle.sp_kernel.specs.declared.slot.Slot.TheVariants as slot;
 ghost use Rattle.sp_kernel.specs.declared.slot.State.TheVariants as st;
@@ -32,7 +33,8 @@ impl Kernel {
         requires few { self.old.entries + 1 < 18446744073709551616 }
         requires channel { channel < length self.old.channels }
         requires free { slice_index_or self.old.channels channel None ≡ None }
-        ensures ok { OnOk result ((p : _) × Enters proc p × (self.new ≡ waits_to_send p channel message cells self.old)) }
+        ensures ok { OnOk result ((p : _) × Enters proc p
+            × (self.new ≡ waits_to_send p channel message cells self.old)) }
         ensures err { OnErr result (self.new ≡ self.old) }
         ensures returned { IfErr result (λ r. (r.0 ≡ proc) × (r.1 ≡ cells)) }
     {
@@ -54,7 +56,8 @@ impl Kernel {
     fn deliver(&mut self, other: u32, cells: List<Cell>)
         requires there { other < length self.old.slots }
         requires receiver { IsReceiver (slice_get self.old.slots other) cells }
-        ensures { (r : _) × Receives (slice_get self.old.slots other) cells r × (self.new ≡ seated other (slot.Here r st.Ready) self.old) }
+        ensures { (r : _) × Receives (slice_get self.old.slots other) cells r
+            × (self.new ≡ seated other (slot.Here r st.Ready) self.old) }
     {
         match swap(&mut self.slots, other, Slot::Ended) {
             Slot::Here(mut receiver, State::Receiving(_, _)) => {
@@ -77,7 +80,8 @@ impl Kernel {
         requires there { (proc.number < length self.old.slots) × (other < length self.old.slots) }
         requires few { self.old.entries + 1 < 18446744073709551616 }
         requires channel { channel < length self.old.channels }
-        requires pending { slice_index_or self.old.channels channel None ≡ Some (record { way = way.Receive; process = other; message = message }) }
+        requires pending { slice_index_or self.old.channels channel None
+            ≡ Some (record { way = way.Receive; process = other; message = message }) }
         requires receiver { IsReceiver (slice_get self.old.slots other) cells }
         ensures ok { OnOk result (HasSent self.old proc cells channel other self.new) }
         ensures err { OnErr result (self.new ≡ self.old) }
@@ -107,7 +111,8 @@ impl Kernel {
         requires whole { IsKernel self.old }
         requires quiet { self.old.faulted ≡ false }
         requires fits { Fits self.old _worker (record { proc = proc; stop = stop.Send channel message cells }) }
-        ensures ok { OnOk result (Gave self.old proc.number (record { proc = proc; stop = stop.Send channel message cells }) self.new) }
+        ensures ok { OnOk result (Gave self.old proc.number
+            (record { proc = proc; stop = stop.Send channel message cells }) self.new) }
         ensures err { OnErr result (self.new ≡ self.old) }
         ensures returned { IfErr result (λ h. h ≡ record { proc = proc; stop = stop.Send channel message cells }) }
     {

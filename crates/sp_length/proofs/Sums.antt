@@ -1,7 +1,8 @@
 -- A told length is the same whatever part of it was told before.
 use Rattle.std.proofs.Common.{◌≡◌, ℕ, ◌+◌, true, false, refl, sym, arith, true≢false}
 use Rattle.std.specs.Prelude.{min}
-use Rattle.sp_tree.specs.Plain.{ExprForm, Selector, Index, Field, Selectors, Select, Whole, Actual, ByValue, ByReference, Actuals, Pass, Nothing}
+use Rattle.sp_tree.specs.Plain.{ExprForm, Selector, Index, Field, Selectors, Select, Whole, Actual, ByValue}
+use Rattle.sp_tree.specs.Plain.{ByReference, Actuals, Pass, Nothing}
 use Rattle.sp_code.specs.Scopes.{Sort, Ordinals, Channels, Many, NoSort}
 use Rattle.sp_code.specs.Lengths.{form_length, right_length, selectors_length, actuals_length}
 use Rattle.sp_length.specs.Told.{told}
@@ -20,28 +21,35 @@ first_of : (q a b c : ℕ) → a ≡ b + c → told (told (q + b) + c) ≡ told 
 first_of q a b c e = split 4294967295 q a b c e
 
 -- the first of several parts, and the rest
-select_rest : (s : Selector) (rest : Selectors) → selectors_length (Select s rest) ≡ selectors_length (Select s Whole) + selectors_length rest
+select_rest : (s : Selector) (rest : Selectors)
+    → selectors_length (Select s rest) ≡ selectors_length (Select s Whole) + selectors_length rest
 select_rest (Index e) rest = omega arith
 select_rest (Field f) rest = omega arith
 
-pub selected : (q : ℕ) (s : Selector) (rest : Selectors) → told (told (q + selectors_length (Select s Whole)) + selectors_length rest) ≡ told (q + selectors_length (Select s rest))
+pub selected : (q : ℕ) (s : Selector) (rest : Selectors)
+    → told (told (q + selectors_length (Select s Whole)) + selectors_length rest)
+    ≡ told (q + selectors_length (Select s rest))
 selected q s rest = first_of q _ _ _ (select_rest s rest)
 
-pass_rest : (a : Actual) (rest : Actuals) → actuals_length (Pass a rest) ≡ actuals_length (Pass a Nothing) + actuals_length rest
+pass_rest : (a : Actual) (rest : Actuals) → actuals_length (Pass a rest) ≡ actuals_length (Pass a Nothing)
+    + actuals_length rest
 pass_rest (ByValue e) rest = omega arith
 pass_rest (ByReference v) rest = omega arith
 
-pub passed : (q : ℕ) (a : Actual) (rest : Actuals) → told (told (q + actuals_length (Pass a Nothing)) + actuals_length rest) ≡ told (q + actuals_length (Pass a rest))
+pub passed : (q : ℕ) (a : Actual) (rest : Actuals)
+    → told (told (q + actuals_length (Pass a Nothing)) + actuals_length rest) ≡ told (q + actuals_length (Pass a rest))
 passed q a rest = first_of q _ _ _ (pass_rest a rest)
 
 -- the right side of an assignment, of one cell and of many
-pub one_cell : (q : ℕ) (s : Sort) (form : ExprForm) → is_many s ≡ false → told (q + form_length form) ≡ told (q + right_length s form)
+pub one_cell : (q : ℕ) (s : Sort) (form : ExprForm) → is_many s ≡ false
+    → told (q + form_length form) ≡ told (q + right_length s form)
 one_cell q Ordinals form e = refl
 one_cell q Channels form e = refl
 one_cell q Many form e = absurd (true≢false e)
 one_cell q NoSort form e = refl
 
-pub many_cells : (q : ℕ) (s : Sort) (form : ExprForm) → is_many s ≡ true → told (q + right_length Many form) ≡ told (q + right_length s form)
+pub many_cells : (q : ℕ) (s : Sort) (form : ExprForm) → is_many s ≡ true
+    → told (q + right_length Many form) ≡ told (q + right_length s form)
 many_cells q Ordinals form e = absurd (true≢false (sym e))
 many_cells q Channels form e = absurd (true≢false (sym e))
 many_cells q Many form e = refl

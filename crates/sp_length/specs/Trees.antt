@@ -1,3 +1,4 @@
+-- None of this belongs to what the program promises: it is for contracts between crates.
 -- Parts of a tree in memory, and their lengths one at a time, for the contracts of `statements`, which adds one part
 -- after another.
 use Rattle.std.specs.Prelude.{ℕ, ◌+◌, Bool, true, false, Option, Some, None}

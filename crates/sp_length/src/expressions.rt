@@ -1,9 +1,11 @@
 //! The lengths of expressions. Each function adds a part's length to what is given.
 
 ghost use Rattle.std.specs.Prelude.{◌≡◌, ◌+◌, map, option_map};
-ghost use Rattle.sp_tree.specs.PlainOf.{expr_of, form_of, var_of, selector_of, actuals_of, actual_of, width_of, standard_of, selectors_of};
+ghost use Rattle.sp_tree.specs.PlainOf.{expr_of, form_of, var_of, selector_of, actuals_of, actual_of, width_of};
+ghost use Rattle.sp_tree.specs.PlainOf.{standard_of, selectors_of};
 ghost use Rattle.sp_tree.specs.Plain.{Pass, Nothing, Select, Whole};
-ghost use Rattle.sp_code.specs.Lengths.{unary_length, standard_length, value_length, form_length, var_length, selectors_length, actuals_length, width_length};
+ghost use Rattle.sp_code.specs.Lengths.{unary_length, standard_length, value_length, form_length, var_length};
+ghost use Rattle.sp_code.specs.Lengths.{selectors_length, actuals_length, width_length};
 ghost use Rattle.sp_length.specs.Told.{told};
 
 use crate::sum::sum;

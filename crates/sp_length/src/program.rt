@@ -9,8 +9,8 @@ use crate::statements::stmt_length;
 use crate::sum::sum;
 use sp_tree::Checked;
 
-/// How many instructions the code of the program has, or 4,294,967,295 where it has more. It takes no memory. It recurses
-/// as deep as the tree is.
+/// How many instructions the code of the program has, or 4,294,967,295 where it has more. It takes no memory. It
+/// recurses as deep as the tree is.
 #[tactic(auto, using(crate::proofs::Sums::summed))]
 pub fn length(program: &Checked) -> u32
     ensures { result ≡ told (tree_length (program_of program.now)) }

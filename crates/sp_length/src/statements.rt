@@ -1,10 +1,12 @@
 //! The lengths of statements. Each function adds a part's length to what is given.
 
 ghost use Rattle.std.specs.Prelude.{◌≡◌, ◌+◌, ◌∷◌, [], length, map, option_map, slice_get};
-ghost use Rattle.sp_tree.specs.PlainOf.{expr_of, form_of, var_of, stmt_of, sends, receives, arms_of, program_of, stmt_form_of, stmts_of};
+ghost use Rattle.sp_tree.specs.PlainOf.{expr_of, form_of, var_of, stmt_of, sends, receives, arms_of, program_of};
+ghost use Rattle.sp_tree.specs.PlainOf.{stmt_form_of, stmts_of};
 ghost use Rattle.sp_tree.specs.Plain.{Send, Receive, And, No, Or, NoArm, Case, Parallel, Sequence};
 ghost use Rattle.sp_code.specs.Scopes.{sort_by, Many};
-ghost use Rattle.sp_code.specs.Lengths.{right_length, stmt_length, all_length, children_length, arms_length, tests_length};
+ghost use Rattle.sp_code.specs.Lengths.{right_length, stmt_length, all_length, children_length, arms_length};
+ghost use Rattle.sp_code.specs.Lengths.{tests_length};
 ghost use Rattle.sp_length.specs.Told.{told};
 ghost use Rattle.sp_length.specs.Trees.{is_many, right_side, else_length};
 
@@ -232,7 +234,8 @@ fn tests_length(arms: &List<Arm>, q: u32) -> u32
 /// Several values on one channel, whose length is counted once.
 #[tactic(auto, using(crate::proofs::Sums::each))]
 fn sends_length(program: &Checked, channel: &Expr, values: &List<Expr>, q: u32) -> u32
-    ensures { result ≡ told (q + all_length (program_of program.now) (sends (expr_of channel.now) (map expr_of values.now))) }
+    ensures { result ≡ told (q + all_length (program_of program.now)
+        (sends (expr_of channel.now) (map expr_of values.now))) }
 {
     let each = value_length(channel, 1);
     let mut q = q;
@@ -246,7 +249,8 @@ fn sends_length(program: &Checked, channel: &Expr, values: &List<Expr>, q: u32) 
 /// Several variables from one channel, whose length is counted once.
 #[tactic(auto, using(crate::proofs::Sums::each))]
 fn receives_length(program: &Checked, channel: &Expr, variables: &List<Var>, q: u32) -> u32
-    ensures { result ≡ told (q + all_length (program_of program.now) (receives (expr_of channel.now) (map var_of variables.now))) }
+    ensures { result ≡ told (q + all_length (program_of program.now)
+        (receives (expr_of channel.now) (map var_of variables.now))) }
 {
     let each = value_length(channel, 1);
     let mut q = q;

@@ -26,9 +26,13 @@ use Rattle.sp_link.proofs.OneChanges.{its}
 use Rattle.sp_link.proofs.Pauses.{Meant, Machined, Kept_to, kids, turn_is}
 use Rattle.sp_link.proofs.Relation.{Ground, Lives, W_of, R_of, Stands, Ca, Linked, ops}
 
-module _ (G : Ground) (lv : Lives G) (c : Course) (s : StateOf G.g) (u : System Plain) (l : Linked G lv c s u) (i : ℕ) (d : Config (Memory Plain)) (at_i : u.condition i ≡ sys.Working d)
-    (z : Stands G (lv (w G lv c s u l i d at_i)) (kids G lv c s u l i d at_i) (w G lv c s u l i d at_i) (c.since (w G lv c s u l i d at_i)) (p1 G lv c s u l i d at_i) s.store d)
-    (ch : Channel) (kd : ℕ) (cg : Cargo Held Address) (todo : List Item) (o : Own) (m : Store) (x : Meant G lv c s u l i d at_i z (Got (source.Stops (Offered ch kd cg todo)) o, m)) (t : Machined G lv c s u l i d at_i z (Got (source.Stops (Offered ch kd cg todo)) o, m))
+module _ (G : Ground) (lv : Lives G) (c : Course) (s : StateOf G.g) (u : System Plain) (l : Linked G lv c s u) (i : ℕ)
+    (d : Config (Memory Plain)) (at_i : u.condition i ≡ sys.Working d)
+    (z : Stands G (lv (w G lv c s u l i d at_i)) (kids G lv c s u l i d at_i) (w G lv c s u l i d at_i)
+    (c.since (w G lv c s u l i d at_i)) (p1 G lv c s u l i d at_i) s.store d)
+    (ch : Channel) (kd : ℕ) (cg : Cargo Held Address) (todo : List Item) (o : Own) (m : Store)
+    (x : Meant G lv c s u l i d at_i z (Got (source.Stops (Offered ch kd cg todo)) o, m))
+    (t : Machined G lv c s u l i d at_i z (Got (source.Stops (Offered ch kd cg todo)) o, m))
     (y : Kept_to G lv c s u l i d at_i z (Got (source.Stops (Offered ch kd cg todo)) o, m)) where
   abbrev pub v : Name
   v = w G lv c s u l i d at_i
@@ -54,7 +58,16 @@ module _ (G : Ground) (lv : Lives G) (c : Course) (s : StateOf G.g) (u : System 
 
   -- what it keeps to when it goes on, and that it may take what it asks for
   pub holds : Holds G.g.program (W_of G lv) (R_of G lv) x.at.forks v (Rattle.sp_meaning.specs.Model.Waits off)
-  holds = (record { named = x.good.named; forked = ap (λ (a : Who). a.forks) x.who_is ∙ (kt G lv c s u l i d at_i).forked ∙ ap (λ a. a v) (sym x.elsewhere.forks); last = (kt G lv c s u l i d at_i).last; fit = y.final.1 }, y.final.0)
+  holds = (
+    record {
+      named = x.good.named;
+      forked = ap (λ (a : Who). a.forks) x.who_is
+          ∙ (kt G lv c s u l i d at_i).forked ∙ ap (λ a. a v) (sym x.elsewhere.forks);
+      last = (kt G lv c s u l i d at_i).last;
+      fit = y.final.1;
+    },
+    y.final.0,
+  )
 
   module _ (since1 : ℕ) (since_is : since1 ≡ (t.2).ticks) where
     abbrev pub stands : Stands G (lv v) (λ a b. lv ((a, b) ∷ v)) v since1 off.next x.at.store there
@@ -66,10 +79,16 @@ module _ (G : Ground) (lv : Lives G) (c : Course) (s : StateOf G.g) (u : System 
       stack = t.1;
       memory = n1;
       is = refl;
-      stand = stand_again G (lv v) (λ a b. lv ((a, b) ∷ v)) v {w = (p1 G lv c s u l i d at_i).who} {w1 = x.left.who} {since = c.since v} {since1 = since1} (ap (λ (a : Who). a.name) x.who_is) since_is
-          (stand_dead G (lv v) (λ a b. lv ((a, b) ∷ v)) v t.8 x.at.store (λ a. subst (λ b. (x.at.store a ≡ m a) ⊎ IsDead b a) (ap (λ b. length b) (t.8).frames ∙ sources_length t.3) (same_but_dead G lv c s u l i d at_i z (Offered ch kd cg todo) o m x tt a)));
-      follows = follows_again G (lv v) (λ a b. lv ((a, b) ∷ v)) v z.fresh z.fresh (p1 G lv c s u l i d at_i).who x.left.who z.named x.good.named (c.since v) since1 t.0 t.1 t.3 todo t.10;
+      stand = stand_again G (lv v) (λ a b. lv ((a, b) ∷ v)) v {w = (p1 G lv c s u l i d at_i).who} {w1 = x.left.who}
+          {since = c.since v} {since1 = since1} (ap (λ (a : Who). a.name) x.who_is) since_is
+          (stand_dead G (lv v) (λ a b. lv ((a, b) ∷ v)) v t.8 x.at.store
+          (λ a. subst (λ b. (x.at.store a ≡ m a) ⊎ IsDead b a)
+          (ap (λ b. length b) (t.8).frames ∙ sources_length t.3)
+          (same_but_dead G lv c s u l i d at_i z (Offered ch kd cg todo) o m x tt a)));
+      follows = follows_again G (lv v) (λ a b. lv ((a, b) ∷ v)) v z.fresh z.fresh (p1 G lv c s u l i d at_i).who
+          x.left.who z.named x.good.named (c.since v) since1 t.0 t.1 t.3 todo t.10;
     }
 
     pub cargo : Ca G (lv v) (λ a b. lv ((a, b) ∷ v)) v z.fresh x.left.who x.good.named since1 t.3 ch kd cg t.5
-    cargo = cargo_again G (lv v) (λ a b. lv ((a, b) ∷ v)) v z.fresh z.fresh (p1 G lv c s u l i d at_i).who x.left.who z.named x.good.named (c.since v) since1 t.3 ch kd cg t.5 t.9
+    cargo = cargo_again G (lv v) (λ a b. lv ((a, b) ∷ v)) v z.fresh z.fresh (p1 G lv c s u l i d at_i).who x.left.who
+        z.named x.good.named (c.since v) since1 t.3 ch kd cg t.5 t.9

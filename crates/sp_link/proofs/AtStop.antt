@@ -1,6 +1,7 @@
 -- A process at its stop, before its kernel step: all others stand as before its turn, with the system of the machine
 -- unchanged (`does_at`), and rights and totals are those of before.
-use Rattle.std.proofs.Common.{◌≡◌, ◌⊎◌, inl, ⊎_elim, ℕ, ◌<◌, ◌∷◌, Some, Bool, true, false, refl, sym, ap, ◌∙◌, subst, arith, List, length}
+use Rattle.std.proofs.Common.{◌≡◌, ◌⊎◌, inl, ⊎_elim, ℕ, ◌<◌, ◌∷◌, Some, Bool, true, false, refl, sym, ap, ◌∙◌, subst}
+use Rattle.std.proofs.Common.{arith, List, length}
 use Rattle.std.specs.Prelude.{◌≢◌}
 use Rattle.sp_cell.specs.Map.{Plain}
 use Rattle.sp_meaning.specs.Model.{Name, Absent}
@@ -24,13 +25,15 @@ use Rattle.sp_code.specs.Memory.{Memory}
 use Rattle.sp_code.specs.System.{System}
 use Rattle.sp_code.specs.System as sys
 use Rattle.sp_link.proofs.TurnsMeet.{Keeps_it, keeps, turn_known, pure_blocks, Wr, Rd}
-use Rattle.sp_link.proofs.OneChanges.{q, pr, runs, alone, light, keeps_to, here, present, not_ended, holds_by, inv_local}
+use Rattle.sp_link.proofs.OneChanges.{q, pr, runs, alone, light, keeps_to, here, present, not_ended, holds_by}
+use Rattle.sp_link.proofs.OneChanges.{inv_local}
 use Rattle.sp_link.proofs.Pauses.{kids}
 use Rattle.sp_link.proofs.Relation.{Ground, Lives, W_of, R_of, Stands, Performs_all, Linked}
 use Rattle.sp_link.proofs.OthersStay.{does_stay}
 use Rattle.sp_link.proofs.SourceTurns.{Comes_to}
 
-module _ (G : Ground) (lv : Lives G) (c : Course) (s : StateOf G.g) (u : System Plain) (l : Linked G lv c s u) (i : ℕ) (d : Config (Memory Plain)) (at_i : u.condition i ≡ sys.Working d) where
+module _ (G : Ground) (lv : Lives G) (c : Course) (s : StateOf G.g) (u : System Plain) (l : Linked G lv c s u) (i : ℕ)
+    (d : Config (Memory Plain)) (at_i : u.condition i ≡ sys.Working d) where
   abbrev pub w : Name
   w = q G lv c s u l i d at_i
 
@@ -42,19 +45,36 @@ module _ (G : Ground) (lv : Lives G) (c : Course) (s : StateOf G.g) (u : System 
 
   module _ (z : Stands G (lv w) (kids G lv c s u l i d at_i) w (c.since w) p1 s.store d) where
     abbrev pub Stopped_at : Came Deed × Store → Type 0
-    Stopped_at r = Comes_to G.g w G.pause (c.since w) (Keeps_it G (lv w) (kids G lv c s u l i d at_i) w (c.since w) s p1 d z (runs G lv c s u l i d at_i) (light G lv c s u l i d at_i) kt.last kt.fit) (keeps G (lv w) (kids G lv c s u l i d at_i) w (c.since w) s p1 d z (runs G lv c s u l i d at_i) (light G lv c s u l i d at_i) kt.last kt.fit) s p1 r
+    Stopped_at r = Comes_to G.g w G.pause (c.since w)
+        (Keeps_it G (lv w) (kids G lv c s u l i d at_i) w (c.since w) s p1 d z (runs G lv c s u l i d at_i)
+        (light G lv c s u l i d at_i) kt.last kt.fit)
+        (keeps G (lv w) (kids G lv c s u l i d at_i) w (c.since w) s p1 d z (runs G lv c s u l i d at_i)
+        (light G lv c s u l i d at_i) kt.last kt.fit) s p1 r
 
-    -- what its step wrote: of a fork, an offer or an end nothing that is still there, of an open one variable, of a fault no output
-    pub same_but_dead : (e : Deed) (o : Own) (m : Store) (x : Stopped_at (Got e o, m)) → IsStop e → (a : Loc) → (x.at.store a ≡ m a) ⊎ IsDead (length o.frames) a
-    same_but_dead e o m x stop = quiet_deeds G.g G.free G.pure (pure_blocks G) (Wr G (lv w) (kids G lv c s u l i d at_i) w (c.since w)) (Rd G (lv w) (kids G lv c s u l i d at_i) w (c.since w)) kt.last x.left x.good.fit x.good.pure x.at.store e o m stop x.does
+    -- what its step wrote: of a fork, an offer or an end nothing that is still there, of an open one variable, of a
+    -- fault no output
+    pub same_but_dead : (e : Deed) (o : Own) (m : Store) (x : Stopped_at (Got e o, m)) → IsStop e → (a : Loc)
+        → (x.at.store a ≡ m a) ⊎ IsDead (length o.frames) a
+    same_but_dead e o m x stop = quiet_deeds G.g G.free G.pure (pure_blocks G)
+        (Wr G (lv w) (kids G lv c s u l i d at_i) w (c.since w))
+        (Rd G (lv w) (kids G lv c s u l i d at_i) w (c.since w)) kt.last x.left x.good.fit x.good.pure x.at.store e o m
+        stop x.does
 
-    pub same_but_one : (todo : List Item) (o : Own) (m : Store) (x : Stopped_at (Got (Opened todo) o, m)) → IsSameButOne (length x.left.own.frames) x.at.store m
-    same_but_one todo o m x = quiet_opens G.g G.free G.pure (pure_blocks G) (Wr G (lv w) (kids G lv c s u l i d at_i) w (c.since w)) (Rd G (lv w) (kids G lv c s u l i d at_i) w (c.since w)) kt.last x.left x.good.fit x.good.pure x.at.store todo o m x.does
+    pub same_but_one : (todo : List Item) (o : Own) (m : Store) (x : Stopped_at (Got (Opened todo) o, m))
+        → IsSameButOne (length x.left.own.frames) x.at.store m
+    same_but_one todo o m x = quiet_opens G.g G.free G.pure (pure_blocks G)
+        (Wr G (lv w) (kids G lv c s u l i d at_i) w (c.since w))
+        (Rd G (lv w) (kids G lv c s u l i d at_i) w (c.since w)) kt.last x.left x.good.fit x.good.pure x.at.store todo o
+        m x.does
 
     pub same_output : (f : Fault) (m : Store) (x : Stopped_at (Bad f, m)) → x.at.store Output ≡ m Output
-    same_output f m x = quiet_faults G.g G.free G.pure (pure_blocks G) (Wr G (lv w) (kids G lv c s u l i d at_i) w (c.since w)) (Rd G (lv w) (kids G lv c s u l i d at_i) w (c.since w)) kt.last x.left x.good.fit x.good.pure x.at.store f m x.does
+    same_output f m x = quiet_faults G.g G.free G.pure (pure_blocks G)
+        (Wr G (lv w) (kids G lv c s u l i d at_i) w (c.since w))
+        (Rd G (lv w) (kids G lv c s u l i d at_i) w (c.since w)) kt.last x.left x.good.fit x.good.pure x.at.store f m
+        x.does
 
-    module _ (r : Came Deed × Store) (x : Stopped_at r) (what : Happening) (said : says G.g x.at w x.left ≡ Some what) where
+    module _ (r : Came Deed × Store) (x : Stopped_at r) (what : Happening)
+        (said : says G.g x.at w x.left ≡ Some what) where
       pub alone_at : IsAlone x.at w
       alone_at = inl (x.left, x.runs)
 
@@ -62,23 +82,36 @@ module _ (G : Ground) (lv : Lives G) (c : Course) (s : StateOf G.g) (u : System 
       known_at = turn_known G.g G.pause (c.since w) w x.steps s x.at false l.known (x.turn what said)
 
       pub keeps_at : Keeps_to G.g.program (W_of G lv) (R_of G lv) s.forks w x.left
-      keeps_at = record { named = x.good.named; forked = ap (λ (y : Rattle.sp_meaning.specs.Own.Who). y.forks) x.who_is ∙ kt.forked; last = kt.last; fit = x.good.fit }
+      keeps_at = record {
+        named = x.good.named;
+        forked = ap (λ (y : Rattle.sp_meaning.specs.Own.Who). y.forks) x.who_is
+            ∙ kt.forked;
+        last = kt.last;
+        fit = x.good.fit;
+      }
 
       pub rights_at : Inv G.g.program (W_of G lv) (R_of G lv) x.at.condition x.at.forks
-      rights_at = inv_local G (W_of G lv) (R_of G lv) s.condition x.at.condition s.forks x.at.forks w l.rights x.elsewhere.forks (present G lv c s u l i d at_i) x.elsewhere.condition (holds_by G (W_of G lv) (R_of G lv) x.at.condition s.forks w (x.at.condition w) x.left x.runs keeps_at)
+      rights_at = inv_local G (W_of G lv) (R_of G lv) s.condition x.at.condition s.forks x.at.forks w l.rights
+          x.elsewhere.forks (present G lv c s u l i d at_i) x.elsewhere.condition
+          (holds_by G (W_of G lv) (R_of G lv) x.at.condition s.forks w (x.at.condition w) x.left x.runs keeps_at)
 
       pub ended_at : has_ended (x.at.condition w) ≡ false
       ended_at = go (has_ended (x.at.condition w)) refl
         where
           go : (b : Bool) → has_ended (x.at.condition w) ≡ b → b ≡ false
-          go true e = absurd (lives_ended (x.at.condition w) (working_lives x.at.condition w (x.at.condition w) x.left x.runs) e)
+          go true e = absurd (lives_ended (x.at.condition w)
+              (working_lives x.at.condition w (x.at.condition w) x.left x.runs) e)
           go false e = refl
 
       ended_same : (r1 : Name) → has_ended (x.at.condition r1) ≡ has_ended (s.condition r1)
-      ended_same r1 = ⊎_elim (λ (e : r1 ≡ w). ap (λ y. has_ended (x.at.condition y)) e ∙ ended_at ∙ sym (not_ended G lv c s u l i d at_i) ∙ ap (λ y. has_ended (s.condition y)) (sym e)) (λ (e : r1 ≢ w). ap (λ y. has_ended y) (x.elsewhere.condition r1 e)) (same_or_not name_test r1 w)
+      ended_same r1 = ⊎_elim (λ (e : r1 ≡ w). ap (λ y. has_ended (x.at.condition y)) e ∙ ended_at
+          ∙ sym (not_ended G lv c s u l i d at_i) ∙ ap (λ y. has_ended (s.condition y)) (sym e))
+          (λ (e : r1 ≢ w). ap (λ y. has_ended y) (x.elsewhere.condition r1 e)) (same_or_not name_test r1 w)
 
       present_same : (r1 : Name) → s.condition r1 ≢ Absent → x.at.condition r1 ≢ Absent
-      present_same r1 h e = ⊎_elim (λ (f : r1 ≡ w). subst (λ y. IsLive y) (subst (λ a. x.at.condition a ≡ Absent) f e) (working_lives x.at.condition w (x.at.condition w) x.left x.runs)) (λ (f : r1 ≢ w). h (sym (x.elsewhere.condition r1 f) ∙ e)) (same_or_not name_test r1 w)
+      present_same r1 h e = ⊎_elim (λ (f : r1 ≡ w). subst (λ y. IsLive y) (subst (λ a. x.at.condition a ≡ Absent) f e)
+          (working_lives x.at.condition w (x.at.condition w) x.left x.runs))
+          (λ (f : r1 ≢ w). h (sym (x.elsewhere.condition r1 f) ∙ e)) (same_or_not name_test r1 w)
 
       pub other_name : (j : ℕ) → j < u.births.processes → i ≢ j → G.births.name j ≢ w
       other_name j lt e h = e (G.one_name i j (few i (here G lv c s u l i d at_i)) (few j lt) (sym h))
@@ -87,7 +120,11 @@ module _ (G : Ground) (lv : Lives G) (c : Course) (s : StateOf G.g) (u : System 
           few j lt = let a = l.began.processes in omega (arith, lt, a)
 
       -- the others
-      pub does_at : (j : ℕ) → j < u.births.processes → i ≢ j → Performs_all G lv (G.births.name j) c x.at (u.births.opens j) (u.condition j)
+      pub does_at : (j : ℕ) → j < u.births.processes → i ≢ j
+          → Performs_all G lv (G.births.name j) c x.at (u.births.opens j) (u.condition j)
       does_at j lt e =
           let apart = other_name j lt e in
-          does_stay G lv s x.at l.known.sound l.rights.fair w (alone G lv c s u l i d at_i) x.good.stays (G.births.name j) apart (x.elsewhere.condition (G.births.name j) apart) (λ k n. ended_same ((k, n) ∷ G.births.name j)) (λ k n. present_same ((k, n) ∷ G.births.name j)) c c refl refl (λ h. h) (u.births.opens j) (u.condition j) (l.does j lt)
+          does_stay G lv s x.at l.known.sound l.rights.fair w (alone G lv c s u l i d at_i) x.good.stays
+          (G.births.name j) apart (x.elsewhere.condition (G.births.name j) apart)
+          (λ k n. ended_same ((k, n) ∷ G.births.name j)) (λ k n. present_same ((k, n) ∷ G.births.name j)) c c refl
+          refl (λ h. h) (u.births.opens j) (u.condition j) (l.does j lt)

@@ -1,6 +1,7 @@
 -- A child of a forall: nothing moves to it, and what it shares its parent holds; it stands as it is born, with its
 -- index in a frame of its own (`each_stands`), and its parent keeps of it what its join will need (`each_handed`).
-use Rattle.std.proofs.Common.{◌≡◌, ◌⊎◌, inl, inr, ⊎_elim, ℕ, suc, ◌+◌, ◌==◌, ◌≤◌, ℤ, List, [], ◌∷◌, length, Option, Some, None, Bool, true, false, if◌then◌else◌, refl, sym, ap, ◌∙◌, arith, eqb-true, eq-eqb}
+use Rattle.std.proofs.Common.{◌≡◌, ◌⊎◌, inl, inr, ⊎_elim, ℕ, suc, ◌+◌, ◌==◌, ◌≤◌, ℤ, List, [], ◌∷◌, length, Option}
+use Rattle.std.proofs.Common.{Some, None, Bool, true, false, if◌then◌else◌, refl, sym, ap, ◌∙◌, arith, eqb-true, eq-eqb}
 use Rattle.std.specs.Prelude.{◌≢◌, ◌+ℤ◌, pos, IsSome, slice_get}
 use Rattle.std.specs.FinMap as fin
 use Rattle.sp_tree.specs.declared.checked.Role.TheVariants as role
@@ -56,9 +57,12 @@ module _ (G : Ground) (lf : Life) (kids : ℕ → ℕ → Life) (q : Name) where
   abbrev Rd : Loc → Type 0
   Rd l = Mine q l ⊎ lf.R l
 
-  module _ (f : Fresh G lf kids q) {w : Who} {since : ℕ} {js : List Joint} {o : Own} {s : Store} {n : Memory Plain} (t : St G lf kids q w since js o s n) (may_fork : o.depth + 1 ≤ G.g.limits.depth)
-      (x : ℕ) (from1 to : Expr) (st : Stmt) (sc : List Scope) (pl : Placed G.g Wr Rd lf.J sc js (In_stmt (Forall x from1 to st))) (entry : ℕ)
-      (body : StandsAt G.g.program G.moves G.shares (StandsIn G.code) (HasFork G.code) (HasWords G.code) G.hush true (places.OfIndex x ∷ sc) entry st) (ends : slice_get G.code.instrs (after G.g.program entry st) ≡ Some i.End)
+  module _ (f : Fresh G lf kids q) {w : Who} {since : ℕ} {js : List Joint} {o : Own} {s : Store} {n : Memory Plain}
+      (t : St G lf kids q w since js o s n) (may_fork : o.depth + 1 ≤ G.g.limits.depth)
+      (x : ℕ) (from1 to : Expr) (st : Stmt) (sc : List Scope)
+      (pl : Placed G.g Wr Rd lf.J sc js (In_stmt (Forall x from1 to st))) (entry : ℕ)
+      (body : StandsAt G.g.program G.moves G.shares (StandsIn G.code) (HasFork G.code) (HasWords G.code) G.hush true
+      (places.OfIndex x ∷ sc) entry st) (ends : slice_get G.code.instrs (after G.g.program entry st) ≡ Some i.End)
       (child : Name) (longer : suc (length w.name) ≤ length child) (value : ℤ) (j : ℕ) where
     -- the element statement has no target, and its index is that of a forall
     pub no_target : (y : ℕ) → IsTarget G.g.program (In_stmt st) y → ⊥
@@ -68,10 +72,13 @@ module _ (G : Ground) (lf : Life) (kids : ℕ → ℕ → Life) (q : Name) where
     is_index_of = (pl.sound.kept (ForallOf x st) (inl refl)).0
 
     not_output : x ≢ 1
-    not_output e = no_console is_index_of.0 G.free.output.0 (sym is_index_of.1 ∙ ap (λ y. slice_get G.g.program.variables y) e ∙ G.free.output.1) is_index_of.2 G.free.output.2
+    not_output e = no_console is_index_of.0 G.free.output.0
+        (sym is_index_of.1 ∙ ap (λ y. slice_get G.g.program.variables y) e ∙ G.free.output.1) is_index_of.2
+        G.free.output.2
       where
         no_console : (a b : Variable) → Some a ≡ Some b → a.role ≡ role.Index → b.role ≡ role.Console → ⊥
-        no_console a b h k l = let same : a ≡ b = cc h in let bad : role.Index ≡ role.Console = sym k ∙ ap (λ (y : Variable). y.role) same ∙ l in cc bad
+        no_console a b h k l = let same : a ≡ b = cc h in
+            let bad : role.Index ≡ role.Console = sym k ∙ ap (λ (y : Variable). y.role) same ∙ l in cc bad
 
     formed_here : (u : Use) → In_stmt st u → IsFormedUse G.g.program u
     formed_here (Target y) a = absurd (no_target y ([], a))
@@ -79,7 +86,8 @@ module _ (G : Ground) (lf : Life) (kids : ℕ → ℕ → Life) (q : Name) where
       where
         go : (b : Bool) → x == y ≡ b → y ≢ 1
         go true e = λ h. not_output (eqb-true x y e ∙ h)
-        go false e = pl.formed (use_of.Seen y) (inr (inr (inr (inl (a, λ h. (let bad : false ≡ true = sym e ∙ eq-eqb x y h in absurd (cc bad)))))))
+        go false e = pl.formed (use_of.Seen y)
+            (inr (inr (inr (inl (a, λ h. (let bad : false ≡ true = sym e ∙ eq-eqb x y h in absurd (cc bad)))))))
     formed_here (CallOf b args) a = pl.formed (CallOf b args) (inr (inr (inr (inl (a, tt)))))
     formed_here (ParallelOf ss) a = pl.formed (ParallelOf ss) (inr (inr (inr (inl (a, tt)))))
     formed_here (ForallOf y s) a = pl.formed (ForallOf y s) (inr (inr (inr (inl (a, tt)))))
@@ -93,7 +101,8 @@ module _ (G : Ground) (lf : Life) (kids : ℕ → ℕ → Life) (q : Name) where
     sound = element_sound x from1 to st pl.sound
 
     new_name : (h : ℕ) (j : Joint) (rest : List Joint) → from (suc h) js ≡ j ∷ rest → j.source.owner ≡ child → ⊥
-    new_name h j rest e k = let a = within_at (length w.name) (suc h) js j rest t.owners e in let b = ap (λ z. length z) k in omega (arith, a, b, longer)
+    new_name h j rest e k = let a = within_at (length w.name) (suc h) js j rest t.owners e in
+        let b = ap (λ z. length z) k in omega (arith, a, b, longer)
 
     abbrev pub table : ChildTable
     table = child_table G.g.program G.moves G.shares entry (Some x) st
@@ -103,50 +112,77 @@ module _ (G : Ground) (lf : Life) (kids : ℕ → ℕ → Life) (q : Name) where
 
     -- nothing moves to it
     pub nothing_moves : (a : Spot) → In a handing.moved → ⊥
-    nothing_moves a h = by (moved_stands G.g G.code w (Named G) (Called G) Wr Rd lf.J lf.low (length lf.below) lf.born since G.pause lf.moved G.formed G.laid G.free f.reads G.moves G.shares G.sets t st sound unread child new_name table refl refl value j
+    nothing_moves a h = by (moved_stands G.g G.code w (Named G) (Called G) Wr Rd lf.J lf.low (length lf.below) lf.born
+        since G.pause lf.moved G.formed G.laid G.free f.reads G.moves G.shares G.sets t st sound unread child new_name
+        table refl refl value j
         (consoles G lf kids q) (λ y k m. no_target y m) (λ y m. absurd (no_target y m)) a h)
       where
-        by : MovedStands G.g G.code w (Named G) (Called G) Wr Rd lf.J lf.low (length lf.below) lf.born since G.pause lf.moved G.formed G.laid G.free f.reads G.moves G.shares G.sets t st sound unread child new_name table refl refl value j a → ⊥
+        by : MovedStands G.g G.code w (Named G) (Called G) Wr Rd lf.J lf.low (length lf.below) lf.born since G.pause
+            lf.moved G.formed G.laid G.free f.reads G.moves G.shares G.sets t st sound unread child new_name table refl
+            refl value j a → ⊥
         by (inl b) = no_target b.1.0 b.1.1
         by (inr (inl b)) = no_target b.1.0 b.1.1
         by (inr (inr b)) = no_target b.4.0 b.4.1
 
     -- an index that it uses, other than its own, is in scope around the forall
-    in_scope : (y : ℕ) → IsUsed G.g.program (In_stmt st) y → (Some x ≡ Some y → ⊥) → (v : Variable) × (slice_get G.g.program.variables y ≡ Some v) × (v.role ≡ role.Index → In_stmt st (use_of.Seen y) × ((up : ℕ) × (level (is_index y) sc ≡ Some up)))
-    in_scope y u other = let a = is_scoped G true (places.OfIndex x ∷ sc) entry st body formed_here y u in (a.0, a.1, λ iv. (let k = a.2 iv in (k.0, further k.1)))
+    in_scope : (y : ℕ) → IsUsed G.g.program (In_stmt st) y → (Some x ≡ Some y → ⊥) → (v : Variable)
+        × (slice_get G.g.program.variables y ≡ Some v)
+        × (v.role ≡ role.Index → In_stmt st (use_of.Seen y) × ((up : ℕ) × (level (is_index y) sc ≡ Some up)))
+    in_scope y u other = let a = is_scoped G true (places.OfIndex x ∷ sc) entry st body formed_here y u in
+        (a.0, a.1, λ iv. (let k = a.2 iv in (k.0, further k.1)))
       where
-        further : (up : ℕ) × (level (is_index y) (places.OfIndex x ∷ sc) ≡ Some up) → (up : ℕ) × (level (is_index y) sc ≡ Some up)
+        further : (up : ℕ) × (level (is_index y) (places.OfIndex x ∷ sc) ≡ Some up) → (up : ℕ)
+            × (level (is_index y) sc ≡ Some up)
         further r = go (y == x) refl r.1
           where
-            inner : (l : Option ℕ) → level (is_index y) sc ≡ l → one_more l ≡ Some r.0 → (up : ℕ) × (level (is_index y) sc ≡ Some up)
+            inner : (l : Option ℕ) → level (is_index y) sc ≡ l → one_more l ≡ Some r.0 → (up : ℕ)
+                × (level (is_index y) sc ≡ Some up)
             inner None e h = absurd (cc h)
             inner (Some up) e h = (up, e)
 
-            go : (b : Bool) → y == x ≡ b → (if b then Some 0 else one_more (level (is_index y) sc)) ≡ Some r.0 → (up : ℕ) × (level (is_index y) sc ≡ Some up)
+            go : (b : Bool) → y == x ≡ b → (if b then Some 0 else one_more (level (is_index y) sc)) ≡ Some r.0
+                → (up : ℕ) × (level (is_index y) sc ≡ Some up)
             go true e h = absurd (other (ap Some (sym (eqb-true y x e))))
             go false e h = inner (level (is_index y) sc) refl h
 
-    index_held : (y up : ℕ) → (Some x ≡ Some y → ⊥) → In_stmt st (use_of.Seen y) → level (is_index y) sc ≡ Some up → (k : Joint) (rest : List Joint) → Rattle.sp_codegen.specs.Joints.up_at up js ≡ k ∷ rest → lf.J (length rest)
+    index_held : (y up : ℕ) → (Some x ≡ Some y → ⊥) → In_stmt st (use_of.Seen y) → level (is_index y) sc ≡ Some up
+        → (k : Joint) (rest : List Joint) → Rattle.sp_codegen.specs.Joints.up_at up js ≡ k ∷ rest → lf.J (length rest)
     index_held y up other a l k rest e = pl.indexes y up (inr (inr (inr (inl (a, λ h. other (ap Some h)))))) l k rest e
 
     -- of what it shares its parent has pieces
     pub shares_piece : (a : Spot) → In a handing.shared → IsPiece (fin.get n.store.map a)
-    shares_piece a h = shared_piece G.g G.code w (Named G) (Called G) Wr Rd lf.J lf.low (length lf.below) lf.born since G.pause lf.moved G.formed G.laid G.free f.reads G.moves G.shares G.sets t st sound unread child new_name table refl refl value j
+    shares_piece a h = shared_piece G.g G.code w (Named G) (Called G) Wr Rd lf.J lf.low (length lf.below) lf.born since
+        G.pause lf.moved G.formed G.laid G.free f.reads G.moves G.shares G.sets t st sound unread child new_name table
+        refl refl value j
         (consoles G lf kids q) sc pl.chain index_held in_scope a h
 
     pub shares_known : (a : Spot) → In a handing.shared → IsSome (fin.get n.store.map a)
     shares_known a h = piece_known (fin.get n.store.map a) (shares_piece a h)
 
     pub output_stays : Rd Output → In output_spot handing.shared → ⊥
-    output_stays may h = output_unshared G.g G.code w (Named G) (Called G) Wr Rd lf.J lf.low (length lf.below) lf.born since G.pause lf.moved G.formed G.laid G.free f.reads G.moves G.shares G.sets t st sound unread child new_name table refl refl value j
+    output_stays may h = output_unshared G.g G.code w (Named G) (Called G) Wr Rd lf.J lf.low (length lf.below) lf.born
+        since G.pause lf.moved G.formed G.laid G.free f.reads G.moves G.shares G.sets t st sound unread child new_name
+        table refl refl value j
         (consoles G lf kids q) sc pl.chain index_held in_scope may h
 
     module _ (number : ℕ) where
       -- the frame of its index
       abbrev pub with_index : Joint
       with_index = record {
-        source = record { owner = child; number = length js; home = OfIndex x (value +ℤ pos j); link = length js; references = [] };
-        machine = record { owner = number; number = index_frame handing; home = mem.OfIndex x; link = length n.frames; references = [] };
+        source = record {
+          owner = child;
+          number = length js;
+          home = OfIndex x (value +ℤ pos j);
+          link = length js;
+          references = [];
+        };
+        machine = record {
+          owner = number;
+          number = index_frame handing;
+          home = mem.OfIndex x;
+          link = length n.frames;
+          references = [];
+        };
       }
 
       -- what its birth gives it
@@ -163,14 +199,19 @@ module _ (G : Ground) (lf : Life) (kids : ℕ → ℕ → Life) (q : Name) where
       }
 
       abbrev pub own : Process
-      own = record { todo = push st []; who = record { name = child; forks = 0; opens = 0 }; own = record { frames = sources (with_index ∷ js); depth = o.depth + 1; ticks = 0; cells = 0 } }
+      own = record {
+        todo = push st [];
+        who = record { name = child; forks = 0; opens = 0 };
+        own = record { frames = sources (with_index ∷ js); depth = o.depth + 1; ticks = 0; cells = 0 };
+      }
 
       -- its parent keeps of it that nothing moved
       pub each_handed : Handed G lf kids q js n life child
       each_handed = record {
         live = λ r h y l m a. absurd (nothing_moves (spot_at l.joint.machine.number (slot G.g.program y)) a);
         aims = λ r h y l a. absurd (no_target a.0 a.1);
-        no_index = λ h jh k rest y v e hi. ⊎_elim (λ a. absurd (nothing_moves (spot_at k.machine.number 0) a)) (λ d. d) (in_or (spot_at k.machine.number 0) handing.moved);
+        no_index = λ h jh k rest y v e hi. ⊎_elim (λ a. absurd (nothing_moves (spot_at k.machine.number 0) a)) (λ d. d)
+            (in_or (spot_at k.machine.number 0) handing.moved);
         input = λ m a. absurd (nothing_moves position_at.spot a);
         output = λ m a. absurd (nothing_moves output_spot a);
         input_aims = λ a. absurd (no_target a.0 a.1);
@@ -180,22 +221,32 @@ module _ (G : Ground) (lf : Life) (kids : ℕ → ℕ → Life) (q : Name) where
       }
 
       module _ (called : Called G child number) (pc : ℕ) (stack : List Entry) (more : ℕ → ℕ → Life) where
-        begins : Stand G.g G.code own.who (Named G) (Called G) (λ l. Mine child l ⊎ life.W l) (λ l. Mine child l ⊎ life.R l) life.J life.low (length (with_index ∷ js)) life.born 0 G.pause life.moved (with_index ∷ js) own.own s
+        begins : Stand G.g G.code own.who (Named G) (Called G) (λ l. Mine child l ⊎ life.W l)
+            (λ l. Mine child l ⊎ life.R l) life.J life.low (length (with_index ∷ js)) life.born 0 G.pause life.moved
+            (with_index ∷ js) own.own s
             (memory_in (newborn plain (run_is G) (At pc stack n) value number j table))
-            × Placed G.g (λ l. Mine child l ⊎ life.W l) (λ l. Mine child l ⊎ life.R l) life.J (places.OfIndex x ∷ sc) (with_index ∷ js) (In_stmt st)
-        begins = index_child_begins G.g G.code w (Named G) (Called G) Wr Rd lf.J lf.low (length lf.below) lf.born since G.pause lf.moved f.based G.formed G.laid G.free f.reads G.moves G.shares G.sets (consoles G lf kids q) t may_fork
-            x from1 to st sc pl entry j unread own.who longer number called pc stack value (λ a h. absurd (nothing_moves a h))
+            × Placed G.g (λ l. Mine child l ⊎ life.W l) (λ l. Mine child l ⊎ life.R l) life.J (places.OfIndex x ∷ sc)
+            (with_index ∷ js) (In_stmt st)
+        begins = index_child_begins G.g G.code w (Named G) (Called G) Wr Rd lf.J lf.low (length lf.below) lf.born since
+            G.pause lf.moved f.based G.formed G.laid G.free f.reads G.moves G.shares G.sets (consoles G lf kids q) t
+            may_fork
+            x from1 to st sc pl entry j unread own.who longer number called pc stack value
+            (λ a h. absurd (nothing_moves a h))
 
         pub fresh : Fresh G life more child
         fresh = record {
           based = omega arith;
           reads = λ l h. ⊎_elim (λ a. inl a) (λ a. inr (a.0, inl a.1, a.2)) h;
-          low_small = low_small G.g G.code w (Named G) (Called G) Wr Rd lf.J lf.low (length lf.below) lf.born since G.pause lf.moved f.based t may_fork handing (λ a h. absurd (nothing_moves a h)) own.who (omega (arith, longer)) number called (λ a. ⊥) (λ a. ⊥) (λ a. ⊥)
-              (λ r h y l a. absurd a) (λ h a lt k rest e. absurd a) (λ a. absurd a) (λ a. absurd a) shares_known f.low_small;
+          low_small = low_small G.g G.code w (Named G) (Called G) Wr Rd lf.J lf.low (length lf.below) lf.born since
+              G.pause lf.moved f.based t may_fork handing (λ a h. absurd (nothing_moves a h)) own.who
+              (omega (arith, longer)) number called (λ a. ⊥) (λ a. ⊥) (λ a. ⊥)
+              (λ r h y l a. absurd a) (λ h a lt k rest e. absurd a) (λ a. absurd a) (λ a. absurd a) shares_known
+              f.low_small;
           ends = ends;
         }
 
-        pub each_stands : Stands G life more child 0 own s (newborn plain (run_is G) (At pc stack n) value number j table)
+        pub each_stands : Stands G life more child 0 own s
+            (newborn plain (run_is G) (At pc stack n) value number j table)
         each_stands = record {
           fresh = fresh;
           named = refl;
@@ -205,5 +256,6 @@ module _ (G : Ground) (lf : Life) (kids : ℕ → ℕ → Life) (q : Name) where
           memory = memory_in (newborn plain (run_is G) (At pc stack n) value number j table);
           is = refl;
           stand = begins.0;
-          follows = child_follows (execution G life more child fresh own.who refl 0) st (places.OfIndex x ∷ sc) entry (G.moves st) (G.shares st) None (with_index ∷ js) begins.1 body;
+          follows = child_follows (execution G life more child fresh own.who refl 0) st (places.OfIndex x ∷ sc) entry
+              (G.moves st) (G.shares st) None (with_index ∷ js) begins.1 body;
         }

@@ -29,7 +29,8 @@ use Rattle.sp_link.proofs.Soundness.{names_on}
 use Rattle.sp_link.proofs.Theorem.{linked_along}
 use Rattle.sp_link.proofs.Waiters.{waits_means, waits_runs, stuck_means, stuck_runs}
 
-module _ (g : Setting) (moves shares : Stmt → List ℕ) (pause : ℕ) (ready : IsReady g moves shares) (es : List Entry) (t : System Plain) (h : IsSystem plain (code_run g (program_code g.program moves shares) pause) es t)
+module _ (g : Setting) (moves shares : Stmt → List ℕ) (pause : ℕ) (ready : IsReady g moves shares) (es : List Entry)
+    (t : System Plain) (h : IsSystem plain (code_run g (program_code g.program moves shares) pause) es t)
     (n : ℕ) (s : StateOf g) (k : IsAlong g pause (occurrences_from at_start es) n s) where
   abbrev run : memory.Setting
   run = code_run g (program_code g.program moves shares) pause
@@ -58,7 +59,9 @@ module _ (g : Setting) (moves shares : Stmt → List ℕ) (pause : ℕ) (ready :
   -- the first process stays
   pub program_root : t.condition 0 ≡ Gone → ⊥
   program_root e =
-      let x : Performs_all G along.lives (G.births.name 0) along.course s (t.births.opens 0) Gone = subst (λ y. Performs_all G along.lives (G.births.name 0) along.course s (t.births.opens 0) y) e (linked.does 0 linked.began.root.2) in
+      let x : Performs_all G along.lives (G.births.name 0) along.course s (t.births.opens 0) Gone =
+      subst (λ y. Performs_all G along.lives (G.births.name 0) along.course s (t.births.opens 0) y) e
+      (linked.does 0 linked.began.root.2) in
       x.1 (sym (linked.began.names 0 linked.began.root.2) ∙ linked.began.root.1)
 
   -- ---- the fault
@@ -70,8 +73,10 @@ module _ (g : Setting) (moves shares : Stmt → List ℕ) (pause : ℕ) (ready :
   program_fault p f i = fault_told g pause es at_start lawful_start named no_course (start g) s n k p f i
 
   -- a fault that stands is that of an entry
-  pub program_faulted : t.faulted ≡ true → (p : ℕ) × (f : Fault) × HasFaultEntry es p f × HasFault g s ((births_from at_start es).name p) f
-  program_faulted e = let w = fault_entry run es (opening plain run) t refl h e in (w.0, w.1, w.2, program_fault w.0 w.1 w.2)
+  pub program_faulted : t.faulted ≡ true → (p : ℕ) × (f : Fault) × HasFaultEntry es p f
+      × HasFault g s ((births_from at_start es).name p) f
+  program_faulted e = let w = fault_entry run es (opening plain run) t refl h e in
+      (w.0, w.1, w.2, program_fault w.0 w.1 w.2)
 
   -- one stands in the machine where it stands in the program
   fault_both : (b : Bool) → t.faulted ≡ b → s.fault ≡ None → b ≡ false

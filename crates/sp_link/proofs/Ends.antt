@@ -1,6 +1,8 @@
 -- The entry `End` on both sides: of the first process (`root_ends`), and of a child, whose pieces go back to its
 -- parent, which joins on or runs (`child_ends`).
-use Rattle.std.proofs.Common.{◌≡◌, ◌⊎◌, inl, ⊎_elim, ℕ, zero, suc, ◌+◌, ◌-◌, ◌<◌, ◌≤◌, ◌==◌, List, [], ◌∷◌, length, Option, Some, None, Bool, true, false, cond, if◌then◌else◌, eqb-true, eq-eqb, refl, sym, ap, ◌∙◌, subst, arith}
+use Rattle.std.proofs.Common.{◌≡◌, ◌⊎◌, inl, ⊎_elim, ℕ, zero, suc, ◌+◌, ◌-◌, ◌<◌, ◌≤◌, ◌==◌, List, [], ◌∷◌, length}
+use Rattle.std.proofs.Common.{Option, Some, None, Bool, true, false, cond, if◌then◌else◌, eqb-true, eq-eqb, refl, sym}
+use Rattle.std.proofs.Common.{ap, ◌∙◌, subst, arith}
 use Rattle.std.proofs.Common.{one-add}
 use Rattle.std.specs.Prelude.{◌≢◌}
 use Rattle.std.proofs.lemmas.Bool.{ne_eqb}
@@ -41,14 +43,18 @@ use Rattle.sp_link.proofs.KernelSteps.{kernel_next, kernel_says, stand_dead}
 use Rattle.sp_link.proofs.OneChanges.{its, here, number_or, inv_local}
 use Rattle.sp_link.proofs.Pauses.{Entry_of, Meant, Machined, kids, turn_is, after_quiet}
 use Rattle.sp_link.proofs.Rejoins.{memory_after, joins_on, runs_on, one_fewer, all_over}
-use Rattle.sp_link.proofs.Relation.{Ground, Life, Lives, W_of, R_of, St, Stands, Joined, Performs_all, Told, Linked, Began, run_is, ops, left_of}
+use Rattle.sp_link.proofs.Relation.{Ground, Life, Lives, W_of, R_of, St, Stands, Joined, Performs_all, Told, Linked}
+use Rattle.sp_link.proofs.Relation.{Began, run_is, ops, left_of}
 use Rattle.sp_link.proofs.OthersStay.{does_stay}
 use Rattle.sp_meaning.proofs.QuietDeeds.{IsDead}
 use Rattle.sp_link.proofs.AtStop.{same_but_dead, w, p1, alone_at, known_at, rights_at, ended_at, other_name, does_at}
 
-module _ (G : Ground) (lv : Lives G) (c : Course) (s : StateOf G.g) (u : System Plain) (l : Linked G lv c s u) (i : ℕ) (d : Config (Memory Plain)) (at_i : u.condition i ≡ sys.Working d)
-    (z : Stands G (lv (w G lv c s u l i d at_i)) (kids G lv c s u l i d at_i) (w G lv c s u l i d at_i) (c.since (w G lv c s u l i d at_i)) (p1 G lv c s u l i d at_i) s.store d)
-    (o : Own) (m : Store) (x : Meant G lv c s u l i d at_i z (Got (source.Stops deeds.Ended) o, m)) (t : Machined G lv c s u l i d at_i z (Got (source.Stops deeds.Ended) o, m)) (quiet : u.faulted ≡ false) where
+module _ (G : Ground) (lv : Lives G) (c : Course) (s : StateOf G.g) (u : System Plain) (l : Linked G lv c s u) (i : ℕ)
+    (d : Config (Memory Plain)) (at_i : u.condition i ≡ sys.Working d)
+    (z : Stands G (lv (w G lv c s u l i d at_i)) (kids G lv c s u l i d at_i) (w G lv c s u l i d at_i)
+    (c.since (w G lv c s u l i d at_i)) (p1 G lv c s u l i d at_i) s.store d)
+    (o : Own) (m : Store) (x : Meant G lv c s u l i d at_i z (Got (source.Stops deeds.Ended) o, m))
+    (t : Machined G lv c s u l i d at_i z (Got (source.Stops deeds.Ended) o, m)) (quiet : u.faulted ≡ false) where
   abbrev v : Name
   v = w G lv c s u l i d at_i
 
@@ -80,21 +86,33 @@ module _ (G : Ground) (lv : Lives G) (c : Course) (s : StateOf G.g) (u : System 
   known_then = known_at G lv c s u l i d at_i z r x happenings.Ended said
 
   known_now : Known G.g t1
-  known_now = record { sound = step_sound (most G.g) x.at v t1 known_then.sound goes_next; well = lowered G.g (λ a. ticks_in (x.at.condition a)) t1 (step_well G.g x.at known_then.sound v (raised G.g x.at known_then.well) t1 goes_next) }
+  known_now = record {
+    sound = step_sound (most G.g) x.at v t1 known_then.sound goes_next;
+    well = lowered G.g (λ a. ticks_in (x.at.condition a)) t1
+        (step_well G.g x.at known_then.sound v (raised G.g x.at known_then.well) t1 goes_next);
+  }
 
   rights_then : Inv G.g.program (W_of G lv) (R_of G lv) x.at.condition x.at.forks
   rights_then = rights_at G lv c s u l i d at_i z r x happenings.Ended said
 
   rights_now : Inv G.g.program (W_of G lv) (R_of G lv) t1.condition t1.forks
   rights_now = inv_local G (W_of G lv) (R_of G lv) x.at.condition t1.condition x.at.forks t1.forks v rights_then refl
-      (λ e. subst (λ a. IsLive a) e (working_lives x.at.condition v (x.at.condition v) x.left x.runs)) same (subst (λ a. Rattle.sp_meaning.proofs.Owned.Holds G.g.program (W_of G lv) (R_of G lv) x.at.forks v a) (sym gone) tt)
+      (λ e. subst (λ a. IsLive a) e (working_lives x.at.condition v (x.at.condition v) x.left x.runs)) same
+      (subst (λ a. Rattle.sp_meaning.proofs.Owned.Holds G.g.program (W_of G lv) (R_of G lv) x.at.forks v a)
+      (sym gone) tt)
 
   -- one that is not its parent
-  does_other : (j : ℕ) → j < u.births.processes → i ≢ j → ((k n : ℕ) → (k, n) ∷ G.births.name j ≢ v) → Performs_all G lv (G.births.name j) c1 t1 (u.births.opens j) (u.condition j)
+  does_other : (j : ℕ) → j < u.births.processes → i ≢ j → ((k n : ℕ) → (k, n) ∷ G.births.name j ≢ v)
+      → Performs_all G lv (G.births.name j) c1 t1 (u.births.opens j) (u.condition j)
   does_other j lt e far =
       let apart = other_name G lv c s u l i d at_i z r x happenings.Ended said j lt e in
-      does_stay G lv x.at t1 known_then.sound rights_then.fair v (alone_at G lv c s u l i d at_i z r x happenings.Ended said) (λ a. inl refl) (G.births.name j) apart (same (G.births.name j) apart)
-      (λ k n. ap (λ a. has_ended a) (same ((k, n) ∷ G.births.name j) (far k n))) (λ k n h e. h (sym (same ((k, n) ∷ G.births.name j) (far k n)) ∙ e)) c c1 (since_other (G.births.name j) apart) refl (λ h. h) (u.births.opens j) (u.condition j) (does_at G lv c s u l i d at_i z r x happenings.Ended said j lt e)
+      does_stay G lv x.at t1 known_then.sound rights_then.fair v
+      (alone_at G lv c s u l i d at_i z r x happenings.Ended said) (λ a. inl refl) (G.births.name j) apart
+      (same (G.births.name j) apart)
+      (λ k n. ap (λ a. has_ended a) (same ((k, n) ∷ G.births.name j) (far k n)))
+      (λ k n h e. h (sym (same ((k, n) ∷ G.births.name j) (far k n)) ∙ e)) c c1
+      (since_other (G.births.name j) apart) refl (λ h. h) (u.births.opens j) (u.condition j)
+      (does_at G lv c s u l i d at_i z r x happenings.Ended said j lt e)
 
   -- what it leaves
   abbrev n1 : Memory Plain
@@ -109,11 +127,16 @@ module _ (G : Ground) (lv : Lives G) (c : Course) (s : StateOf G.g) (u : System 
   tn_is : IsTurn (ops G) G.code d (Stopped machine.Ends (At t.0 t.1 t.2))
   tn_is = turn_is G lv c s u l i d at_i z (Stopped machine.Ends (At t.0 t.1 t.2)) (At t.0 t.1 t.2, t.4, t.5)
 
-  stood : St G (lv v) (λ a b. lv ((a, b) ∷ v)) v (p1 G lv c s u l i d at_i).who (c.since v) (lv v).below o x.at.store t.2
-  stood = subst (λ y. St G (lv v) (λ a b. lv ((a, b) ∷ v)) v (p1 G lv c s u l i d at_i).who (c.since v) y o x.at.store t.2) (t.7).2
-      (stand_dead G (lv v) (λ a b. lv ((a, b) ∷ v)) v t.6 x.at.store (λ a. subst (λ y. (x.at.store a ≡ m a) ⊎ IsDead y a) lengths (same_but_dead G lv c s u l i d at_i z deeds.Ended o m x tt a)))
+  stood : St G (lv v) (λ a b. lv ((a, b) ∷ v)) v (p1 G lv c s u l i d at_i).who (c.since v) (lv v).below o x.at.store
+      t.2
+  stood = subst (λ y. St G (lv v) (λ a b. lv ((a, b) ∷ v)) v (p1 G lv c s u l i d at_i).who (c.since v) y o x.at.store
+      t.2) (t.7).2
+      (stand_dead G (lv v) (λ a b. lv ((a, b) ∷ v)) v t.6 x.at.store
+      (λ a. subst (λ y. (x.at.store a ≡ m a) ⊎ IsDead y a) lengths
+      (same_but_dead G lv c s u l i d at_i z deeds.Ended o m x tt a)))
     where
-      count : (js : List Rattle.sp_codegen.specs.Joints.Joint) → length (Rattle.sp_codegen.specs.Joints.sources js) ≡ length js
+      count : (js : List Rattle.sp_codegen.specs.Joints.Joint)
+          → length (Rattle.sp_codegen.specs.Joints.sources js) ≡ length js
       count js = Rattle.sp_codegen.proofs.Joints.sources_length js
 
       lengths : length o.frames ≡ length t.3
@@ -126,38 +149,61 @@ module _ (G : Ground) (lv : Lives G) (c : Course) (s : StateOf G.g) (u : System 
   no_absent e = cc e
 
   -- the relation, once each process does what it should
-  linked_by : (u1 : System Plain) → u1.births ≡ u.births → u1.pending ≡ u.pending → u1.faulted ≡ u.faulted → u1.entries ≡ u.entries
-      → ((j : ℕ) → j < u.births.processes → Performs_all G lv (G.births.name j) c1 t1 (u.births.opens j) (u1.condition j)) → ((j : ℕ) → u.births.processes ≤ j → u1.condition j ≡ sys.Absent) → Linked G lv c1 t1 u1
+  linked_by : (u1 : System Plain) → u1.births ≡ u.births → u1.pending ≡ u.pending → u1.faulted ≡ u.faulted
+      → u1.entries ≡ u.entries
+      → ((j : ℕ) → j < u.births.processes → Performs_all G lv (G.births.name j) c1 t1 (u.births.opens j)
+      (u1.condition j)) → ((j : ℕ) → u.births.processes ≤ j → u1.condition j ≡ sys.Absent) → Linked G lv c1 t1 u1
   linked_by u1 eb ep ef ee does unborn = record {
     rights = rights_now;
     known = known_now;
     reads_output = l.reads_output;
     began = subst (λ y. Began G y) (sym eb) l.began;
     open_is = l.open_is ∙ ap (λ (y : Rattle.sp_journal.specs.Births.Births). y.channels) (sym eb);
-    forks = λ j lt. ap (λ y. y (G.births.name j)) x.elsewhere.forks ∙ l.forks j (subst (λ y. j < y) (ap (λ (y : Rattle.sp_journal.specs.Births.Births). y.processes) eb) lt) ∙ ap (λ (y : Rattle.sp_journal.specs.Births.Births). y.forks j) (sym eb);
-    processes = ap (λ (y : Rattle.sp_meaning.specs.Model.Totals). y.processes) x.elsewhere.totals ∙ l.processes ∙ ap (λ (y : Rattle.sp_journal.specs.Births.Births). y.processes) (sym eb);
-    channels = ap (λ (y : Rattle.sp_meaning.specs.Model.Totals). y.channels) x.elsewhere.totals ∙ l.channels ∙ ap (λ (y : Rattle.sp_journal.specs.Births.Births). y.channels) (sym eb);
+    forks = λ j lt. ap (λ y. y (G.births.name j)) x.elsewhere.forks
+        ∙ l.forks j (subst (λ y. j < y) (ap (λ (y : Rattle.sp_journal.specs.Births.Births). y.processes) eb) lt)
+        ∙ ap (λ (y : Rattle.sp_journal.specs.Births.Births). y.forks j) (sym eb);
+    processes = ap (λ (y : Rattle.sp_meaning.specs.Model.Totals). y.processes) x.elsewhere.totals ∙ l.processes
+        ∙ ap (λ (y : Rattle.sp_journal.specs.Births.Births). y.processes) (sym eb);
+    channels = ap (λ (y : Rattle.sp_meaning.specs.Model.Totals). y.channels) x.elsewhere.totals ∙ l.channels
+        ∙ ap (λ (y : Rattle.sp_journal.specs.Births.Births). y.channels) (sym eb);
     entries = ap (λ (y : Rattle.sp_meaning.specs.Model.Totals). y.entries) x.elsewhere.totals ∙ l.entries ∙ sym ee;
-    pending = λ j lt. subst (λ y. Rattle.sp_link.proofs.Relation.IsPending G (y (Rattle.sp_journal.specs.Births.channel G.births j)) (u1.pending j)) (sym x.elsewhere.pending) (subst (λ y. Rattle.sp_link.proofs.Relation.IsPending G (s.pending (Rattle.sp_journal.specs.Births.channel G.births j)) (y j)) (sym ep) (l.pending j (subst (λ y. j < y) (ap (λ (y : Rattle.sp_journal.specs.Births.Births). y.channels) eb) lt)));
-    none_pending = λ j le. ap (λ y. y j) ep ∙ l.none_pending j (subst (λ y. y ≤ j) (ap (λ (y : Rattle.sp_journal.specs.Births.Births). y.channels) eb) le);
+    pending = λ j lt. subst (λ y. Rattle.sp_link.proofs.Relation.IsPending G
+        (y (Rattle.sp_journal.specs.Births.channel G.births j)) (u1.pending j)) (sym x.elsewhere.pending)
+        (subst (λ y. Rattle.sp_link.proofs.Relation.IsPending G
+        (s.pending (Rattle.sp_journal.specs.Births.channel G.births j)) (y j)) (sym ep)
+        (l.pending j (subst (λ y. j < y) (ap (λ (y : Rattle.sp_journal.specs.Births.Births). y.channels) eb) lt)));
+    none_pending = λ j le. ap (λ y. y j) ep ∙ l.none_pending j
+        (subst (λ y. y ≤ j) (ap (λ (y : Rattle.sp_journal.specs.Births.Births). y.channels) eb) le);
     faulted = l.faulted ∙ sym ef;
-    fresh_since = λ a e. ⊎_elim (λ (y : a ≡ v). absurd (no_absent (sym gone ∙ subst (λ b. t1.condition b ≡ Absent) y e))) (λ (y : a ≢ v). since_other a y ∙ l.fresh_since a (sym (x.elsewhere.condition a y) ∙ sym (same a y) ∙ e)) (same_or_not name_test a v);
+    fresh_since = λ a e. ⊎_elim (λ (y : a ≡ v). absurd
+        (no_absent (sym gone ∙ subst (λ b. t1.condition b ≡ Absent) y e)))
+        (λ (y : a ≢ v). since_other a y ∙ l.fresh_since a (sym (x.elsewhere.condition a y) ∙ sym (same a y) ∙ e))
+        (same_or_not name_test a v);
     quiet = λ e. x.elsewhere.fault ∙ l.quiet (sym ef ∙ e);
     unlaid = λ e. l.unlaid (sym ef ∙ e);
-    does = λ j lt. subst (λ (y : Rattle.sp_journal.specs.Births.Births). Performs_all G lv (G.births.name j) c1 t1 (y.opens j) (u1.condition j)) (sym eb) (does j (subst (λ y. j < y) (ap (λ (y : Rattle.sp_journal.specs.Births.Births). y.processes) eb) lt));
-    unborn = λ j le. unborn j (subst (λ y. y ≤ j) (ap (λ (y : Rattle.sp_journal.specs.Births.Births). y.processes) eb) le);
-    unmade = λ j le. subst (λ (y : Rattle.sp_journal.specs.Births.Births). (y.forks j ≡ 0) × (y.opens j ≡ 0)) (sym eb) (l.unmade j (subst (λ y. y ≤ j) (ap (λ (y : Rattle.sp_journal.specs.Births.Births). y.processes) eb) le));
-    numbered = λ a h. subst (λ (y : Rattle.sp_journal.specs.Births.Births). (k : ℕ) × (k < y.processes) × (G.births.name k ≡ a)) (sym eb) (⊎_elim (λ (e : a ≡ v). (i, here G lv c s u l i d at_i, sym e)) (λ (e : a ≢ v). l.numbered a (λ f. h (same a e ∙ x.elsewhere.condition a e ∙ f))) (same_or_not name_test a v));
+    does = λ j lt. subst (λ (y : Rattle.sp_journal.specs.Births.Births). Performs_all G lv (G.births.name j) c1 t1
+        (y.opens j) (u1.condition j)) (sym eb)
+        (does j (subst (λ y. j < y) (ap (λ (y : Rattle.sp_journal.specs.Births.Births). y.processes) eb) lt));
+    unborn = λ j le. unborn j (subst (λ y. y ≤ j) (ap (λ (y : Rattle.sp_journal.specs.Births.Births). y.processes) eb)
+        le);
+    unmade = λ j le. subst (λ (y : Rattle.sp_journal.specs.Births.Births). (y.forks j ≡ 0) × (y.opens j ≡ 0)) (sym eb)
+        (l.unmade j (subst (λ y. y ≤ j) (ap (λ (y : Rattle.sp_journal.specs.Births.Births). y.processes) eb) le));
+    numbered = λ a h. subst (λ (y : Rattle.sp_journal.specs.Births.Births). (k : ℕ) × (k < y.processes)
+        × (G.births.name k ≡ a)) (sym eb) (⊎_elim (λ (e : a ≡ v). (i, here G lv c s u l i d at_i, sym e))
+        (λ (e : a ≢ v). l.numbered a (λ f. h (same a e ∙ x.elsewhere.condition a e ∙ f))) (same_or_not name_test a v));
   }
 
   -- of the first process
   pub root_ends : u.births.birth i ≡ None → v ≡ [] → Linked G lv c1 t1 (becomes plain (run_is G) i (sys.Over left_it) u)
   root_ends none is = linked_by (becomes plain (run_is G) i (sys.Over left_it) u) refl refl refl refl
       (λ j lt. ⊎_elim
-      (λ (e : i ≡ j). subst (λ y. Performs_all G lv (G.births.name y) c1 t1 (u.births.opens y) (at_key ◌==◌ i (sys.Over left_it) u.condition y)) e
-      (subst (λ y. Performs_all G lv v c1 t1 (u.births.opens i) y) (sym (ap (λ b. cond b (sys.Over left_it) (u.condition i)) (eq-eqb i i refl)))
+      (λ (e : i ≡ j). subst (λ y. Performs_all G lv (G.births.name y) c1 t1 (u.births.opens y)
+      (at_key ◌==◌ i (sys.Over left_it) u.condition y)) e
+      (subst (λ y. Performs_all G lv v c1 t1 (u.births.opens i) y)
+      (sym (ap (λ b. cond b (sys.Over left_it) (u.condition i)) (eq-eqb i i refl)))
       (gone, is, λ may. (let y = stood.output may in (y.0, y.1, ap output_of y.2)))))
-      (λ (e : i ≢ j). subst (λ y. Performs_all G lv (G.births.name j) c1 t1 (u.births.opens j) y) (sym (other_number j e)) (does_other j lt e (λ k n h. no_child k n (h ∙ is))))
+      (λ (e : i ≢ j). subst (λ y. Performs_all G lv (G.births.name j) c1 t1 (u.births.opens j) y)
+      (sym (other_number j e)) (does_other j lt e (λ k n h. no_child k n (h ∙ is))))
       (number_or G lv c s u l i d at_i i j))
       (λ j le. other_number j (λ e. let a = here G lv c s u l i d at_i in omega (arith, a, le, e)) ∙ l.unborn j le)
     where
@@ -172,7 +218,8 @@ module _ (G : Ground) (lv : Lives G) (c : Course) (s : StateOf G.g) (u : System 
           go false h = refl
 
   -- of a child
-  module _ (b : Birth) (born : u.births.birth i ≡ Some b) (known_parent : b.parent < u.births.processes) (older : b.parent ≢ i) (name_is : v ≡ (b.fork, b.child) ∷ G.births.name b.parent) where
+  module _ (b : Birth) (born : u.births.birth i ≡ Some b) (known_parent : b.parent < u.births.processes)
+      (older : b.parent ≢ i) (name_is : v ≡ (b.fork, b.child) ∷ G.births.name b.parent) where
     abbrev P : Name
     P = G.births.name b.parent
 
@@ -189,7 +236,8 @@ module _ (G : Ground) (lv : Lives G) (c : Course) (s : StateOf G.g) (u : System 
     joins_at = known_then.sound.joined P b.fork b.child live_there
 
     parent_apart : P ≢ v
-    parent_apart = other_name G lv c s u l i d at_i z r x happenings.Ended said b.parent known_parent (λ e. older (sym e))
+    parent_apart = other_name G lv c s u l i d at_i z r x happenings.Ended said b.parent known_parent
+        (λ e. older (sym e))
 
     at_parent : t1.condition P ≡ x.at.condition P
     at_parent = same P parent_apart
@@ -201,7 +249,10 @@ module _ (G : Ground) (lv : Lives G) (c : Course) (s : StateOf G.g) (u : System 
     dx left e = if left == 1 then sys.Working e else sys.Joins (left - 1) e
 
     -- the parent, at the fork whose child this is
-    module _ (left : ℕ) (dd : Config (Memory Plain)) (k n : ℕ) (pr : Process) (at_join : x.at.condition P ≡ Joins k n pr) (zj : Joined G (lv P) (λ a e. lv ((a, e) ∷ P)) P (c.since P) k n left pr x.at dd) (opens_are : pr.who.opens ≡ op) (unlaid : c.laid P ≡ false) where
+    module _ (left : ℕ) (dd : Config (Memory Plain)) (k n : ℕ) (pr : Process)
+        (at_join : x.at.condition P ≡ Joins k n pr)
+        (zj : Joined G (lv P) (λ a e. lv ((a, e) ∷ P)) P (c.since P) k n left pr x.at dd)
+        (opens_are : pr.who.opens ≡ op) (unlaid : c.laid P ≡ false) where
       j : JoinsAt {O = Process} {V = Held} {T = Address} b.fork b.child (Joins k n pr)
       j = subst (λ y. JoinsAt {O = Process} {V = Held} {T = Address} b.fork b.child y) at_join joins_at
 
@@ -209,10 +260,13 @@ module _ (G : Ground) (lv : Lives G) (c : Course) (s : StateOf G.g) (u : System 
       vy = name_is ∙ ap (λ y. (y, b.child) ∷ P) (sym j.0)
 
       yet : has_ended (x.at.condition ((k, b.child) ∷ P)) ≡ false
-      yet = subst (λ y. has_ended (x.at.condition y) ≡ false) vy (ended_at G lv c s u l i d at_i z r x happenings.Ended said)
+      yet = subst (λ y. has_ended (x.at.condition y) ≡ false) vy
+          (ended_at G lv c s u l i d at_i z r x happenings.Ended said)
 
-      stood_there : St G (lv ((k, b.child) ∷ P)) (λ a e. lv ((a, e) ∷ (k, b.child) ∷ P)) ((k, b.child) ∷ P) (p1 G lv c s u l i d at_i).who (c.since v) (lv ((k, b.child) ∷ P)).below o x.at.store t.2
-      stood_there = subst (λ y. St G (lv y) (λ a e. lv ((a, e) ∷ y)) y (p1 G lv c s u l i d at_i).who (c.since v) (lv y).below o x.at.store t.2) vy stood
+      stood_there : St G (lv ((k, b.child) ∷ P)) (λ a e. lv ((a, e) ∷ (k, b.child) ∷ P)) ((k, b.child) ∷ P)
+          (p1 G lv c s u l i d at_i).who (c.since v) (lv ((k, b.child) ∷ P)).below o x.at.store t.2
+      stood_there = subst (λ y. St G (lv y) (λ a e. lv ((a, e) ∷ y)) y (p1 G lv c s u l i d at_i).who (c.since v)
+          (lv y).below o x.at.store t.2) vy stood
 
       moved_there : (t.2).store.moved ≡ (lv ((k, b.child) ∷ P)).moved
       moved_there = subst (λ y. (t.2).store.moved ≡ (lv y).moved) vy moved_here
@@ -230,7 +284,8 @@ module _ (G : Ground) (lv : Lives G) (c : Course) (s : StateOf G.g) (u : System 
       fewer = one_fewer G lv P (c.since P) k n left b.child pr x.at dd zj j.1 yet
 
       abbrev after_it : Config (Memory Plain)
-      after_it = At zj.pc zj.stack (memory_after G lv P (c.since P) k n left b.child pr x.at dd zj j.1 yet stood_there moved_there)
+      after_it = At zj.pc zj.stack (memory_after G lv P (c.since P) k n left b.child pr x.at dd zj j.1 yet stood_there
+          moved_there)
 
       config_is : sys.on_store (λ y. plain.joined y (sys.store_of left_it)) dd ≡ after_it
       config_is = ap (λ y. sys.on_store (λ y. plain.joined y (sys.store_of left_it)) y) zj.is
@@ -238,12 +293,17 @@ module _ (G : Ground) (lv : Lives G) (c : Course) (s : StateOf G.g) (u : System 
       there : t2.condition P ≡ Joins k n pr
       there = ap (λ (y : StateOf G.g). y.condition P) state_same ∙ at_parent ∙ at_join
 
-      by_left : (a : Bool) → left == 1 ≡ a → Performs_all G lv P c1 t2 op (if a then sys.Working after_it else sys.Joins (left - 1) after_it)
+      by_left : (a : Bool) → left == 1 ≡ a → Performs_all G lv P c1 t2 op
+          (if a then sys.Working after_it else sys.Joins (left - 1) after_it)
       by_left true e =
           let none : left1 ≡ 0 = omega (arith, fewer, eqb-true left 1 e) in (
             pr,
-            ap (working_in t2.condition P) there ∙ ap (λ a. if a then Some pr else None) (all_over G lv P (c.since P) k n left b.child pr x.at dd zj j.1 yet t2.condition n none),
-            inl (subst (λ y. Stands G (lv P) (λ a e. lv ((a, e) ∷ P)) P y pr t2.store after_it) (sym (since_other P parent_apart)) (runs_on G lv P (c.since P) k n left b.child pr x.at dd zj j.1 yet stood_there moved_there none)),
+            ap (working_in t2.condition P) there
+                ∙ ap (λ a. if a then Some pr else None)
+                (all_over G lv P (c.since P) k n left b.child pr x.at dd zj j.1 yet t2.condition n none),
+            inl (subst (λ y. Stands G (lv P) (λ a e. lv ((a, e) ∷ P)) P y pr t2.store after_it)
+                (sym (since_other P parent_apart))
+                (runs_on G lv P (c.since P) k n left b.child pr x.at dd zj j.1 yet stood_there moved_there none)),
             opens_are,
             unlaid,
           )
@@ -254,7 +314,9 @@ module _ (G : Ground) (lv : Lives G) (c : Course) (s : StateOf G.g) (u : System 
             pr,
             there,
             subst (λ y. Joined G (lv P) (λ a e. lv ((a, e) ∷ P)) P (c1.since P) k n y pr t2 after_it) (sym less)
-                (subst (λ y. Joined G (lv P) (λ a e. lv ((a, e) ∷ P)) P y k n left1 pr t2 after_it) (sym (since_other P parent_apart)) (joins_on G lv P (c.since P) k n left b.child pr x.at dd zj j.1 yet stood_there moved_there some)),
+                (subst (λ y. Joined G (lv P) (λ a e. lv ((a, e) ∷ P)) P y k n left1 pr t2 after_it)
+                (sym (since_other P parent_apart))
+                (joins_on G lv P (c.since P) k n left b.child pr x.at dd zj j.1 yet stood_there moved_there some)),
             opens_are,
             unlaid,
           )
@@ -270,9 +332,11 @@ module _ (G : Ground) (lv : Lives G) (c : Course) (s : StateOf G.g) (u : System 
               go (suc y) g = omega arith
 
       rejoins : Performs_all G lv P c1 t1 op (dx left (sys.on_store (λ y. plain.joined y (sys.store_of left_it)) dd))
-      rejoins = subst (λ y. Performs_all G lv P c1 t1 op (dx left y)) (sym config_is) (subst (λ y. Performs_all G lv P c1 y op (dx left after_it)) state_same (by_left (left == 1) refl))
+      rejoins = subst (λ y. Performs_all G lv P c1 t1 op (dx left y)) (sym config_is)
+          (subst (λ y. Performs_all G lv P c1 y op (dx left after_it)) state_same (by_left (left == 1) refl))
 
-    rejoin : (X : sys.Condition Plain) → Performs_all G lv P c x.at op X → Performs_all G lv P c1 t1 op (rejoined plain (run_is G) left_it X)
+    rejoin : (X : sys.Condition Plain) → Performs_all G lv P c x.at op X
+        → Performs_all G lv P c1 t1 op (rejoined plain (run_is G) left_it X)
     rejoin sys.Absent h = absurd h
     rejoin (sys.Working dd) h = absurd (not_alone (inl (h.0, h.1)))
     rejoin (sys.Waits y dd) h = absurd (subst (λ a. JoinsAt b.fork b.child a) h.1 joins_at)
@@ -282,13 +346,16 @@ module _ (G : Ground) (lv : Lives G) (c : Course) (s : StateOf G.g) (u : System 
     rejoin (sys.Over dd) h = absurd (subst (λ a. JoinsAt b.fork b.child a) h.0 joins_at)
 
     abbrev pub u1 : System Plain
-    u1 = becomes plain (run_is G) b.parent (rejoined plain (run_is G) left_it (u.condition b.parent)) (becomes plain (run_is G) i sys.Gone u)
+    u1 = becomes plain (run_is G) b.parent (rejoined plain (run_is G) left_it (u.condition b.parent))
+        (becomes plain (run_is G) i sys.Gone u)
 
     at_p : u1.condition b.parent ≡ rejoined plain (run_is G) left_it (u.condition b.parent)
-    at_p = ap (λ y. cond y (rejoined plain (run_is G) left_it (u.condition b.parent)) (cond (i == b.parent) sys.Gone (u.condition b.parent))) (eq-eqb b.parent b.parent refl)
+    at_p = ap (λ y. cond y (rejoined plain (run_is G) left_it (u.condition b.parent))
+        (cond (i == b.parent) sys.Gone (u.condition b.parent))) (eq-eqb b.parent b.parent refl)
 
     at_else : (a : ℕ) → b.parent ≢ a → u1.condition a ≡ cond (i == a) sys.Gone (u.condition a)
-    at_else a e = ap (λ y. cond y (rejoined plain (run_is G) left_it (u.condition b.parent)) (cond (i == a) sys.Gone (u.condition a))) (ne_eqb b.parent a e)
+    at_else a e = ap (λ y. cond y (rejoined plain (run_is G) left_it (u.condition b.parent))
+        (cond (i == a) sys.Gone (u.condition a))) (ne_eqb b.parent a e)
 
     at_far : (a : ℕ) → b.parent ≢ a → i ≢ a → u1.condition a ≡ u.condition a
     at_far a e f = at_else a e ∙ ap (λ y. cond y sys.Gone (u.condition a)) (ne_eqb i a f)
@@ -299,13 +366,22 @@ module _ (G : Ground) (lv : Lives G) (c : Course) (s : StateOf G.g) (u : System 
     pub child_ends : Linked G lv c1 t1 u1
     child_ends = linked_by u1 refl refl refl refl
         (λ a lt. ⊎_elim
-        (λ (e : b.parent ≡ a). subst (λ y. Performs_all G lv (G.births.name y) c1 t1 (u.births.opens y) (u1.condition y)) e (subst (λ y. Performs_all G lv P c1 t1 op y) (sym at_p) (rejoin (u.condition b.parent) (does_at G lv c s u l i d at_i z r x happenings.Ended said b.parent known_parent (λ h. older (sym h))))))
+        (λ (e : b.parent ≡ a). subst (λ y. Performs_all G lv (G.births.name y) c1 t1 (u.births.opens y)
+        (u1.condition y)) e (subst (λ y. Performs_all G lv P c1 t1 op y) (sym at_p)
+        (rejoin (u.condition b.parent) (does_at G lv c s u l i d at_i z r x happenings.Ended said b.parent
+        known_parent (λ h. older (sym h))))))
         (λ (e : b.parent ≢ a). ⊎_elim
-        (λ (f : i ≡ a). subst (λ y. Performs_all G lv (G.births.name y) c1 t1 (u.births.opens y) (u1.condition y)) f (subst (λ y. Performs_all G lv v c1 t1 (u.births.opens i) y) (sym (at_else i (λ h. older h) ∙ ap (λ y. cond y sys.Gone (u.condition i)) (eq-eqb i i refl))) (gone, λ h. no_empty (sym name_is ∙ h))))
-        (λ (f : i ≢ a). subst (λ y. Performs_all G lv (G.births.name a) c1 t1 (u.births.opens a) y) (sym (at_far a e f)) (does_other a lt f (λ k n h. e (sym (G.one_name a b.parent (few a lt) (few b.parent known_parent) (ends_alike k n a (h ∙ name_is)))))))
+        (λ (f : i ≡ a). subst (λ y. Performs_all G lv (G.births.name y) c1 t1 (u.births.opens y) (u1.condition y)) f
+        (subst (λ y. Performs_all G lv v c1 t1 (u.births.opens i) y)
+        (sym (at_else i (λ h. older h) ∙ ap (λ y. cond y sys.Gone (u.condition i)) (eq-eqb i i refl)))
+        (gone, λ h. no_empty (sym name_is ∙ h))))
+        (λ (f : i ≢ a). subst (λ y. Performs_all G lv (G.births.name a) c1 t1 (u.births.opens a) y) (sym (at_far a e f))
+        (does_other a lt f (λ k n h. e (sym
+        (G.one_name a b.parent (few a lt) (few b.parent known_parent) (ends_alike k n a (h ∙ name_is)))))))
         (number_or G lv c s u l i d at_i i a))
         (number_or G lv c s u l i d at_i b.parent a))
-        (λ a le. at_far a (λ h. omega (arith, known_parent, le, h)) (λ h. let y = here G lv c s u l i d at_i in omega (arith, y, le, h)) ∙ l.unborn a le)
+        (λ a le. at_far a (λ h. omega (arith, known_parent, le, h))
+        (λ h. let y = here G lv c s u l i d at_i in omega (arith, y, le, h)) ∙ l.unborn a le)
       where
         few : (a : ℕ) → a < u.births.processes → a < G.births.processes
         few a lt = let y = l.began.processes in omega (arith, lt, y)
@@ -315,13 +391,17 @@ module _ (G : Ground) (lv : Lives G) (c : Course) (s : StateOf G.g) (u : System 
 
   -- ---- the entry
 
-  by_birth : (y : Option Birth) → u.births.birth i ≡ y → Linked G lv c1 t1 (record (reported plain (run_is G) i left_it y u) { births = u.births })
+  by_birth : (y : Option Birth) → u.births.birth i ≡ y
+      → Linked G lv c1 t1 (record (reported plain (run_is G) i left_it y u) { births = u.births })
   by_birth None e = root_ends e (first i refl)
     where
       first : (k : ℕ) → i ≡ k → v ≡ []
       first zero h = sym (l.began.names i (here G lv c s u l i d at_i)) ∙ ap (λ y. u.births.name y) h ∙ l.began.root.1
-      first (suc k) h = let y = l.began.born i (omega (arith, h)) (here G lv c s u l i d at_i) in absurd (none-some y.0 (sym e ∙ y.1))
-  by_birth (Some b) e = child_ends b e (omega (arith, older, lt)) (λ h. omega (arith, older, h)) (sym (l.began.names i lt) ∙ named ∙ ap (λ y. (b.fork, b.child) ∷ y) (l.began.names b.parent (omega (arith, older, lt))))
+      first (suc k) h = let y = l.began.born i (omega (arith, h)) (here G lv c s u l i d at_i) in
+          absurd (none-some y.0 (sym e ∙ y.1))
+  by_birth (Some b) e = child_ends b e (omega (arith, older, lt)) (λ h. omega (arith, older, h))
+      (sym (l.began.names i lt) ∙ named ∙ ap (λ y. (b.fork, b.child) ∷ y)
+      (l.began.names b.parent (omega (arith, older, lt))))
     where
       lt : i < u.births.processes
       lt = here G lv c s u l i d at_i
@@ -330,7 +410,8 @@ module _ (G : Ground) (lv : Lives G) (c : Course) (s : StateOf G.g) (u : System 
       above zero h = absurd (none-some b (sym l.began.root.0 ∙ ap (λ y. u.births.birth y) (sym h) ∙ e))
       above (suc k) h = omega (arith, h)
 
-      of : (y : Birth) × (u.births.birth i ≡ Some y) × (y.parent < i) × (u.births.name i ≡ (y.fork, y.child) ∷ u.births.name y.parent) × (y.fork < u.births.forks y.parent)
+      of : (y : Birth) × (u.births.birth i ≡ Some y) × (y.parent < i)
+          × (u.births.name i ≡ (y.fork, y.child) ∷ u.births.name y.parent) × (y.fork < u.births.forks y.parent)
       of = l.began.born i (above i refl) lt
 
       is : of.0 ≡ b
@@ -343,7 +424,15 @@ module _ (G : Ground) (lv : Lives G) (c : Course) (s : StateOf G.g) (u : System 
       named = of.3 ∙ ap (λ (y : Birth). (y.fork, y.child) ∷ u.births.name y.parent) is
 
   pub finishing : Entry_of G c s u i d
-  finishing = record { turn = tn; is = tn_is; way = way_by _ (sym told); speaks = subst (λ a. IsOpen u.births (if a then event.Laid else event.End)) (sym quiet) tt; lives = lv; linked = λ began. now_by G lv c1 t1 (after plain (run_is G) i tn u) (subst (λ y. Linked G lv c1 t1 y) (sym (after_quiet G i tn u quiet)) (by_birth (u.births.birth i) refl)) }
+  finishing = record {
+    turn = tn;
+    is = tn_is;
+    way = way_by _ (sym told);
+    speaks = subst (λ a. IsOpen u.births (if a then event.Laid else event.End)) (sym quiet) tt;
+    lives = lv;
+    linked = λ began. now_by G lv c1 t1 (after plain (run_is G) i tn u)
+        (subst (λ y. Linked G lv c1 t1 y) (sym (after_quiet G i tn u quiet)) (by_birth (u.births.birth i) refl));
+  }
     where
       told : happening u.births (event_of G.g.limits u tn) ≡ happenings.Ended
       told = ap (λ a. happening u.births (if a then event.Laid else event.End)) quiet
@@ -358,5 +447,6 @@ module _ (G : Ground) (lv : Lives G) (c : Course) (s : StateOf G.g) (u : System 
         cost = 1;
         course = c1;
         state = t1;
-        enters = λ left n y. subst (λ f. Entered G.g left c x.at false v f (1 + n)) h (l.faulted ∙ quiet, refl, t1, n, one-add n, (x.left, x.runs, said, goes_next), y);
+        enters = λ left n y. subst (λ f. Entered G.g left c x.at false v f (1 + n)) h
+            (l.faulted ∙ quiet, refl, t1, n, one-add n, (x.left, x.runs, said, goes_next), y);
       }

@@ -30,44 +30,67 @@ use Rattle.sp_codegen.specs.Following.{ForkIs}
 use Rattle.sp_link.proofs.Relation.{Ground, Lives, Stands, TooLarge, Linked, Began, at_open, run_is, ops, execution}
 
 module _ (G : Ground) where
-  module _ (lv : Lives G) (c : Course) (s : StateOf G.g) (u : System Plain) (l : Linked G lv c s u) (i : ℕ) (d : Config (Memory Plain)) (at : u.condition i ≡ Working d) where
-    module _ (z : Stands G (lv (q G lv c s u l i d at)) (kids G lv c s u l i d at) (q G lv c s u l i d at) (c.since (q G lv c s u l i d at)) (pr G lv c s u l i d at) s.store d) where
-      by_quiet : (r : Came source.Stop × Store) → AtEnd r → Meant G lv c s u l i d at z r → Machined G lv c s u l i d at z r → Kept_to G lv c s u l i d at z r → u.faulted ≡ false → Entry_of G c s u i d
+  module _ (lv : Lives G) (c : Course) (s : StateOf G.g) (u : System Plain) (l : Linked G lv c s u) (i : ℕ)
+      (d : Config (Memory Plain)) (at : u.condition i ≡ Working d) where
+    module _ (z : Stands G (lv (q G lv c s u l i d at)) (kids G lv c s u l i d at) (q G lv c s u l i d at)
+        (c.since (q G lv c s u l i d at)) (pr G lv c s u l i d at) s.store d) where
+      by_quiet : (r : Came source.Stop × Store) → AtEnd r → Meant G lv c s u l i d at z r
+          → Machined G lv c s u l i d at z r → Kept_to G lv c s u l i d at z r → u.faulted ≡ false
+          → Entry_of G c s u i d
       by_quiet (Got (source.Paused todo) o, m) e x t y f = pausing G lv c s u l i d at z todo o m x t f
       by_quiet (Got (source.Stops (Stepped todo)) o, m) e x t y f = absurd e
       by_quiet (Got (source.Stops (Ticked todo)) o, m) e x t y f = absurd e
       by_quiet (Got (source.Stops (Opened todo)) o, m) e x t y f = opening_entry G lv c s u l i d at z todo o m x t y f
-      by_quiet (Got (source.Stops (Forked bs todo)) o, m) e x t y f = by_form (subst (λ b. ForkIs (execution G (lv (q G lv c s u l i d at)) (kids G lv c s u l i d at) (q G lv c s u l i d at) z.fresh (pr G lv c s u l i d at).who z.named (c.since (q G lv c s u l i d at))) b t.3 bs t.5) t.10 t.11)
+      by_quiet (Got (source.Stops (Forked bs todo)) o, m) e x t y f =
+          by_form (subst (λ b. ForkIs (execution G (lv (q G lv c s u l i d at)) (kids G lv c s u l i d at)
+          (q G lv c s u l i d at) z.fresh (pr G lv c s u l i d at).who z.named (c.since (q G lv c s u l i d at))) b t.3
+          bs t.5) t.10 t.11)
         where
-          by_form : ForkIs (execution G (lv (q G lv c s u l i d at)) (kids G lv c s u l i d at) (q G lv c s u l i d at) z.fresh (pr G lv c s u l i d at).who z.named (c.since (q G lv c s u l i d at))) true t.3 bs t.5 → Entry_of G c s u i d
+          by_form : ForkIs (execution G (lv (q G lv c s u l i d at)) (kids G lv c s u l i d at) (q G lv c s u l i d at)
+              z.fresh (pr G lv c s u l i d at).who z.named (c.since (q G lv c s u l i d at))) true t.3 bs t.5
+              → Entry_of G c s u i d
           by_form (inl h) = parallel_entry G lv c s u l i d at z bs todo o m x t y f h
           by_form (inr h) = forall_entry G lv c s u l i d at z bs todo o m x t y f h
-      by_quiet (Got (source.Stops (Offered ch k a todo)) o, m) e x t y f = offering G lv c s u l i d at z ch k a todo o m x t y f
+      by_quiet (Got (source.Stops (Offered ch k a todo)) o, m) e x t y f =
+          offering G lv c s u l i d at z ch k a todo o m x t y f
       by_quiet (Got (source.Stops Ended) o, m) e x t y f = finishing G lv c s u l i d at z o m x t f
       by_quiet (Bad f, m) e x t y q = failing G lv c s u l i d at z f m x t q
       by_quiet (Lost, m) e x t y f = absurd e
       by_quiet (Long, m) e x t y f = absurd e
 
-      by_fault : (b : Bool) → u.faulted ≡ b → (r : Came source.Stop × Store) → AtEnd r → Meant G lv c s u l i d at z r → Machined G lv c s u l i d at z r → Kept_to G lv c s u l i d at z r → Entry_of G c s u i d
+      by_fault : (b : Bool) → u.faulted ≡ b → (r : Came source.Stop × Store) → AtEnd r → Meant G lv c s u l i d at z r
+          → Machined G lv c s u l i d at z r → Kept_to G lv c s u l i d at z r → Entry_of G c s u i d
       by_fault true f r e x t y = laying G lv c s u l i d at z r e x t f
       by_fault false f r e x t y = by_quiet r e x t y f
 
-      abbrev kt : Rattle.sp_meaning.proofs.Owned.Keeps_to G.g.program (Rattle.sp_link.proofs.Relation.W_of G lv) (Rattle.sp_link.proofs.Relation.R_of G lv) s.forks (q G lv c s u l i d at) (pr G lv c s u l i d at)
+      abbrev kt : Rattle.sp_meaning.proofs.Owned.Keeps_to G.g.program (Rattle.sp_link.proofs.Relation.W_of G lv)
+          (Rattle.sp_link.proofs.Relation.R_of G lv) s.forks (q G lv c s u l i d at) (pr G lv c s u l i d at)
       kt = keeps_to G lv c s u l i d at
 
       standing : Entry_of G c s u i d
       standing = by_fault u.faulted refl
-          (result G (lv (q G lv c s u l i d at)) (kids G lv c s u l i d at) (q G lv c s u l i d at) (c.since (q G lv c s u l i d at)) s (pr G lv c s u l i d at) d z (runs G lv c s u l i d at) (light G lv c s u l i d at) kt.last kt.fit)
-          (ends G (lv (q G lv c s u l i d at)) (kids G lv c s u l i d at) (q G lv c s u l i d at) (c.since (q G lv c s u l i d at)) s (pr G lv c s u l i d at) d z (runs G lv c s u l i d at) (light G lv c s u l i d at) kt.last kt.fit)
-          (outcome G (lv (q G lv c s u l i d at)) (kids G lv c s u l i d at) (q G lv c s u l i d at) (c.since (q G lv c s u l i d at)) s (pr G lv c s u l i d at) d z (runs G lv c s u l i d at) (light G lv c s u l i d at) kt.last kt.fit)
-          (turned G (lv (q G lv c s u l i d at)) (kids G lv c s u l i d at) (q G lv c s u l i d at) (c.since (q G lv c s u l i d at)) s (pr G lv c s u l i d at) d z (runs G lv c s u l i d at) (light G lv c s u l i d at) kt.last kt.fit)
-          (kept G (lv (q G lv c s u l i d at)) (kids G lv c s u l i d at) (q G lv c s u l i d at) (c.since (q G lv c s u l i d at)) s (pr G lv c s u l i d at) d z (runs G lv c s u l i d at) (light G lv c s u l i d at) kt.last kt.fit)
+          (result G (lv (q G lv c s u l i d at)) (kids G lv c s u l i d at) (q G lv c s u l i d at)
+          (c.since (q G lv c s u l i d at)) s (pr G lv c s u l i d at) d z (runs G lv c s u l i d at)
+          (light G lv c s u l i d at) kt.last kt.fit)
+          (ends G (lv (q G lv c s u l i d at)) (kids G lv c s u l i d at) (q G lv c s u l i d at)
+          (c.since (q G lv c s u l i d at)) s (pr G lv c s u l i d at) d z (runs G lv c s u l i d at)
+          (light G lv c s u l i d at) kt.last kt.fit)
+          (outcome G (lv (q G lv c s u l i d at)) (kids G lv c s u l i d at) (q G lv c s u l i d at)
+          (c.since (q G lv c s u l i d at)) s (pr G lv c s u l i d at) d z (runs G lv c s u l i d at)
+          (light G lv c s u l i d at) kt.last kt.fit)
+          (turned G (lv (q G lv c s u l i d at)) (kids G lv c s u l i d at) (q G lv c s u l i d at)
+          (c.since (q G lv c s u l i d at)) s (pr G lv c s u l i d at) d z (runs G lv c s u l i d at)
+          (light G lv c s u l i d at) kt.last kt.fit)
+          (kept G (lv (q G lv c s u l i d at)) (kids G lv c s u l i d at) (q G lv c s u l i d at)
+          (c.since (q G lv c s u l i d at)) s (pr G lv c s u l i d at) d z (runs G lv c s u l i d at)
+          (light G lv c s u l i d at) kt.last kt.fit)
 
     -- the entry of a process that runs: it has one
     pub entry : Entry_of G c s u i d
     entry = ⊎_elim (λ z. standing z) (λ z. by z u.faulted refl) (its G lv c s u l i d at).2
       where
-        by : TooLarge G (lv (q G lv c s u l i d at)) (kids G lv c s u l i d at) (q G lv c s u l i d at) s.store (pr G lv c s u l i d at) d → (b : Bool) → u.faulted ≡ b → Entry_of G c s u i d
+        by : TooLarge G (lv (q G lv c s u l i d at)) (kids G lv c s u l i d at) (q G lv c s u l i d at) s.store
+            (pr G lv c s u l i d at) d → (b : Bool) → u.faulted ≡ b → Entry_of G c s u i d
         by z true f = too_large_laid G lv c s u l i d at z f
         by z false f = too_large_fails G lv c s u l i d at z f
 
@@ -81,8 +104,16 @@ module _ (G : Ground) where
       let at : after plain (run_is G) i en.turn u ≡ t = ap (λ x. after plain (run_is G) i x u) same ∙ sym h.5 in
       let said : event_of G.g.limits u en.turn ≡ e = ap (λ x. event_of G.g.limits u x) same ∙ h.4 in
       subst (λ x. Goes_on G c s (G.births.name i) (happening u.births e) x) at
-      (subst (λ x. Goes_on G c s (G.births.name i) (happening u.births x) (after plain (run_is G) i en.turn u)) said (record { way = en.way; lives = en.lives; linked = en.linked (subst (λ (x : System Plain). Began G x.births) (sym at) began) }))
+      (subst (λ x. Goes_on G c s (G.births.name i) (happening u.births x) (after plain (run_is G) i en.turn u)) said
+      (record {
+        way = en.way;
+        lives = en.lives;
+        linked = en.linked (subst (λ (x : System Plain). Began G x.births) (sym at) began);
+      }))
 
   -- where the system is defined along a journal, the meaning is
-  pub system_is_meaning : (lv : Lives G) → Now G lv no_course (start G.g) (opening plain (run_is G)) → (es : List Entry) (t : System Plain) → AllBegan G at_start es → IsSystem plain (run_is G) es t → Goes_along G no_course (start G.g) at_start es t
-  system_is_meaning lv l es t b h = goes_along G one_entry es lv no_course (start G.g) (opening plain (run_is G)) t l b h
+  pub system_is_meaning : (lv : Lives G) → Now G lv no_course (start G.g) (opening plain (run_is G))
+      → (es : List Entry) (t : System Plain) → AllBegan G at_start es → IsSystem plain (run_is G) es t
+      → Goes_along G no_course (start G.g) at_start es t
+  system_is_meaning lv l es t b h = goes_along G one_entry es lv no_course (start G.g) (opening plain (run_is G)) t l b
+      h

@@ -1,6 +1,7 @@
 -- The opening states of the meaning and of the machine are linked (`opening_linked`): the first process stands, or its
 -- frame is too large and F12 is its first step.
-use Rattle.std.proofs.Common.{◌≡◌, ◌⊎◌, inl, inr, ℕ, zero, suc, ◌<◌, ◌≤◌, ◌==◌, List, [], ◌∷◌, Some, Bool, true, false, if◌then◌else◌, eqb-true, refl, sym, ap, ◌∙◌, subst, arith}
+use Rattle.std.proofs.Common.{◌≡◌, ◌⊎◌, inl, inr, ℕ, zero, suc, ◌<◌, ◌≤◌, ◌==◌, List, [], ◌∷◌, Some, Bool, true, false}
+use Rattle.std.proofs.Common.{if◌then◌else◌, eqb-true, refl, sym, ap, ◌∙◌, subst, arith}
 use Rattle.std.specs.Prelude.{◌≢◌, nat_lt, nat_le, slice_get}
 use Rattle.sp_base.specs.declared.fault.Fault.TheVariants as fault
 use Rattle.sp_tree.specs.Plain.{Block}
@@ -32,7 +33,8 @@ use Rattle.sp_codegen.specs.Joints.{Joint}
 use Rattle.sp_codegen.proofs.Follows.{slides, push_follows}
 use Rattle.sp_codegen.proofs.Root.{NoIndexes, j0, root_stands, root_placed}
 use Rattle.sp_link.proofs.Journal.{Now}
-use Rattle.sp_link.proofs.Relation.{Ground, Life, Lives, W_of, R_of, Called, Named, Fresh, Stands, TooLarge, Performs_all, Linked, Began, at_open, run_is, ops, execution}
+use Rattle.sp_link.proofs.Relation.{Ground, Life, Lives, W_of, R_of, Called, Named, Fresh, Stands, TooLarge}
+use Rattle.sp_link.proofs.Relation.{Performs_all, Linked, Began, at_open, run_is, ops, execution}
 
 first_above : (q : Name) (l : Loc) → First q l → IsAbove q l
 first_above [] (Rattle.sp_meaning.specs.Own.Cell r n x) h = absurd h
@@ -42,7 +44,13 @@ first_above (a ∷ q) l h = absurd h
 
 -- only the first process has any rights yet
 first_fair : Fair_rights First First
-first_fair = record { reads = λ q l h. h; above = first_above; less_write = λ q k i l h. absurd h; less_read = λ q k i l h. absurd h; apart = λ q k i j l n h g. h }
+first_fair = record {
+  reads = λ q l h. h;
+  above = first_above;
+  less_write = λ q k i l h. absurd h;
+  less_read = λ q k i l h. absurd h;
+  apart = λ q k i j l n h g. h;
+}
 
 -- with so many cells as the frame of the program takes
 abbrev roomy : Setting → Setting
@@ -60,7 +68,16 @@ module _ (G : Ground) (b : Block) (eb : slice_get G.g.program.blocks 0 ≡ Some 
 
   -- what its birth would give each process: nothing but to the first
   abbrev pub lives : Lives G
-  lives q = record { W = λ l. First q l; R = λ l. First q l; J = NoIndexes; low = 1; born = 0; moved = []; below = js; end = after G.g.program block.layout.entry b.body }
+  lives q = record {
+    W = λ l. First q l;
+    R = λ l. First q l;
+    J = NoIndexes;
+    low = 1;
+    born = 0;
+    moved = [];
+    below = js;
+    end = after G.g.program block.layout.entry b.body;
+  }
 
   abbrev kids : ℕ → ℕ → Life
   kids k n = lives ((k, n) ∷ [])
@@ -75,17 +92,22 @@ module _ (G : Ground) (b : Block) (eb : slice_get G.g.program.blocks 0 ≡ Some 
   first_is = ap (λ y. At (entry_of plain (run_is G) y) [] n0) (G.finds 0 block.layout block.at)
 
   -- what it has to do
-  todo_by : (large : Bool) → nat_lt G.g.limits.cells (size_of_frame G.g 0) ≡ large → (root G.g).todo ≡ (if large then Break fault.F12 ∷ [] else push b.body [])
+  todo_by : (large : Bool) → nat_lt G.g.limits.cells (size_of_frame G.g 0) ≡ large
+      → (root G.g).todo ≡ (if large then Break fault.F12 ∷ [] else push b.body [])
   todo_by large e = go G.g.program.blocks eb
     where
-      go : (bs : List Block) → slice_get bs 0 ≡ Some b → main G.g bs ≡ (if large then Break fault.F12 ∷ [] else push b.body [])
+      go : (bs : List Block) → slice_get bs 0 ≡ Some b
+          → main G.g bs ≡ (if large then Break fault.F12 ∷ [] else push b.body [])
       go [] h = absurd (cc h)
-      go (c ∷ bs) h = let same : c ≡ b = cc h in ap (λ y. if y then Break fault.F12 ∷ [] else push c.body []) e ∙ ap (λ (y : Block). if large then Break fault.F12 ∷ [] else push y.body []) same
+      go (c ∷ bs) h = let same : c ≡ b = cc h in
+          ap (λ y. if y then Break fault.F12 ∷ [] else push c.body []) e
+          ∙ ap (λ (y : Block). if large then Break fault.F12 ∷ [] else push y.body []) same
 
   abbrev who : Who
   who = record { name = []; forks = 0; opens = 0 }
 
-  stands : nat_lt G.g.limits.cells (size_of_frame G.g 0) ≡ false → Stands G (lives []) kids [] 0 (root G.g) (first_store G.g) (first plain (run_is G))
+  stands : nat_lt G.g.limits.cells (size_of_frame G.g 0) ≡ false
+      → Stands G (lives []) kids [] 0 (root G.g) (first_store G.g) (first plain (run_is G))
   stands e = record {
     fresh = fresh;
     named = refl;
@@ -95,20 +117,37 @@ module _ (G : Ground) (b : Block) (eb : slice_get G.g.program.blocks 0 ≡ Some 
     memory = n0;
     is = first_is;
     stand = root_stands G.g G.code G.formed G.laid b eb G.pause (Named G) (Called G) called fits;
-    follows = subst (λ y. Rattle.sp_codegen.specs.Following.Follows (execution G (lives []) kids [] fresh who refl 0) (lives []).end [] js block.layout.entry [] js y) (sym (todo_by false e))
-        (push_follows (execution G (lives []) kids [] fresh who refl 0) b.body (lives []).end [] js (scopes_of G.g.program 0) block.layout.entry [] js [] (root_placed G.g G.code G.formed G.laid b eb G.pause (Named G) (Called G) called G.free)
-        (block.stands.body true tt) (slides (execution G (lives []) kids [] fresh who refl 0) (lives []).end [], refl, refl));
+    follows = subst (λ y. Rattle.sp_codegen.specs.Following.Follows (execution G (lives []) kids [] fresh who refl 0)
+        (lives []).end [] js block.layout.entry [] js y) (sym (todo_by false e))
+        (push_follows (execution G (lives []) kids [] fresh who refl 0) b.body (lives []).end [] js
+        (scopes_of G.g.program 0) block.layout.entry [] js []
+        (root_placed G.g G.code G.formed G.laid b eb G.pause (Named G) (Called G) called G.free)
+        (block.stands.body true tt) (
+          slides (execution G (lives []) kids [] fresh who refl 0) (lives []).end [],
+          refl,
+          refl,
+        ));
   }
     where
       fits : size_of_frame G.g 0 ≤ G.g.limits.cells
       fits = Prim.grind (arith, e)
 
   -- its memory, whatever the limit of cells is
-  abbrev roomy_is : Rattle.sp_codegen.specs.Standing.Stand (roomy G.g) G.code who (Named G) (Called G) (λ l. All First [] l) (λ l. All First [] l) NoIndexes 1 1 0 0 G.pause [] js (root (roomy G.g)).own (first_store G.g) n0
+  abbrev roomy_is : Rattle.sp_codegen.specs.Standing.Stand (roomy G.g) G.code who (Named G) (Called G)
+      (λ l. All First [] l) (λ l. All First [] l) NoIndexes 1 1 0 0 G.pause [] js (root (roomy G.g)).own
+      (first_store G.g) n0
   roomy_is = root_stands (roomy G.g) G.code G.formed G.laid b eb G.pause (Named G) (Called G) called (omega arith)
 
-  too_large : nat_lt G.g.limits.cells (size_of_frame G.g 0) ≡ true → TooLarge G (lives []) kids [] (first_store G.g) (root G.g) (first plain (run_is G))
-  too_large e = (refl, todo_by true e, refl, refl, no_room, λ may. (let y = roomy_is.output may in (y.0, y.1, ap output_of y.2)))
+  too_large : nat_lt G.g.limits.cells (size_of_frame G.g 0) ≡ true
+      → TooLarge G (lives []) kids [] (first_store G.g) (root G.g) (first plain (run_is G))
+  too_large e = (
+    refl,
+    todo_by true e,
+    refl,
+    refl,
+    no_room,
+    λ may. (let y = roomy_is.output may in (y.0, y.1, ap output_of y.2)),
+  )
     where
       small : nat_le n0.cells G.g.limits.cells ≡ false
       small = let a = roomy_is.cells in by (nat_le n0.cells G.g.limits.cells) refl a
@@ -126,17 +165,25 @@ module _ (G : Ground) (b : Block) (eb : slice_get G.g.program.blocks 0 ≡ Some 
   does_first : Performs_all G lives [] no_course (start G.g) 0 (sys.Working (first plain (run_is G)))
   does_first = (root G.g, refl, by (nat_lt G.g.limits.cells (size_of_frame G.g 0)) refl, refl, refl)
     where
-      by : (x : Bool) → nat_lt G.g.limits.cells (size_of_frame G.g 0) ≡ x → Stands G (lives []) kids [] 0 (root G.g) (first_store G.g) (first plain (run_is G)) ⊎ TooLarge G (lives []) kids [] (first_store G.g) (root G.g) (first plain (run_is G))
+      by : (x : Bool) → nat_lt G.g.limits.cells (size_of_frame G.g 0) ≡ x
+          → Stands G (lives []) kids [] 0 (root G.g) (first_store G.g) (first plain (run_is G))
+          ⊎ TooLarge G (lives []) kids [] (first_store G.g) (root G.g) (first plain (run_is G))
       by false e = inl (stands e)
       by true e = inr (too_large e)
 
   -- rights
-  main_fit : Fit G.g.program (λ l. All First [] l) (λ l. All First [] l) (bottom G.g G.free ∷ []) (bottom G.g G.free ∷ []) (root G.g).todo
-  main_fit = subst (λ y. Fit G.g.program (λ l. All First [] l) (λ l. All First [] l) (bottom G.g G.free ∷ []) (bottom G.g G.free ∷ []) y) (sym (todo_by (nat_lt G.g.limits.cells (size_of_frame G.g 0)) refl)) (go (nat_lt G.g.limits.cells (size_of_frame G.g 0)))
+  main_fit : Fit G.g.program (λ l. All First [] l) (λ l. All First [] l) (bottom G.g G.free ∷ [])
+      (bottom G.g G.free ∷ []) (root G.g).todo
+  main_fit = subst (λ y. Fit G.g.program (λ l. All First [] l) (λ l. All First [] l) (bottom G.g G.free ∷ [])
+      (bottom G.g G.free ∷ []) y) (sym (todo_by (nat_lt G.g.limits.cells (size_of_frame G.g 0)) refl))
+      (go (nat_lt G.g.limits.cells (size_of_frame G.g 0)))
     where
-      go : (x : Bool) → Fit G.g.program (λ l. All First [] l) (λ l. All First [] l) (bottom G.g G.free ∷ []) (bottom G.g G.free ∷ []) (if x then Break fault.F12 ∷ [] else push b.body [])
+      go : (x : Bool) → Fit G.g.program (λ l. All First [] l) (λ l. All First [] l) (bottom G.g G.free ∷ [])
+          (bottom G.g G.free ∷ []) (if x then Break fault.F12 ∷ [] else push b.body [])
       go true = record { linked = (refl, λ c f h. absurd (cc h), tt, tt); ready = tt; ends = refl }
-      go false = push_good G.g.program (λ l. All First [] l) (λ l. All First [] l) (bottom G.g G.free ∷ []) (bottom G.g G.free ∷ []) b.body [] (body_sound G.g G.free b eb) (record { linked = (refl, λ c f h. absurd (cc h), tt, tt); ready = tt; ends = refl })
+      go false = push_good G.g.program (λ l. All First [] l) (λ l. All First [] l) (bottom G.g G.free ∷ [])
+          (bottom G.g G.free ∷ []) b.body [] (body_sound G.g G.free b eb)
+          (record { linked = (refl, λ c f h. absurd (cc h), tt, tt); ready = tt; ends = refl })
 
   rights : Inv G.g.program (W_of G lives) (R_of G lives) (start G.g).condition (start G.g).forks
   rights = record { holds = holds; unborn = λ q k i h. refl; fair = first_fair; unknown = λ q k i l h g. g }
@@ -171,15 +218,18 @@ module _ (G : Ground) (b : Block) (eb : slice_get G.g.program.blocks 0 ≡ Some 
     numbered = λ q h. (0, omega arith, sym (first_name q h));
   }
     where
-      does_by : (i : ℕ) → i < 1 → Performs_all G lives (G.births.name i) no_course (start G.g) (u0.births.opens i) (u0.condition i)
-      does_by zero lt = subst (λ y. Performs_all G lives y no_course (start G.g) 0 (sys.Working (first plain (run_is G)))) (begun.names 0 (omega arith)) does_first
+      does_by : (i : ℕ) → i < 1 → Performs_all G lives (G.births.name i) no_course (start G.g) (u0.births.opens i)
+          (u0.condition i)
+      does_by zero lt = subst (λ y. Performs_all G lives y no_course (start G.g) 0
+          (sys.Working (first plain (run_is G)))) (begun.names 0 (omega arith)) does_first
       does_by (suc i) lt = absurd (omega (arith, lt))
 
       absent : (i : ℕ) → 1 ≤ i → u0.condition i ≡ sys.Absent
       absent zero le = absurd (omega (arith, le))
       absent (suc i) le = go (suc i == 0) refl
         where
-          go : (x : Bool) → suc i == 0 ≡ x → (if x then sys.Working (first plain (run_is G)) else sys.Absent) ≡ sys.Absent
+          go : (x : Bool) → suc i == 0 ≡ x → (if x then sys.Working (first plain (run_is G)) else sys.Absent)
+              ≡ sys.Absent
           go true e = let same : suc i ≡ 0 = eqb-true (suc i) 0 e in absurd (omega (arith, same))
           go false e = refl
 
@@ -188,5 +238,6 @@ module _ (G : Ground) (b : Block) (eb : slice_get G.g.program.blocks 0 ≡ Some 
       first_name (a ∷ q) h = absurd (h refl)
 
 -- with the channels that are open at first: none
-pub opening_now : (G : Ground) (b : Block) (eb : slice_get G.g.program.blocks 0 ≡ Some b) (begun : Began G at_start) → Now G (lives (at_open G 0) b eb begun) no_course (start G.g) (opening plain (run_is G))
+pub opening_now : (G : Ground) (b : Block) (eb : slice_get G.g.program.blocks 0 ≡ Some b) (begun : Began G at_start)
+    → Now G (lives (at_open G 0) b eb begun) no_course (start G.g) (opening plain (run_is G))
 opening_now G b eb begun = opening_linked (at_open G 0) b eb begun refl

@@ -1,7 +1,8 @@
 -- A forall forks: each child has a life by the element statement and its place in the code, stands as it is born, with
 -- its index, and its parent keeps of it what the join will need (`forall_entry`). Where the machine counts fewer
 -- children than the meaning, both pass the limit of processes.
-use Rattle.std.proofs.Common.{◌≡◌, ◌⊎◌, inl, inr, ⊎_elim, ℕ, zero, suc, ◌+◌, ◌<◌, ◌≤◌, ℤ, List, [], ◌∷◌, length, Option, Some, None, Bool, true, false, min, refl, sym, ap, ◌∙◌, subst, arith}
+use Rattle.std.proofs.Common.{◌≡◌, ◌⊎◌, inl, inr, ⊎_elim, ℕ, zero, suc, ◌+◌, ◌<◌, ◌≤◌, ℤ, List, [], ◌∷◌, length, Option}
+use Rattle.std.proofs.Common.{Some, None, Bool, true, false, min, refl, sym, ap, ◌∙◌, subst, arith}
 use Rattle.std.specs.Prelude.{◌+ℤ◌, ◌-ℤ◌, nat_abs, int_lt, nat_lt, pos, IsSome, slice_get}
 use Rattle.std.specs.FinMap as fin
 use Rattle.std.proofs.lemmas.Bool.{ltb-false}
@@ -49,7 +50,8 @@ use Rattle.sp_link.proofs.Forks as fk
 use Rattle.sp_link.proofs.OneChanges.{q, pr}
 use Rattle.sp_code.proofs.Plans.{none_distinct, moved_by, shared_by}
 use Rattle.sp_link.proofs.Pauses.{Entry_of, Meant, Machined, Kept_to, kids}
-use Rattle.sp_link.proofs.Relation.{Ground, Life, Lives, W_of, R_of, Called, Fresh, Stands, Handed, St, Linked, execution, run_is}
+use Rattle.sp_link.proofs.Relation.{Ground, Life, Lives, W_of, R_of, Called, Fresh, Stands, Handed, St, Linked}
+use Rattle.sp_link.proofs.Relation.{execution, run_is}
 
 abbrev cons : ℕ × ℕ → Name → Name
 cons a w = a ∷ w
@@ -74,11 +76,16 @@ cut m = omega arith
 whole : (m : ℕ) → min m 18446744073709551615 ≤ 4294967295 → min m 18446744073709551615 ≡ m
 whole m h = omega (arith, h)
 
-module _ (G : Ground) (lv : Lives G) (c : Course) (s : StateOf G.g) (u : System Plain) (l : Linked G lv c s u) (i : ℕ) (d : Config (Memory Plain)) (at_i : u.condition i ≡ sys.Working d)
-    (z : Stands G (lv (q G lv c s u l i d at_i)) (kids G lv c s u l i d at_i) (q G lv c s u l i d at_i) (c.since (q G lv c s u l i d at_i)) (pr G lv c s u l i d at_i) s.store d)
-    (bs : List Birth) (todo : List Item) (o : Own) (m : Store) (x : Meant G lv c s u l i d at_i z (Got (source.Stops (Forked bs todo)) o, m)) (t : Machined G lv c s u l i d at_i z (Got (source.Stops (Forked bs todo)) o, m))
+module _ (G : Ground) (lv : Lives G) (c : Course) (s : StateOf G.g) (u : System Plain) (l : Linked G lv c s u) (i : ℕ)
+    (d : Config (Memory Plain)) (at_i : u.condition i ≡ sys.Working d)
+    (z : Stands G (lv (q G lv c s u l i d at_i)) (kids G lv c s u l i d at_i) (q G lv c s u l i d at_i)
+    (c.since (q G lv c s u l i d at_i)) (pr G lv c s u l i d at_i) s.store d)
+    (bs : List Birth) (todo : List Item) (o : Own) (m : Store)
+    (x : Meant G lv c s u l i d at_i z (Got (source.Stops (Forked bs todo)) o, m))
+    (t : Machined G lv c s u l i d at_i z (Got (source.Stops (Forked bs todo)) o, m))
     (y : Kept_to G lv c s u l i d at_i z (Got (source.Stops (Forked bs todo)) o, m)) (quiet : u.faulted ≡ false)
-    (h : ForallIs (execution G (lv (q G lv c s u l i d at_i)) (kids G lv c s u l i d at_i) (q G lv c s u l i d at_i) z.fresh (pr G lv c s u l i d at_i).who z.named (c.since (q G lv c s u l i d at_i))) true t.3 bs t.5) where
+    (h : ForallIs (execution G (lv (q G lv c s u l i d at_i)) (kids G lv c s u l i d at_i) (q G lv c s u l i d at_i)
+    z.fresh (pr G lv c s u l i d at_i).who z.named (c.since (q G lv c s u l i d at_i))) true t.3 bs t.5) where
   abbrev v : Name
   v = q G lv c s u l i d at_i
 
@@ -141,8 +148,20 @@ module _ (G : Ground) (lv : Lives G) (c : Course) (s : StateOf G.g) (u : System 
   -- the frame of the index of child b, which is the process of this number
   abbrev index_joint : ℕ → ℕ → Joint
   index_joint b number = record {
-    source = record { owner = (k, b) ∷ v; number = length t.3; home = OfIndex ix (lo +ℤ pos b); link = length t.3; references = [] };
-    machine = record { owner = number; number = index_frame (handing_at b); home = mem.OfIndex ix; link = length n1.frames; references = [] };
+    source = record {
+      owner = (k, b) ∷ v;
+      number = length t.3;
+      home = OfIndex ix (lo +ℤ pos b);
+      link = length t.3;
+      references = [];
+    };
+    machine = record {
+      owner = number;
+      number = index_frame (handing_at b);
+      home = mem.OfIndex ix;
+      link = length n1.frames;
+      references = [];
+    };
   }
 
   -- the life of child b, whose statement is this one
@@ -197,9 +216,12 @@ module _ (G : Ground) (lv : Lives G) (c : Course) (s : StateOf G.g) (u : System 
       go (Some e) g = subst (λ f. Used p f e a) (sym frames_are) g
 
   born : Born p (λ a. All (W_of G lv) v a) (λ a. All (R_of G lv) v a) o.frames (copies range st) bs
-  born = subst (λ f. Born p (λ a. All (W_of G lv) v a) (λ a. All (R_of G lv) v a) f (copies range st) bs) (sym frames_are)
-      (subst (λ b. Born p (λ a. All (W_of G lv) v a) (λ a. All (R_of G lv) v a) (sources t.3) (copies range st) b) (sym h.11)
-      (born_copies ix st (element_sound ix h.1 h.2 st h.15.sound) (h.15.sound.kept (ForallOf ix st) (inl refl)).1 lo range))
+  born = subst (λ f. Born p (λ a. All (W_of G lv) v a) (λ a. All (R_of G lv) v a) f (copies range st) bs)
+      (sym frames_are)
+      (subst (λ b. Born p (λ a. All (W_of G lv) v a) (λ a. All (R_of G lv) v a) (sources t.3) (copies range st) b)
+      (sym h.11)
+      (born_copies ix st (element_sound ix h.1 h.2 st h.15.sound) (h.15.sound.kept (ForallOf ix st) (inl refl)).1 lo
+      range))
 
   -- each of the children does the one statement
   copy_at : (m j : ℕ) → j < m → slice_get (copies m st) j ≡ Some st
@@ -227,37 +249,90 @@ module _ (G : Ground) (lv : Lives G) (c : Course) (s : StateOf G.g) (u : System 
 
     module _ (j : ℕ) where
       kept_of_it : j < range → Handed G (lv v) more v t.3 n1 (new_life j) ((k, j) ∷ v)
-      kept_of_it lt = subst (λ (lf : Life). Handed G (lv v) more v t.3 n1 lf ((k, j) ∷ v)) (sym (life_is j lt)) (each.each_handed G (lv v) more v fresh stood may_fork ix h.1 h.2 st sc h.15 entry h.13 h.14 ((k, j) ∷ v) (longer j) lo j (u.births.processes + j))
+      kept_of_it lt = subst (λ (lf : Life). Handed G (lv v) more v t.3 n1 lf ((k, j) ∷ v)) (sym (life_is j lt))
+          (each.each_handed G (lv v) more v fresh stood may_fork ix h.1 h.2 st sc h.15 entry h.13 h.14 ((k, j) ∷ v)
+          (longer j) lo j (u.births.processes + j))
 
       shares_known : (a : Spot) → In a (handing_at j).shared → IsSome (fin.get n1.store.map a)
-      shares_known a f = each.shares_known G (lv v) more v fresh stood may_fork ix h.1 h.2 st sc h.15 entry h.13 h.14 ((k, j) ∷ v) (longer j) lo j a f
+      shares_known a f = each.shares_known G (lv v) more v fresh stood may_fork ix h.1 h.2 st sc h.15 entry h.13 h.14
+          ((k, j) ∷ v) (longer j) lo j a f
 
       shares_piece : (a : Spot) → In a (handing_at j).shared → IsPiece (fin.get n1.store.map a)
-      shares_piece a f = each.shares_piece G (lv v) more v fresh stood may_fork ix h.1 h.2 st sc h.15 entry h.13 h.14 ((k, j) ∷ v) (longer j) lo j a f
+      shares_piece a f = each.shares_piece G (lv v) more v fresh stood may_fork ix h.1 h.2 st sc h.15 entry h.13 h.14
+          ((k, j) ∷ v) (longer j) lo j a f
 
       output_stays : All (R_of G lv) v Output → In output_spot (handing_at j).shared → ⊥
-      output_stays may f = each.output_stays G (lv v) more v fresh stood may_fork ix h.1 h.2 st sc h.15 entry h.13 h.14 ((k, j) ∷ v) (longer j) lo j may f
+      output_stays may f = each.output_stays G (lv v) more v fresh stood may_fork ix h.1 h.2 st sc h.15 entry h.13 h.14
+          ((k, j) ∷ v) (longer j) lo j may f
 
       nothing_moves : (a : Spot) → In a (handing_at j).moved → ⊥
-      nothing_moves a f = each.nothing_moves G (lv v) more v fresh stood may_fork ix h.1 h.2 st sc h.15 entry h.13 h.14 ((k, j) ∷ v) (longer j) lo j a f
+      nothing_moves a f = each.nothing_moves G (lv v) more v fresh stood may_fork ix h.1 h.2 st sc h.15 entry h.13 h.14
+          ((k, j) ∷ v) (longer j) lo j a f
 
       -- and it stands as it is born
-      process_is : (b : Birth) → slice_get bs j ≡ Some b → newborn x.left.who o j b ≡ each.own G (lv v) more v fresh stood may_fork ix h.1 h.2 st sc h.15 entry h.13 h.14 ((k, j) ∷ v) (longer j) lo j (u.births.processes + j)
-      process_is b e = ap (λ a. newborn x.left.who o j a) (indexed_is ix st lo range j b (ap (λ a. slice_get a j) (sym h.11) ∙ e))
-          ∙ ap (λ (a : Name). record { todo = push st []; who = record { name = a; forks = 0; opens = 0 }; own = record { frames = record { owner = a; number = length o.frames; home = OfIndex ix (lo +ℤ pos j); link = length o.frames; references = [] } ∷ o.frames; depth = o.depth + 1; ticks = 0; cells = 0 } })
-          (ap (λ a. cons (a, j) x.left.who.name) (fk.counted G lv c s u l i d at_i z bs todo o m x t y quiet h.6 lo n h.9 some) ∙ ap (λ a. cons (k, j) a) x.good.named)
-          ∙ ap (λ (f : List Frame). with_frames f (length f)) frames_are ∙ ap (λ a. with_frames (sources t.3) a) (sources_length t.3)
+      process_is : (b : Birth) → slice_get bs j ≡ Some b
+          → newborn x.left.who o j b ≡ each.own G (lv v) more v fresh stood may_fork ix h.1 h.2 st sc h.15 entry h.13
+          h.14 ((k, j) ∷ v) (longer j) lo j (u.births.processes + j)
+      process_is b e = ap (λ a. newborn x.left.who o j a)
+          (indexed_is ix st lo range j b (ap (λ a. slice_get a j) (sym h.11) ∙ e))
+          ∙ ap (λ (a : Name). record {
+            todo = push st [];
+            who = record { name = a; forks = 0; opens = 0 };
+            own = record {
+              frames = record {
+                owner = a;
+                number = length o.frames;
+                home = OfIndex ix (lo +ℤ pos j);
+                link = length o.frames;
+                references = [];
+              } ∷ o.frames;
+              depth = o.depth + 1;
+              ticks = 0;
+              cells = 0;
+            };
+          })
+          (ap (λ a. cons (a, j) x.left.who.name)
+          (fk.counted G lv c s u l i d at_i z bs todo o m x t y quiet h.6 lo n h.9 some)
+          ∙ ap (λ a. cons (k, j) a) x.good.named)
+          ∙ ap (λ (f : List Frame). with_frames f (length f)) frames_are
+          ∙ ap (λ a. with_frames (sources t.3) a) (sources_length t.3)
         where
           with_frames : List Frame → ℕ → Process
-          with_frames f a = record { todo = push st []; who = record { name = (k, j) ∷ v; forks = 0; opens = 0 }; own = record { frames = record { owner = (k, j) ∷ v; number = a; home = OfIndex ix (lo +ℤ pos j); link = a; references = [] } ∷ f; depth = o.depth + 1; ticks = 0; cells = 0 } }
+          with_frames f a = record {
+            todo = push st [];
+            who = record { name = (k, j) ∷ v; forks = 0; opens = 0 };
+            own = record {
+              frames = record {
+                owner = (k, j) ∷ v;
+                number = a;
+                home = OfIndex ix (lo +ℤ pos j);
+                link = a;
+                references = [];
+              } ∷ f;
+              depth = o.depth + 1;
+              ticks = 0;
+              cells = 0;
+            };
+          }
 
-      it_stands : j < range → (b : Birth) → slice_get bs j ≡ Some b → Called G ((k, j) ∷ v) (u.births.processes + j) → (own_more : ℕ → ℕ → Life)
-          → Stands G (new_life j) own_more ((k, j) ∷ v) 0 (newborn x.left.who o j b) x.at.store (sys.newborn plain (run_is G) (At t.0 t.1 n1) lo (u.births.processes + j) j (child_or (child_at (table_or (slice_get G.code.forks h.6)) j)))
+      it_stands : j < range → (b : Birth) → slice_get bs j ≡ Some b → Called G ((k, j) ∷ v) (u.births.processes + j)
+          → (own_more : ℕ → ℕ → Life)
+          → Stands G (new_life j) own_more ((k, j) ∷ v) 0 (newborn x.left.who o j b) x.at.store
+          (sys.newborn plain (run_is G) (At t.0 t.1 n1) lo (u.births.processes + j) j
+          (child_or (child_at (table_or (slice_get G.code.forks h.6)) j)))
       it_stands lt b e called own_more =
-          subst (λ (lf : Life). Stands G lf own_more ((k, j) ∷ v) 0 (newborn x.left.who o j b) x.at.store (sys.newborn plain (run_is G) (At t.0 t.1 n1) lo (u.births.processes + j) j (child_or (child_at (table_or (slice_get G.code.forks h.6)) j)))) (sym (life_is j lt))
-          (subst (λ a. Stands G (life_by (Some st) j) own_more ((k, j) ∷ v) 0 a x.at.store (sys.newborn plain (run_is G) (At t.0 t.1 n1) lo (u.births.processes + j) j (child_or (child_at (table_or (slice_get G.code.forks h.6)) j)))) (sym (process_is b e))
-          (subst (λ a. Stands G (life_by (Some st) j) own_more ((k, j) ∷ v) 0 (each.own G (lv v) more v fresh stood may_fork ix h.1 h.2 st sc h.15 entry h.13 h.14 ((k, j) ∷ v) (longer j) lo j (u.births.processes + j)) x.at.store (sys.newborn plain (run_is G) (At t.0 t.1 n1) lo (u.births.processes + j) j a)) (sym (table_is j))
-          (each.each_stands G (lv v) more v fresh stood may_fork ix h.1 h.2 st sc h.15 entry h.13 h.14 ((k, j) ∷ v) (longer j) lo j (u.births.processes + j) called t.0 t.1 own_more)))
+          subst (λ (lf : Life). Stands G lf own_more ((k, j) ∷ v) 0 (newborn x.left.who o j b) x.at.store
+          (sys.newborn plain (run_is G) (At t.0 t.1 n1) lo (u.births.processes + j) j
+          (child_or (child_at (table_or (slice_get G.code.forks h.6)) j)))) (sym (life_is j lt))
+          (subst (λ a. Stands G (life_by (Some st) j) own_more ((k, j) ∷ v) 0 a x.at.store
+          (sys.newborn plain (run_is G) (At t.0 t.1 n1) lo (u.births.processes + j) j
+          (child_or (child_at (table_or (slice_get G.code.forks h.6)) j)))) (sym (process_is b e))
+          (subst (λ a. Stands G (life_by (Some st) j) own_more ((k, j) ∷ v) 0
+          (each.own G (lv v) more v fresh stood may_fork ix h.1 h.2 st sc h.15 entry h.13 h.14 ((k, j) ∷ v)
+          (longer j) lo j (u.births.processes + j)) x.at.store
+          (sys.newborn plain (run_is G) (At t.0 t.1 n1) lo (u.births.processes + j) j a)) (sym (table_is j))
+          (each.each_stands G (lv v) more v fresh stood may_fork ix h.1 h.2 st sc h.15 entry h.13 h.14 ((k, j) ∷ v)
+          (longer j) lo j (u.births.processes + j) called t.0 t.1 own_more)))
 
   -- no children of the parent's own matter here
   abbrev none : ℕ → ℕ → Life
@@ -270,13 +345,15 @@ module _ (G : Ground) (lv : Lives G) (c : Course) (s : StateOf G.g) (u : System 
   unmoved : (a : Spot) → In a (moved_of hs) → ⊥
   unmoved a g =
       let w = moved_by G.code.layouts n1.frames (table_or (slice_get G.code.forks h.6)) lo n a g in
-      nothing_moves none w.0 a (subst (λ tb. In a (handing_of G.code.layouts n1.frames lo w.0 tb).moved) (table_is w.0) w.2)
+      nothing_moves none w.0 a (subst (λ tb. In a (handing_of G.code.layouts n1.frames lo w.0 tb).moved) (table_is w.0)
+      w.2)
 
   known : (a : Spot) → In a (moved_of hs) ⊎ In a (shared_of hs) → IsSome (fin.get n1.store.map a)
   known a (inl g) = absurd (unmoved a g)
   known a (inr g) =
       let w = shared_by G.code.layouts n1.frames (table_or (slice_get G.code.forks h.6)) lo n a g in
-      shares_known none w.0 a (subst (λ tb. In a (handing_of G.code.layouts n1.frames lo w.0 tb).shared) (table_is w.0) w.2)
+      shares_known none w.0 a (subst (λ tb. In a (handing_of G.code.layouts n1.frames lo w.0 tb).shared) (table_is w.0)
+      w.2)
 
   dry : All (R_of G lv) v Output → NotIn output_spot (shared_of hs)
   dry may = ⊎_elim (λ g. absurd (wet g)) (λ g. g) (in_or output_spot (shared_of hs))
@@ -284,7 +361,8 @@ module _ (G : Ground) (lv : Lives G) (c : Course) (s : StateOf G.g) (u : System 
       wet : In output_spot (shared_of hs) → ⊥
       wet g =
           let w = shared_by G.code.layouts n1.frames (table_or (slice_get G.code.forks h.6)) lo n output_spot g in
-          output_stays none w.0 may (subst (λ tb. In output_spot (handing_of G.code.layouts n1.frames lo w.0 tb).shared) (table_is w.0) w.2)
+          output_stays none w.0 may (subst (λ tb. In output_spot (handing_of G.code.layouts n1.frames lo w.0 tb).shared)
+          (table_is w.0) w.2)
 
   -- ---- what it hands over
 
@@ -293,27 +371,35 @@ module _ (G : Ground) (lv : Lives G) (c : Course) (s : StateOf G.g) (u : System 
     held = λ a g. absurd (unmoved a g);
     pieces = λ a g.
         (let w = shared_by G.code.layouts n1.frames (table_or (slice_get G.code.forks h.6)) lo n a g in
-        shares_piece none w.0 a (subst (λ tb. In a (handing_of G.code.layouts n1.frames lo w.0 tb).shared) (table_is w.0) w.2));
+        shares_piece none w.0 a (subst (λ tb. In a (handing_of G.code.layouts n1.frames lo w.0 tb).shared)
+        (table_is w.0) w.2));
     distinct = none_distinct (moved_of hs) unmoved;
     apart = λ a g. absurd (unmoved a g);
     number = λ g.
         (let a = next_small n1.store (lv v).low (length (lv v).below) t.3 stood.own_frames stood.counts stood.known in
-        let b = stood.deep in let e = stood.shallow in let r = G.limits.depth in let w = z.fresh.low_small in let b0 = stood.above_base in omega (arith, a, b, e, r, w, b0));
+        let b = stood.deep in let e = stood.shallow in let r = G.limits.depth in let w = z.fresh.low_small in
+        let b0 = stood.above_base in omega (arith, a, b, e, r, w, b0));
   }
 
   pub forall_entry : Entry_of G c s u i d
-  forall_entry = by (nat_lt G.g.limits.entries (u.entries + 1)) (nat_lt G.g.limits.processes (u.births.processes + n)) refl refl
+  forall_entry = by (nat_lt G.g.limits.entries (u.entries + 1)) (nat_lt G.g.limits.processes (u.births.processes + n))
+      refl refl
     where
       os_are : length (newborns x.left.who o 0 bs) ≡ range
       os_are = fk.newborns_length x.left.who o 0 bs ∙ length_is
 
       -- the meaning counts no fewer
-      both_many : nat_lt G.g.limits.processes (u.births.processes + n) ≡ true → nat_lt G.g.limits.processes (u.births.processes + length (newborns x.left.who o 0 bs)) ≡ true
-      both_many e = fk.is_less G.g.limits.processes (u.births.processes + length (newborns x.left.who o 0 bs)) (let a = next_is_within G.g.limits.processes (u.births.processes + n) e in let b = cut range in omega (arith, a, b, os_are))
+      both_many : nat_lt G.g.limits.processes (u.births.processes + n) ≡ true
+          → nat_lt G.g.limits.processes (u.births.processes + length (newborns x.left.who o 0 bs)) ≡ true
+      both_many e = fk.is_less G.g.limits.processes (u.births.processes + length (newborns x.left.who o 0 bs))
+          (let a = next_is_within G.g.limits.processes (u.births.processes + n) e in let b = cut range in
+          omega (arith, a, b, os_are))
 
       -- and as many where they are within the limit
       count_is : nat_lt G.g.limits.processes (u.births.processes + n) ≡ false → length bs ≡ n
-      count_is e = length_is ∙ sym (whole range (let a = ltb-false G.g.limits.processes (u.births.processes + n) e in let b = G.limits.processes in omega (arith, a, b)))
+      count_is e = length_is ∙ sym (whole range
+          (let a = ltb-false G.g.limits.processes (u.births.processes + n) e in let b = G.limits.processes in
+          omega (arith, a, b)))
 
       few : length bs ≡ n → (j : ℕ) → j < n → j < range
       few e j lt = omega (arith, e, lt, length_is)
@@ -321,9 +407,14 @@ module _ (G : Ground) (lv : Lives G) (c : Course) (s : StateOf G.g) (u : System 
       unmoving : length bs ≡ n → (j : ℕ) → j < n → (a : Spot) → In a (new_life j).moved → ⊥
       unmoving e j lt a g = nothing_moves none j a (subst (λ (lf : Life). In a lf.moved) (life_is j (few e j lt)) g)
 
-      by : (e1 e2 : Bool) → nat_lt G.g.limits.entries (u.entries + 1) ≡ e1 → nat_lt G.g.limits.processes (u.births.processes + n) ≡ e2 → Entry_of G c s u i d
+      by : (e1 e2 : Bool) → nat_lt G.g.limits.entries (u.entries + 1) ≡ e1
+          → nat_lt G.g.limits.processes (u.births.processes + n) ≡ e2 → Entry_of G c s u i d
       by true e2 h1 h2 = fk.over_entry G lv c s u l i d at_i z bs todo o m x t y quiet h.6 lo n h.9 some h1
-      by false true h1 h2 = fk.many_entry G lv c s u l i d at_i z bs todo o m x t y quiet h.6 lo n h.9 some h1 (both_many h2) h2
-      by false false h1 h2 = fk.fork_entry G lv c s u l i d at_i z bs todo o m x t y quiet h.6 lo n h.9 some h1 h2 (count_is h2) (copies range st) born new_life to_w from_w to_r from_r known dry (λ a g. absurd (unmoved a g))
-          (λ j lt a g. absurd (unmoving (count_is h2) j lt a g)) (λ a g. absurd (unmoved a g)) (λ a b la lb ne e g k1. unmoving (count_is h2) a la e g)
-          (λ more j lt. kept_of_it more j (few (count_is h2) j lt)) (λ more j lt b e called. it_stands none j (few (count_is h2) j lt) b e called more)
+      by false true h1 h2 = fk.many_entry G lv c s u l i d at_i z bs todo o m x t y quiet h.6 lo n h.9 some h1
+          (both_many h2) h2
+      by false false h1 h2 = fk.fork_entry G lv c s u l i d at_i z bs todo o m x t y quiet h.6 lo n h.9 some h1 h2
+          (count_is h2) (copies range st) born new_life to_w from_w to_r from_r known dry (λ a g. absurd (unmoved a g))
+          (λ j lt a g. absurd (unmoving (count_is h2) j lt a g)) (λ a g. absurd (unmoved a g))
+          (λ a b la lb ne e g k1. unmoving (count_is h2) a la e g)
+          (λ more j lt. kept_of_it more j (few (count_is h2) j lt))
+          (λ more j lt b e called. it_stands none j (few (count_is h2) j lt) b e called more)

@@ -1,7 +1,9 @@
 -- The entry `Fork` on both sides, whichever statement forks: the children are born with their lives, and the parent
 -- joins them (`fork_entry`); or the entries or the processes are at their limit: F15, F13. What a parallel and what a
 -- forall statement give for this is in `Parallels` and `Foralls`.
-use Rattle.std.proofs.Common.{◌≡◌, ◌⊎◌, inl, inr, ⊎_elim, ℕ, zero, suc, ◌+◌, ◌<◌, ◌≤◌, ◌==◌, ℤ, List, [], ◌∷◌, length, Option, Some, None, Bool, true, false, ◌&&◌, cond, if◌then◌else◌, eqb-true, eq-eqb, refl, sym, ap, ◌∙◌, subst, arith}
+use Rattle.std.proofs.Common.{◌≡◌, ◌⊎◌, inl, inr, ⊎_elim, ℕ, zero, suc, ◌+◌, ◌<◌, ◌≤◌, ◌==◌, ℤ, List, [], ◌∷◌, length}
+use Rattle.std.proofs.Common.{Option, Some, None, Bool, true, false, ◌&&◌, cond, if◌then◌else◌, eqb-true, eq-eqb, refl}
+use Rattle.std.proofs.Common.{sym, ap, ◌∙◌, subst, arith}
 use Rattle.std.proofs.Common.{add-zero, one-add, zero-add}
 use Rattle.std.specs.Prelude.{◌≢◌, ◌-◌, nat_lt, nat_le, IsSome, slice_get}
 use Rattle.std.specs.FinMap as fin
@@ -18,8 +20,10 @@ use Rattle.sp_cell.specs.Fork.{moved_of, shared_of}
 use Rattle.sp_cell.specs.Map.{Plain, output_spot}
 use Rattle.sp_cell.specs.Spots.{In, NotIn}
 use Rattle.sp_meaning.specs.Maps.{at_key as put_at}
-use Rattle.sp_meaning.specs.Model.{Name, same_name, Condition, Absent, Works, Joins, Ended, Becomes, Forked as Counts_fork, Adds, Forks, changed, after as After, add, Totals}
-use Rattle.sp_meaning.specs.Steps.{has_ended, working_in, Lives as IsLive, Faulty, outcome, passed, unless, acts, births, result_of}
+use Rattle.sp_meaning.specs.Model.{Name, same_name, Condition, Absent, Works, Joins, Ended, Becomes}
+use Rattle.sp_meaning.specs.Model.{Forked as Counts_fork, Adds, Forks, changed, after as After, add, Totals}
+use Rattle.sp_meaning.specs.Steps.{has_ended, working_in, Lives as IsLive, Faulty, outcome, passed, unless, acts}
+use Rattle.sp_meaning.specs.Steps.{births, result_of}
 use Rattle.sp_meaning.specs.Entries.{Happening}
 use Rattle.sp_journal.specs.Names as happenings
 use Rattle.sp_meaning.specs.Own.{Setting, Loc, Output, Held, Address, Own, Who, Process, Came, Got, Item}
@@ -45,7 +49,8 @@ use Rattle.sp_code.specs.Tables.{child_at}
 use Rattle.sp_code.specs.Turns.{Turn, Stopped, IsTurn}
 use Rattle.sp_code.specs.Memory.{Memory}
 use Rattle.sp_code.specs.PlainStore.{plain}
-use Rattle.sp_code.specs.System.{System, after, event_of, event_or, fault_of, unless_fault, on_store, plan_of, child_or, table_or}
+use Rattle.sp_code.specs.System.{System, after, event_of, event_or, fault_of, unless_fault, on_store, plan_of, child_or}
+use Rattle.sp_code.specs.System.{table_or}
 use Rattle.sp_code.specs.System as sys
 use Rattle.sp_codegen.proofs.Joints.{sources_length}
 use Rattle.sp_codegen.specs.Meets.{due_after}
@@ -60,7 +65,8 @@ use Rattle.sp_link.proofs.NewLives.{does_lives, inv_same}
 use Rattle.sp_link.proofs.OneChanges.{q, pr, its, alone, here, present, not_ended, keeps_to, number_or}
 use Rattle.sp_link.proofs.OthersStay.{does_stay}
 use Rattle.sp_link.proofs.Pauses.{Entry_of, Meant, Machined, Kept_to, kids, turn_is, after_quiet}
-use Rattle.sp_link.proofs.Relation.{Ground, Life, Lives, W_of, R_of, Stands, Joined, Handed, St, Rel, law, Performs, Performs_all, Linked, Began, run_is, ops}
+use Rattle.sp_link.proofs.Relation.{Ground, Life, Lives, W_of, R_of, Stands, Joined, Handed, St, Rel, law, Performs}
+use Rattle.sp_link.proofs.Relation.{Performs_all, Linked, Began, run_is, ops}
 
 abbrev cons : ℕ × ℕ → Name → Name
 cons a w = a ∷ w
@@ -88,7 +94,9 @@ not_less a b h = go (nat_lt a b) refl
 -- ---- the states after births
 
 -- births change conditions alone
-born_is : (g : Setting) (p : Name) (k i : ℕ) (os : List Process) (s : StateOf g) → After {L = superpascal g} (births {L = superpascal g} p k i os) s ≡ record s { condition = after_births g.program p k i os s.condition }
+born_is : (g : Setting) (p : Name) (k i : ℕ) (os : List Process) (s : StateOf g)
+    → After {L = superpascal g} (births {L = superpascal g} p k i os) s
+    ≡ record s { condition = after_births g.program p k i os s.condition }
 born_is g p k i [] s = refl
 born_is g p k i (o ∷ os) s = born_is g p k (suc i) os (changed {L = superpascal g} (Becomes ((k, i) ∷ p) (Works o)) s)
 
@@ -97,27 +105,39 @@ Conditions = Name → Condition Process Held Address
 
 module _ (g : Setting) (p : Name) (k : ℕ) where
   -- who is none of the children is as before
-  born_else : (i : ℕ) (os : List Process) (m : Conditions) (r : Name) → ((j : ℕ) → j < length os → r ≢ (k, i + j) ∷ p) → after_births g.program p k i os m r ≡ m r
+  born_else : (i : ℕ) (os : List Process) (m : Conditions) (r : Name) → ((j : ℕ) → j < length os → r ≢ (k, i + j) ∷ p)
+      → after_births g.program p k i os m r ≡ m r
   born_else i [] m r ne = refl
   born_else i (o ∷ os) m r ne =
-      born_else (suc i) os (put_at same_name ((k, i) ∷ p) (Works o) m) r (λ j lt e. ne (suc j) (omega (arith, lt)) (subst (λ a. r ≡ (k, a) ∷ p) (next_goes_right i j) e))
-      ∙ at_other name_test m ((k, i) ∷ p) r (Works o) (λ e. ne 0 (omega arith) (sym e ∙ ap (λ a. cons (k, a) p) (is_plus_none i)))
+      born_else (suc i) os (put_at same_name ((k, i) ∷ p) (Works o) m) r
+      (λ j lt e. ne (suc j) (omega (arith, lt)) (subst (λ a. r ≡ (k, a) ∷ p) (next_goes_right i j) e))
+      ∙ at_other name_test m ((k, i) ∷ p) r (Works o)
+      (λ e. ne 0 (omega arith) (sym e ∙ ap (λ a. cons (k, a) p) (is_plus_none i)))
 
   -- and each child works
-  born_at : (i : ℕ) (os : List Process) (m : Conditions) (j : ℕ) (o : Process) → slice_get os j ≡ Some o → after_births g.program p k i os m ((k, i + j) ∷ p) ≡ Works o
+  born_at : (i : ℕ) (os : List Process) (m : Conditions) (j : ℕ) (o : Process) → slice_get os j ≡ Some o
+      → after_births g.program p k i os m ((k, i + j) ∷ p) ≡ Works o
   born_at i [] m j o e = absurd (cc e)
   born_at i (a ∷ os) m zero o e =
       let same : a ≡ o = cc e in
-      ap (λ b. after_births g.program p k (suc i) os (put_at same_name ((k, i) ∷ p) (Works a) m) ((k, b) ∷ p)) (add-zero i)
-      ∙ born_else (suc i) os (put_at same_name ((k, i) ∷ p) (Works a) m) ((k, i) ∷ p) (λ j lt f. (let h : i ≡ suc i + j = ap (λ (z : ℕ × ℕ). z.1) (head_same (k, i) (k, suc i + j) p p f) in omega (arith, h)))
+      ap (λ b. after_births g.program p k (suc i) os (put_at same_name ((k, i) ∷ p) (Works a) m) ((k, b) ∷ p))
+      (add-zero i)
+      ∙ born_else (suc i) os (put_at same_name ((k, i) ∷ p) (Works a) m) ((k, i) ∷ p)
+      (λ j lt f. (let h : i ≡ suc i + j = ap (λ (z : ℕ × ℕ). z.1) (head_same (k, i) (k, suc i + j) p p f) in
+      omega (arith, h)))
       ∙ at_same name_test m ((k, i) ∷ p) (Works a) ∙ ap Works same
-  born_at i (a ∷ os) m (suc j) o e = subst (λ b. after_births g.program p k (suc i) os (put_at same_name ((k, i) ∷ p) (Works a) m) ((k, b) ∷ p) ≡ Works o) (next_goes_right i j) (born_at (suc i) os (put_at same_name ((k, i) ∷ p) (Works a) m) j o e)
+  born_at i (a ∷ os) m (suc j) o e = subst (λ b. after_births g.program p k (suc i) os
+      (put_at same_name ((k, i) ∷ p) (Works a) m) ((k, b) ∷ p) ≡ Works o) (next_goes_right i j)
+      (born_at (suc i) os (put_at same_name ((k, i) ∷ p) (Works a) m) j o e)
 
 -- each birth has its newborn
-newborns_at : (w : Who) (o : Own) (i : ℕ) (bs : List Birth) (j : ℕ) (b : Birth) → slice_get bs j ≡ Some b → slice_get (newborns w o i bs) j ≡ Some (newborn w o (i + j) b)
+newborns_at : (w : Who) (o : Own) (i : ℕ) (bs : List Birth) (j : ℕ) (b : Birth) → slice_get bs j ≡ Some b
+    → slice_get (newborns w o i bs) j ≡ Some (newborn w o (i + j) b)
 newborns_at w o i [] j b e = absurd (cc e)
-newborns_at w o i (a ∷ bs) zero b e = let same : a ≡ b = cc e in ap (λ z. Some (newborn w o i z)) same ∙ ap (λ z. Some (newborn w o z b)) (is_plus_none i)
-newborns_at w o i (a ∷ bs) (suc j) b e = newborns_at w o (suc i) bs j b e ∙ ap (λ z. Some (newborn w o z b)) (next_goes_right i j)
+newborns_at w o i (a ∷ bs) zero b e = let same : a ≡ b = cc e in
+    ap (λ z. Some (newborn w o i z)) same ∙ ap (λ z. Some (newborn w o z b)) (is_plus_none i)
+newborns_at w o i (a ∷ bs) (suc j) b e = newborns_at w o (suc i) bs j b e
+    ∙ ap (λ z. Some (newborn w o z b)) (next_goes_right i j)
 
 pub newborns_length : (w : Who) (o : Own) (i : ℕ) (bs : List Birth) → length (newborns w o i bs) ≡ length bs
 newborns_length w o i [] = refl
@@ -135,15 +155,20 @@ pick true a b = a
 pick false a b = b
 
 next_number : (b : Births) (n j : ℕ) → j < n → is_next b n (b.processes + j) ≡ true
-next_number b n j lt = ap (λ x. x && nat_lt (b.processes + j) (b.processes + n)) (le-leb b.processes (b.processes + j) (omega arith)) ∙ lt-ltb (b.processes + j) (b.processes + n) (omega (arith, lt))
+next_number b n j lt = ap (λ x. x && nat_lt (b.processes + j) (b.processes + n))
+    (le-leb b.processes (b.processes + j) (omega arith))
+    ∙ lt-ltb (b.processes + j) (b.processes + n) (omega (arith, lt))
 
 -- who does anything is there
-not_absent : (G : Ground) (lf : Life) (kids : ℕ → ℕ → Life) (q : Name) (c : Course) (s : StateOf G.g) (opens : ℕ) (X : sys.Condition Plain) → Performs G lf kids q c s opens X → s.condition q ≢ Absent
+not_absent : (G : Ground) (lf : Life) (kids : ℕ → ℕ → Life) (q : Name) (c : Course) (s : StateOf G.g) (opens : ℕ)
+    (X : sys.Condition Plain) → Performs G lf kids q c s opens X → s.condition q ≢ Absent
 not_absent G lf kids q c s opens sys.Absent h = absurd h
-not_absent G lf kids q c s opens (sys.Working a) h = λ e. subst (λ b. IsLive b) e (working_lives s.condition q (s.condition q) h.0 h.1)
+not_absent G lf kids q c s opens (sys.Working a) h =
+    λ e. subst (λ b. IsLive b) e (working_lives s.condition q (s.condition q) h.0 h.1)
 not_absent G lf kids q c s opens (sys.Waits a b) h = λ e. subst (λ b. IsLive b) (sym h.1 ∙ e) tt
 not_absent G lf kids q c s opens (sys.Joins a b) h = λ e. subst (λ b. IsLive b) (sym h.3 ∙ e) tt
-not_absent G lf kids q c s opens (sys.Laid a) h = λ e. subst (λ b. IsLive b) e (working_lives s.condition q (s.condition q) h.2.0 h.2.1)
+not_absent G lf kids q c s opens (sys.Laid a) h =
+    λ e. subst (λ b. IsLive b) e (working_lives s.condition q (s.condition q) h.2.0 h.2.1)
 not_absent G lf kids q c s opens sys.Gone h = λ e. ended_there (sym h.0 ∙ e)
   where
     ended_there : ◌≡◌ {A = Condition Process Held Address} Ended Absent → ⊥
@@ -153,9 +178,13 @@ not_absent G lf kids q c s opens (sys.Over a) h = λ e. ended_there (sym h.0 ∙
     ended_there : ◌≡◌ {A = Condition Process Held Address} Ended Absent → ⊥
     ended_there e = cc e
 
-module _ (G : Ground) (lv : Lives G) (c : Course) (s : StateOf G.g) (u : System Plain) (l : Linked G lv c s u) (i : ℕ) (d : Config (Memory Plain)) (at_i : u.condition i ≡ sys.Working d)
-    (z : Stands G (lv (q G lv c s u l i d at_i)) (kids G lv c s u l i d at_i) (q G lv c s u l i d at_i) (c.since (q G lv c s u l i d at_i)) (pr G lv c s u l i d at_i) s.store d)
-    (bs : List Birth) (todo : List Item) (o : Own) (m : Store) (x : Meant G lv c s u l i d at_i z (Got (source.Stops (Forked bs todo)) o, m)) (t : Machined G lv c s u l i d at_i z (Got (source.Stops (Forked bs todo)) o, m))
+module _ (G : Ground) (lv : Lives G) (c : Course) (s : StateOf G.g) (u : System Plain) (l : Linked G lv c s u) (i : ℕ)
+    (d : Config (Memory Plain)) (at_i : u.condition i ≡ sys.Working d)
+    (z : Stands G (lv (q G lv c s u l i d at_i)) (kids G lv c s u l i d at_i) (q G lv c s u l i d at_i)
+    (c.since (q G lv c s u l i d at_i)) (pr G lv c s u l i d at_i) s.store d)
+    (bs : List Birth) (todo : List Item) (o : Own) (m : Store)
+    (x : Meant G lv c s u l i d at_i z (Got (source.Stops (Forked bs todo)) o, m))
+    (t : Machined G lv c s u l i d at_i z (Got (source.Stops (Forked bs todo)) o, m))
     (y : Kept_to G lv c s u l i d at_i z (Got (source.Stops (Forked bs todo)) o, m)) (quiet : u.faulted ≡ false)
     (tb : ℕ) (val : ℤ) (n : ℕ) (stop_is : t.5 ≡ machine.Forks tb val n) (some : 1 ≤ length bs) where
   abbrev pub v : Name
@@ -187,35 +216,56 @@ module _ (G : Ground) (lv : Lives G) (c : Course) (s : StateOf G.g) (u : System 
   tn_is = turn_is G lv c s u l i d at_i z (Stopped t.5 (At t.0 t.1 t.2)) (t.4, t.6, t.7)
 
   some_grow : nat_lt 0 (length os) ≡ true
-  some_grow = is_less 0 (length os) (let c : length os ≡ length bs = newborns_length x.left.who o 0 bs in omega (arith, c, some))
+  some_grow = is_less 0 (length os) (let c : length os ≡ length bs = newborns_length x.left.who o 0 bs in
+      omega (arith, c, some))
 
-  passes : (e1 e2 : Bool) → nat_lt G.g.limits.entries (u.entries + 1) ≡ e1 → nat_lt G.g.limits.processes (u.births.processes + length os) ≡ e2 → passed (most G.g) x.at.totals (Some grows) ≡ (if e1 then Some fault.F15 else (if e2 then Some fault.F13 else None))
+  passes : (e1 e2 : Bool) → nat_lt G.g.limits.entries (u.entries + 1) ≡ e1
+      → nat_lt G.g.limits.processes (u.births.processes + length os) ≡ e2
+      → passed (most G.g) x.at.totals (Some grows)
+      ≡ (if e1 then Some fault.F15 else (if e2 then Some fault.F13 else None))
   passes e1 e2 h1 h2 =
       ap (λ (a : Totals). passed (most G.g) a (Some grows)) x.elsewhere.totals
-      ∙ ap (λ a. if nat_lt G.g.limits.entries (s.totals.entries + 1) then Some fault.F15 else (if (a && nat_lt G.g.limits.processes (s.totals.processes + length os)) then Some fault.F13 else None)) some_grow
-      ∙ ap (λ a. if nat_lt G.g.limits.entries (a + 1) then Some fault.F15 else (if nat_lt G.g.limits.processes (s.totals.processes + length os) then Some fault.F13 else None)) l.entries
-      ∙ ap (λ a. if nat_lt G.g.limits.entries (u.entries + 1) then Some fault.F15 else (if nat_lt G.g.limits.processes (a + length os) then Some fault.F13 else None)) l.processes
-      ∙ ap (λ b. if b then Some fault.F15 else (if nat_lt G.g.limits.processes (u.births.processes + length os) then Some fault.F13 else None)) h1
+      ∙ ap (λ a. if nat_lt G.g.limits.entries (s.totals.entries + 1) then Some fault.F15 else
+      (if (a && nat_lt G.g.limits.processes (s.totals.processes + length os)) then Some fault.F13 else None))
+      some_grow
+      ∙ ap (λ a. if nat_lt G.g.limits.entries (a + 1) then Some fault.F15 else
+      (if nat_lt G.g.limits.processes (s.totals.processes + length os) then Some fault.F13 else None)) l.entries
+      ∙ ap (λ a. if nat_lt G.g.limits.entries (u.entries + 1) then Some fault.F15 else
+      (if nat_lt G.g.limits.processes (a + length os) then Some fault.F13 else None)) l.processes
+      ∙ ap (λ b. if b then Some fault.F15 else
+      (if nat_lt G.g.limits.processes (u.births.processes + length os) then Some fault.F13 else None)) h1
       ∙ ap (λ b. if e1 then Some fault.F15 else (if b then Some fault.F13 else None)) h2
 
-  found : (e1 e2 : Bool) → nat_lt G.g.limits.entries (u.entries + 1) ≡ e1 → nat_lt G.g.limits.processes (u.births.processes + n) ≡ e2 → fault_of G.g.limits u tn ≡ sys.first_fault (if e1 then Some fault.F15 else (if e2 then Some fault.F13 else None)) None
+  found : (e1 e2 : Bool) → nat_lt G.g.limits.entries (u.entries + 1) ≡ e1
+      → nat_lt G.g.limits.processes (u.births.processes + n) ≡ e2
+      → fault_of G.g.limits u tn ≡ sys.first_fault
+      (if e1 then Some fault.F15 else (if e2 then Some fault.F13 else None)) None
   found e1 e2 h1 h2 = ap (λ b. fault_of G.g.limits u (Stopped b (At t.0 t.1 t.2))) stop_is
-      ∙ ap (λ b. sys.first_fault (if b then Some fault.F15 else (if nat_lt G.g.limits.processes (u.births.processes + n) then Some fault.F13 else None)) None) h1
+      ∙ ap (λ b. sys.first_fault (if b then Some fault.F15 else
+      (if nat_lt G.g.limits.processes (u.births.processes + n) then Some fault.F13 else None)) None) h1
       ∙ ap (λ b. sys.first_fault (if e1 then Some fault.F15 else (if b then Some fault.F13 else None)) None) h2
 
-  comes_to : (f : Option Fault) → passed (most G.g) x.at.totals (Some grows) ≡ f → outcome {L = superpascal G.g} (most G.g) x.at v (Forks goes_on os) ≡ unless f (acts {L = superpascal G.g} x.at v (Forks goes_on os))
+  comes_to : (f : Option Fault) → passed (most G.g) x.at.totals (Some grows) ≡ f
+      → outcome {L = superpascal G.g} (most G.g) x.at v (Forks goes_on os)
+      ≡ unless f (acts {L = superpascal G.g} x.at v (Forks goes_on os))
   comes_to f e = ap (λ a. unless a (acts {L = superpascal G.g} x.at v (Forks goes_on os))) e
 
-  fails : (f : Fault) → outcome {L = superpascal G.g} (most G.g) x.at v (Forks goes_on os) ≡ Faulty f → fault_of G.g.limits u tn ≡ Some f → Entry_of G c s u i d
+  fails : (f : Fault) → outcome {L = superpascal G.g} (most G.g) x.at v (Forks goes_on os) ≡ Faulty f
+      → fault_of G.g.limits u tn ≡ Some f → Entry_of G c s u i d
   fails f e h = failed_entry G lv c s u l i d at_i (forked_halt G lv c s u l i d at_i z bs todo o m x t) refl f
       (kernel_says G.g v x.at x.left x.runs r x.does ∙ ap (λ b. said_of {L = superpascal G.g} (Forks goes_on os) b) e)
-      (kernel_next G.g v x.at x.left x.runs r x.does ∙ ap (λ b. Some (result_of {L = superpascal G.g} x.at v b)) e) h quiet
+      (kernel_next G.g v x.at x.left x.runs r x.does ∙ ap (λ b. Some (result_of {L = superpascal G.g} x.at v b)) e) h
+      quiet
 
   -- the faults, where the two counts pass the limit alike
   pub over_entry : nat_lt G.g.limits.entries (u.entries + 1) ≡ true → Entry_of G c s u i d
-  over_entry h = fails fault.F15 (comes_to (Some fault.F15) (passes true (nat_lt G.g.limits.processes (u.births.processes + length os)) h refl)) (found true (nat_lt G.g.limits.processes (u.births.processes + n)) h refl)
+  over_entry h = fails fault.F15 (comes_to (Some fault.F15)
+      (passes true (nat_lt G.g.limits.processes (u.births.processes + length os)) h refl))
+      (found true (nat_lt G.g.limits.processes (u.births.processes + n)) h refl)
 
-  pub many_entry : nat_lt G.g.limits.entries (u.entries + 1) ≡ false → nat_lt G.g.limits.processes (u.births.processes + length os) ≡ true → nat_lt G.g.limits.processes (u.births.processes + n) ≡ true → Entry_of G c s u i d
+  pub many_entry : nat_lt G.g.limits.entries (u.entries + 1) ≡ false
+      → nat_lt G.g.limits.processes (u.births.processes + length os) ≡ true
+      → nat_lt G.g.limits.processes (u.births.processes + n) ≡ true → Entry_of G c s u i d
   many_entry h a b = fails fault.F13 (comes_to (Some fault.F13) (passes false true h a)) (found false true h b)
 
   -- the parent's memory at its entry
@@ -229,62 +279,99 @@ module _ (G : Ground) (lv : Lives G) (c : Course) (s : StateOf G.g) (u : System 
   hs = plan_of plain (run_is G) there tb val n
 
   abbrev pub child_of : ℕ → ℕ → Config (Memory Plain)
-  child_of number j = sys.newborn plain (run_is G) there val number j (child_or (child_at (table_or (slice_get G.code.forks tb)) j))
+  child_of number j = sys.newborn plain (run_is G) there val number j
+      (child_or (child_at (table_or (slice_get G.code.forks tb)) j))
 
   -- where it stands, without what calls wrote in frames that are gone
-  pub parent_stand : (since1 : ℕ) → since1 ≡ (t.2).ticks → St G (lv v) (λ a b. lv ((a, b) ∷ v)) v goes_on.who since1 t.3 o x.at.store n1
-  parent_stand since1 e = stand_again G (lv v) (λ a b. lv ((a, b) ∷ v)) v {w = p1.who} {w1 = goes_on.who} {since = c.since v} {since1 = since1} (ap (λ (a : Who). a.name) x.who_is) e
-      (stand_dead G (lv v) (λ a b. lv ((a, b) ∷ v)) v t.8 x.at.store (λ a. subst (λ b. (x.at.store a ≡ m a) ⊎ IsDead b a) (ap (λ b. length b) (t.8).frames ∙ sources_length t.3) (same_but_dead G lv c s u l i d at_i z (Forked bs todo) o m x tt a)))
+  pub parent_stand : (since1 : ℕ) → since1 ≡ (t.2).ticks
+      → St G (lv v) (λ a b. lv ((a, b) ∷ v)) v goes_on.who since1 t.3 o x.at.store n1
+  parent_stand since1 e = stand_again G (lv v) (λ a b. lv ((a, b) ∷ v)) v {w = p1.who} {w1 = goes_on.who}
+      {since = c.since v} {since1 = since1} (ap (λ (a : Who). a.name) x.who_is) e
+      (stand_dead G (lv v) (λ a b. lv ((a, b) ∷ v)) v t.8 x.at.store
+      (λ a. subst (λ b. (x.at.store a ≡ m a) ⊎ IsDead b a) (ap (λ b. length b) (t.8).frames ∙ sources_length t.3)
+      (same_but_dead G lv c s u l i d at_i z (Forked bs todo) o m x tt a)))
 
   pub counted : x.left.who.forks ≡ k
-  counted = ap (λ (a : Who). a.forks) x.who_is ∙ (keeps_to G lv c s u l i d at_i).forked ∙ ap (λ a. a v) (sym x.elsewhere.forks)
+  counted = ap (λ (a : Who). a.forks) x.who_is ∙ (keeps_to G lv c s u l i d at_i).forked
+      ∙ ap (λ a. a v) (sym x.elsewhere.forks)
 
   -- ---- it forks
 
-  module _ (room1 : nat_lt G.g.limits.entries (u.entries + 1) ≡ false) (room2 : nat_lt G.g.limits.processes (u.births.processes + n) ≡ false) (count_is : length bs ≡ n)
-      (stmts : List Stmt) (born : Born G.g.program (λ a. All (W_of G lv) v a) (λ a. All (R_of G lv) v a) o.frames stmts bs)
+  module _ (room1 : nat_lt G.g.limits.entries (u.entries + 1) ≡ false)
+      (room2 : nat_lt G.g.limits.processes (u.births.processes + n) ≡ false) (count_is : length bs ≡ n)
+      (stmts : List Stmt) (born : Born G.g.program (λ a. All (W_of G lv) v a) (λ a. All (R_of G lv) v a) o.frames stmts
+      bs)
       (new_life : ℕ → Life)
-      (to_w : (b : ℕ) (a : Loc) → AimedAt G.g.program (λ a. All (W_of G lv) v a) (λ a. All (R_of G lv) v a) o.frames (slice_get stmts b) a → (new_life b).W a) (from_w : (b : ℕ) (a : Loc) → (new_life b).W a → AimedAt G.g.program (λ a. All (W_of G lv) v a) (λ a. All (R_of G lv) v a) o.frames (slice_get stmts b) a)
-      (to_r : (b : ℕ) (a : Loc) → UsedAt G.g.program (λ a. All (W_of G lv) v a) (λ a. All (R_of G lv) v a) o.frames (slice_get stmts b) a → (new_life b).R a) (from_r : (b : ℕ) (a : Loc) → (new_life b).R a → UsedAt G.g.program (λ a. All (W_of G lv) v a) (λ a. All (R_of G lv) v a) o.frames (slice_get stmts b) a)
-      (known : (a : Spot) → In a (moved_of hs) ⊎ In a (shared_of hs) → IsSome (fin.get n1.store.map a)) (dry : All (R_of G lv) v Output → NotIn output_spot (shared_of hs)) (parts : (a : Spot) → In a (moved_of hs) → (j : ℕ) × (j < n) × In a (new_life j).moved)
-      (gives : (j : ℕ) → j < n → (a : Spot) → In a (new_life j).moved → In a (moved_of hs)) (unshared : (a : Spot) → In a (moved_of hs) → NotIn a (shared_of hs))
+      (to_w : (b : ℕ) (a : Loc) → AimedAt G.g.program (λ a. All (W_of G lv) v a) (λ a. All (R_of G lv) v a) o.frames
+      (slice_get stmts b) a → (new_life b).W a)
+      (from_w : (b : ℕ) (a : Loc) → (new_life b).W a
+      → AimedAt G.g.program (λ a. All (W_of G lv) v a) (λ a. All (R_of G lv) v a) o.frames (slice_get stmts b) a)
+      (to_r : (b : ℕ) (a : Loc) → UsedAt G.g.program (λ a. All (W_of G lv) v a) (λ a. All (R_of G lv) v a) o.frames
+      (slice_get stmts b) a → (new_life b).R a)
+      (from_r : (b : ℕ) (a : Loc) → (new_life b).R a
+      → UsedAt G.g.program (λ a. All (W_of G lv) v a) (λ a. All (R_of G lv) v a) o.frames (slice_get stmts b) a)
+      (known : (a : Spot) → In a (moved_of hs) ⊎ In a (shared_of hs) → IsSome (fin.get n1.store.map a))
+      (dry : All (R_of G lv) v Output → NotIn output_spot (shared_of hs))
+      (parts : (a : Spot) → In a (moved_of hs) → (j : ℕ) × (j < n) × In a (new_life j).moved)
+      (gives : (j : ℕ) → j < n → (a : Spot) → In a (new_life j).moved → In a (moved_of hs))
+      (unshared : (a : Spot) → In a (moved_of hs) → NotIn a (shared_of hs))
       (parted : (a b : ℕ) → a < n → b < n → a ≢ b → (e : Spot) → In e (new_life a).moved → In e (new_life b).moved → ⊥)
       (handed : (more : ℕ → ℕ → Life) (j : ℕ) → j < n → Handed G (lv v) more v t.3 n1 (new_life j) ((k, j) ∷ v))
-      (children : (more : ℕ → ℕ → Life) (j : ℕ) → j < n → (b : Birth) → slice_get bs j ≡ Some b → Rattle.sp_link.proofs.Relation.Called G ((k, j) ∷ v) (u.births.processes + j)
-      → Stands G (new_life j) more ((k, j) ∷ v) 0 (newborn x.left.who o j b) x.at.store (child_of (u.births.processes + j) j)) where
+      (children : (more : ℕ → ℕ → Life) (j : ℕ) → j < n → (b : Birth) → slice_get bs j ≡ Some b
+      → Rattle.sp_link.proofs.Relation.Called G ((k, j) ∷ v) (u.births.processes + j)
+      → Stands G (new_life j) more ((k, j) ∷ v) 0 (newborn x.left.who o j b) x.at.store
+      (child_of (u.births.processes + j) j)) where
     os_length : length os ≡ n
     os_length = newborns_length x.left.who o 0 bs ∙ count_is
 
-    does_it : outcome {L = superpascal G.g} (most G.g) x.at v (Forks goes_on os) ≡ acts {L = superpascal G.g} x.at v (Forks goes_on os)
-    does_it = comes_to None (passes false false room1 (ap (λ a. nat_lt G.g.limits.processes (u.births.processes + a)) os_length ∙ room2))
+    does_it : outcome {L = superpascal G.g} (most G.g) x.at v (Forks goes_on os)
+        ≡ acts {L = superpascal G.g} x.at v (Forks goes_on os)
+    does_it = comes_to None (passes false false room1
+        (ap (λ a. nat_lt G.g.limits.processes (u.births.processes + a)) os_length ∙ room2))
 
     abbrev before : Conditions
     before = put_at same_name v (Joins k (length os) goes_on) x.at.condition
 
     abbrev t1 : StateOf G.g
-    t1 = record (x.at) { condition = after_births G.g.program v k 0 os before; forks = put_at same_name v (x.at.forks v + 1) x.at.forks; totals = add x.at.totals grows }
+    t1 = record (x.at) {
+      condition = after_births G.g.program v k 0 os before;
+      forks = put_at same_name v (x.at.forks v + 1) x.at.forks;
+      totals = add x.at.totals grows;
+    }
 
     abbrev says_now : Happening
     says_now = happenings.Forked (length os)
 
     said_now : says G.g x.at v x.left ≡ Some says_now
-    said_now = kernel_says G.g v x.at x.left x.runs r x.does ∙ ap (λ b. said_of {L = superpascal G.g} (Forks goes_on os) b) does_it
+    said_now = kernel_says G.g v x.at x.left x.runs r x.does
+        ∙ ap (λ b. said_of {L = superpascal G.g} (Forks goes_on os) b) does_it
 
     goes_next : next G.g x.at v ≡ Some t1
-    goes_next = kernel_next G.g v x.at x.left x.runs r x.does ∙ ap (λ b. Some (result_of {L = superpascal G.g} x.at v b)) does_it
-        ∙ ap (λ b. Some b) (born_is G.g v k 0 os (changed {L = superpascal G.g} (Adds grows) (changed {L = superpascal G.g} (Counts_fork v) (changed {L = superpascal G.g} (Becomes v (Joins k (length os) goes_on)) x.at))))
+    goes_next = kernel_next G.g v x.at x.left x.runs r x.does
+        ∙ ap (λ b. Some (result_of {L = superpascal G.g} x.at v b)) does_it
+        ∙ ap (λ b. Some b) (born_is G.g v k 0 os
+        (changed {L = superpascal G.g} (Adds grows)
+        (changed {L = superpascal G.g} (Counts_fork v)
+        (changed {L = superpascal G.g} (Becomes v (Joins k (length os) goes_on)) x.at))))
 
     no_child : (j : ℕ) → v ≢ (k, j) ∷ v
     no_child j e = let h = ap (λ (a : Name). length a) e in omega (arith, h)
 
     cond_v : t1.condition v ≡ Joins k (length os) goes_on
-    cond_v = born_else G.g v k 0 os before v (λ j lt. no_child (0 + j)) ∙ at_same name_test x.at.condition v (Joins k (length os) goes_on)
+    cond_v = born_else G.g v k 0 os before v (λ j lt. no_child (0 + j))
+        ∙ at_same name_test x.at.condition v (Joins k (length os) goes_on)
 
-    cond_child : (j : ℕ) (b : Birth) → slice_get bs j ≡ Some b → t1.condition ((k, j) ∷ v) ≡ Works (newborn x.left.who o j b)
-    cond_child j b e = ap (λ a. t1.condition (cons (k, a) v)) (sym (zero-add j)) ∙ born_at G.g v k 0 os before j (newborn x.left.who o j b) (newborns_at x.left.who o 0 bs j b e ∙ ap (λ a. Some (newborn x.left.who o a b)) (zero-add j))
+    cond_child : (j : ℕ) (b : Birth) → slice_get bs j ≡ Some b
+        → t1.condition ((k, j) ∷ v) ≡ Works (newborn x.left.who o j b)
+    cond_child j b e = ap (λ a. t1.condition (cons (k, a) v)) (sym (zero-add j))
+        ∙ born_at G.g v k 0 os before j (newborn x.left.who o j b)
+        (newborns_at x.left.who o 0 bs j b e ∙ ap (λ a. Some (newborn x.left.who o a b)) (zero-add j))
 
     cond_r : (a : Name) → a ≢ v → ((j : ℕ) → j < n → a ≢ (k, j) ∷ v) → t1.condition a ≡ s.condition a
-    cond_r a e f = born_else G.g v k 0 os before a (λ j lt h. f j (omega (arith, lt, os_length)) (h ∙ ap (λ b. cons (k, b) v) (zero-add j))) ∙ at_other name_test x.at.condition v a (Joins k (length os) goes_on) (λ h. e (sym h)) ∙ x.elsewhere.condition a e
+    cond_r a e f = born_else G.g v k 0 os before a
+        (λ j lt h. f j (omega (arith, lt, os_length)) (h ∙ ap (λ b. cons (k, b) v) (zero-add j)))
+        ∙ at_other name_test x.at.condition v a (Joins k (length os) goes_on) (λ h. e (sym h))
+        ∙ x.elsewhere.condition a e
 
     -- no child was there
     unborn : (j : ℕ) → s.condition ((k, j) ∷ v) ≡ Absent
@@ -302,20 +389,27 @@ module _ (G : Ground) (lv : Lives G) (c : Course) (s : StateOf G.g) (u : System 
     child_or_not ((a, b) ∷ w) = by (same_name v w && (a == k)) refl (nat_lt b n) refl
       where
         test : (j : ℕ) → (a, b) ∷ w ≡ (k, j) ∷ v → (same_name v w && (a == k)) ≡ true
-        test j e = ap (λ f. f && (a == k)) ((name_test v w).1 (sym (tail_same (a, b) (k, j) w v e))) ∙ eq-eqb a k (ap (λ (z : ℕ × ℕ). z.0) (head_same (a, b) (k, j) w v e))
+        test j e = ap (λ f. f && (a == k)) ((name_test v w).1 (sym (tail_same (a, b) (k, j) w v e)))
+            ∙ eq-eqb a k (ap (λ (z : ℕ × ℕ). z.0) (head_same (a, b) (k, j) w v e))
 
-        by : (f : Bool) → (same_name v w && (a == k)) ≡ f → (g : Bool) → nat_lt b n ≡ g → ((j : ℕ) × (j < n) × ((a, b) ∷ w ≡ (k, j) ∷ v)) ⊎ ((j : ℕ) → j < n → (a, b) ∷ w ≢ (k, j) ∷ v)
+        by : (f : Bool) → (same_name v w && (a == k)) ≡ f → (g : Bool) → nat_lt b n ≡ g
+            → ((j : ℕ) × (j < n) × ((a, b) ∷ w ≡ (k, j) ∷ v)) ⊎ ((j : ℕ) → j < n → (a, b) ∷ w ≢ (k, j) ∷ v)
         by true e true h =
             let is = it_is G.g.program (W_of G lv) (R_of G lv) v k o.frames stmts w a e in
             inl (b, ltb-true b n h, ap (λ f. cons (f, b) w) is.1 ∙ ap (λ f. cons (k, b) f) (sym is.0))
-        by true e false h = inr (λ j lt f. (let is : b ≡ j = ap (λ (z : ℕ × ℕ). z.1) (head_same (a, b) (k, j) w v f) in let ge = ltb-false b n h in omega (arith, lt, is, ge)))
+        by true e false h = inr (λ j lt f. (let is : b ≡ j = ap (λ (z : ℕ × ℕ). z.1) (head_same (a, b) (k, j) w v f) in
+            let ge = ltb-false b n h in omega (arith, lt, is, ge)))
         by false e g h = inr (λ j lt f. (let is : true ≡ false = sym (test j f) ∙ e in absurd (cc is)))
 
     known_then : Known G.g x.at
     known_then = known_at G lv c s u l i d at_i z r x says_now said_now
 
     known_now : Known G.g t1
-    known_now = record { sound = step_sound (most G.g) x.at v t1 known_then.sound goes_next; well = lowered G.g (λ b. ticks_in (x.at.condition b)) t1 (step_well G.g x.at known_then.sound v (raised G.g x.at known_then.well) t1 goes_next) }
+    known_now = record {
+      sound = step_sound (most G.g) x.at v t1 known_then.sound goes_next;
+      well = lowered G.g (λ b. ticks_in (x.at.condition b)) t1
+          (step_well G.g x.at known_then.sound v (raised G.g x.at known_then.well) t1 goes_next);
+    }
 
     -- ---- lives and rights
 
@@ -327,17 +421,20 @@ module _ (G : Ground) (lv : Lives G) (c : Course) (s : StateOf G.g) (u : System 
     lv1_other [] h = refl
     lv1_other ((a, b) ∷ w) h = go (same_name v w && (a == k)) refl
       where
-        go : (f : Bool) → (same_name v w && (a == k)) ≡ f → pick (same_name v w && (a == k)) (new_life b) (lv ((a, b) ∷ w)) ≡ lv ((a, b) ∷ w)
+        go : (f : Bool) → (same_name v w && (a == k)) ≡ f
+            → pick (same_name v w && (a == k)) (new_life b) (lv ((a, b) ∷ w)) ≡ lv ((a, b) ∷ w)
         go true e =
             let is = it_is G.g.program (W_of G lv) (R_of G lv) v k o.frames stmts w a e in
-            absurd (h (ap (λ f. s.condition (cons (f, b) w)) is.1 ∙ ap (λ f. s.condition (cons (k, b) f)) (sym is.0) ∙ unborn b))
+            absurd (h (ap (λ f. s.condition (cons (f, b) w)) is.1 ∙ ap (λ f. s.condition (cons (k, b) f)) (sym is.0)
+            ∙ unborn b))
         go false e = ap (λ f. pick f (new_life b) (lv ((a, b) ∷ w))) e
 
     lv1_kids : (w : Name) → v ≢ w → (a b : ℕ) → lv1 ((a, b) ∷ w) ≡ lv ((a, b) ∷ w)
     lv1_kids w e a b = ap (λ f. pick (f && (a == k)) (new_life b) (lv ((a, b) ∷ w))) (differs name_test v w e)
 
     lv1_child : (j : ℕ) → lv1 ((k, j) ∷ v) ≡ new_life j
-    lv1_child j = ap (λ f. pick f (new_life j) (lv ((k, j) ∷ v))) (ap (λ f. f && (k == k)) (itself name_test v) ∙ eq-eqb k k refl)
+    lv1_child j = ap (λ f. pick f (new_life j) (lv ((k, j) ∷ v)))
+        (ap (λ f. f && (k == k)) (itself name_test v) ∙ eq-eqb k k refl)
 
     rights_then : Inv G.g.program (W_of G lv) (R_of G lv) x.at.condition x.at.forks
     rights_then = rights_at G lv c s u l i d at_i z r x says_now said_now
@@ -352,10 +449,12 @@ module _ (G : Ground) (lv : Lives G) (c : Course) (s : StateOf G.g) (u : System 
     R1 a b = reads_after G.g.program (W_of G lv) (R_of G lv) v k o.frames stmts a b
 
     abbrev Aims_at : ℕ → Loc → Type 0
-    Aims_at j b = AimedAt G.g.program (λ a. All (W_of G lv) v a) (λ a. All (R_of G lv) v a) o.frames (slice_get stmts j) b
+    Aims_at j b = AimedAt G.g.program (λ a. All (W_of G lv) v a) (λ a. All (R_of G lv) v a) o.frames (slice_get stmts j)
+        b
 
     abbrev Uses_at : ℕ → Loc → Type 0
-    Uses_at j b = UsedAt G.g.program (λ a. All (W_of G lv) v a) (λ a. All (R_of G lv) v a) o.frames (slice_get stmts j) b
+    Uses_at j b = UsedAt G.g.program (λ a. All (W_of G lv) v a) (λ a. All (R_of G lv) v a) o.frames (slice_get stmts j)
+        b
 
     to_writes : (a : Name) (b : Loc) → W1 a b → W_of G lv1 a b
     to_writes [] b h = h
@@ -390,17 +489,25 @@ module _ (G : Ground) (lv : Lives G) (c : Course) (s : StateOf G.g) (u : System 
         go false h = h
 
     rights_now : Inv G.g.program (W_of G lv1) (R_of G lv1) t1.condition t1.forks
-    rights_now = inv_same G W1 R1 (W_of G lv1) (R_of G lv1) to_writes from_writes to_reads from_reads t1.condition t1.forks
-        (forks_keep G.g.program (W_of G lv) (R_of G lv) x.at.condition x.at.forks rights_then v (known_if G.g.program (W_of G lv) (R_of G lv) x.at.condition x.at.forks rights_then v there_at) x.left.who o x.good.named counted
-        goes_on x.good.named (ap (λ a. a + 1) counted) (keeps_to G lv c s u l i d at_i).last y.final.2 stmts bs born (y.final.2).linked (length os))
+    rights_now = inv_same G W1 R1 (W_of G lv1) (R_of G lv1) to_writes from_writes to_reads from_reads t1.condition
+        t1.forks
+        (forks_keep G.g.program (W_of G lv) (R_of G lv) x.at.condition x.at.forks rights_then v
+        (known_if G.g.program (W_of G lv) (R_of G lv) x.at.condition x.at.forks rights_then v there_at) x.left.who o
+        x.good.named counted
+        goes_on x.good.named (ap (λ a. a + 1) counted) (keeps_to G lv c s u l i d at_i).last y.final.2 stmts bs born
+        (y.final.2).linked (length os))
 
     -- ---- the others
 
     ended_same : (b : Name) → has_ended (t1.condition b) ≡ has_ended (s.condition b)
     ended_same b = ⊎_elim
-        (λ (e : b ≡ v). ap (λ k. has_ended (t1.condition k)) e ∙ ap (λ k. has_ended k) cond_v ∙ sym (not_ended G lv c s u l i d at_i) ∙ ap (λ k. has_ended (s.condition k)) (sym e))
+        (λ (e : b ≡ v). ap (λ k. has_ended (t1.condition k)) e ∙ ap (λ k. has_ended k) cond_v
+        ∙ sym (not_ended G lv c s u l i d at_i) ∙ ap (λ k. has_ended (s.condition k)) (sym e))
         (λ (e : b ≢ v). ⊎_elim
-        (λ (h : (j : ℕ) × (j < n) × (b ≡ (k, j) ∷ v)). (let p = at_place h.0 h.1 in ap (λ k. has_ended (t1.condition k)) h.2 ∙ ap (λ k. has_ended k) (cond_child h.0 p.0 p.1) ∙ sym (ap (λ k. has_ended k) (unborn h.0)) ∙ ap (λ k. has_ended (s.condition k)) (sym h.2)))
+        (λ (h : (j : ℕ) × (j < n) × (b ≡ (k, j) ∷ v)).
+        (let p = at_place h.0 h.1 in ap (λ k. has_ended (t1.condition k)) h.2
+        ∙ ap (λ k. has_ended k) (cond_child h.0 p.0 p.1) ∙ sym (ap (λ k. has_ended k) (unborn h.0))
+        ∙ ap (λ k. has_ended (s.condition k)) (sym h.2)))
         (λ (h : (j : ℕ) → j < n → b ≢ (k, j) ∷ v). ap (λ k. has_ended k) (cond_r b e h))
         (child_or_not b))
         (same_or_not name_test b v)
@@ -408,7 +515,9 @@ module _ (G : Ground) (lv : Lives G) (c : Course) (s : StateOf G.g) (u : System 
     present_same : (b : Name) → s.condition b ≢ Absent → t1.condition b ≢ Absent
     present_same b h e = ⊎_elim
         (λ (f : b ≡ v). subst (λ k. IsLive k) (sym cond_v ∙ subst (λ k. t1.condition k ≡ Absent) f e) tt)
-        (λ (f : b ≢ v). ⊎_elim (λ (g : (j : ℕ) × (j < n) × (b ≡ (k, j) ∷ v)). h (ap (λ a. s.condition a) g.2 ∙ unborn g.0)) (λ (g : (j : ℕ) → j < n → b ≢ (k, j) ∷ v). h (sym (cond_r b f g) ∙ e)) (child_or_not b))
+        (λ (f : b ≢ v). ⊎_elim (λ (g : (j : ℕ) × (j < n) × (b ≡ (k, j) ∷ v)). h
+        (ap (λ a. s.condition a) g.2 ∙ unborn g.0))
+        (λ (g : (j : ℕ) → j < n → b ≢ (k, j) ∷ v). h (sym (cond_r b f g) ∙ e)) (child_or_not b))
         (same_or_not name_test b v)
 
     abbrev c1 : Course
@@ -418,18 +527,28 @@ module _ (G : Ground) (lv : Lives G) (c : Course) (s : StateOf G.g) (u : System 
     since_other b e = ap (λ f. cond f (ticks_of G.g t1 v) (c.since b)) (differs name_test v b (λ h. e (sym h)))
 
     since_here : c1.since v ≡ (t.2).ticks
-    since_here = ap (λ b. cond b (ticks_of G.g t1 v) (c.since v)) (itself name_test v) ∙ ap ticks_in cond_v ∙ (t.8).ticks
+    since_here = ap (λ b. cond b (ticks_of G.g t1 v) (c.since v)) (itself name_test v) ∙ ap ticks_in cond_v
+        ∙ (t.8).ticks
 
     few : (a : ℕ) → a < u.births.processes → a < G.births.processes
     few a lt = let b = l.began.processes in omega (arith, lt, b)
 
-    does_other : (a : ℕ) → a < u.births.processes → i ≢ a → Performs_all G lv1 (G.births.name a) c1 t1 (u.births.opens a) (u.condition a)
+    does_other : (a : ℕ) → a < u.births.processes → i ≢ a
+        → Performs_all G lv1 (G.births.name a) c1 t1 (u.births.opens a) (u.condition a)
     does_other a lt e =
-        let apart : G.births.name a ≢ v = λ h. e (G.one_name i a (few i (here G lv c s u l i d at_i)) (few a lt) (sym h)) in
-        let living : s.condition (G.births.name a) ≢ Absent = not_absent G (lv (G.births.name a)) (λ a1 b1. lv ((a1, b1) ∷ G.births.name a)) (G.births.name a) c s (u.births.opens a) (u.condition a) (l.does a lt) in
-        let far : (j : ℕ) → j < n → G.births.name a ≢ (k, j) ∷ v = λ j h f. living (ap (λ b. s.condition b) f ∙ unborn j) in
-        does_lives G lv lv1 (G.births.name a) (lv1_other (G.births.name a) living) (λ a1 b1. lv1_kids (G.births.name a) (λ h. apart (sym h)) a1 b1) c1 t1 (u.births.opens a) (u.condition a)
-        (does_stay G lv s t1 l.known.sound l.rights.fair v (alone G lv c s u l i d at_i) x.good.stays (G.births.name a) apart (cond_r (G.births.name a) apart far) (λ a1 b1. ended_same ((a1, b1) ∷ G.births.name a)) (λ a1 b1. present_same ((a1, b1) ∷ G.births.name a)) c c1 (since_other (G.births.name a) apart) refl (λ h. h) (u.births.opens a) (u.condition a) (l.does a lt))
+        let apart : G.births.name a ≢ v = λ h. e
+        (G.one_name i a (few i (here G lv c s u l i d at_i)) (few a lt) (sym h)) in
+        let living : s.condition (G.births.name a) ≢ Absent =
+        not_absent G (lv (G.births.name a)) (λ a1 b1. lv ((a1, b1) ∷ G.births.name a)) (G.births.name a) c s
+        (u.births.opens a) (u.condition a) (l.does a lt) in
+        let far : (j : ℕ) → j < n → G.births.name a ≢ (k, j) ∷ v =
+        λ j h f. living (ap (λ b. s.condition b) f ∙ unborn j) in
+        does_lives G lv lv1 (G.births.name a) (lv1_other (G.births.name a) living)
+        (λ a1 b1. lv1_kids (G.births.name a) (λ h. apart (sym h)) a1 b1) c1 t1 (u.births.opens a) (u.condition a)
+        (does_stay G lv s t1 l.known.sound l.rights.fair v (alone G lv c s u l i d at_i) x.good.stays (G.births.name a)
+        apart (cond_r (G.births.name a) apart far) (λ a1 b1. ended_same ((a1, b1) ∷ G.births.name a))
+        (λ a1 b1. present_same ((a1, b1) ∷ G.births.name a)) c c1 (since_other (G.births.name a) apart) refl
+        (λ h. h) (u.births.opens a) (u.condition a) (l.does a lt))
 
     -- ---- the parent
 
@@ -443,20 +562,36 @@ module _ (G : Ground) (lv : Lives G) (c : Course) (s : StateOf G.g) (u : System 
     left_it = on_store (λ a. plain.handed a hs) there
 
     joined : Joined G (lv v) kids1 v (c1.since v) k n n goes_on t1 left_it
-    joined = parent_joins G (lv v) kids1 v fresh1 (c1.since v) k n goes_on t.3 t1 n1 (parent_stand (c1.since v) since_here) x.good.named t.0 t.1
-        (again G.g G.code G.moves G.shares G.hush (λ a. Mine v a ⊎ (lv v).W a) (λ a. Mine v a ⊎ (lv v).R a) (lv v).J (ops G) G.free G.finds G.formed.uses z.fresh.reads fresh1.reads
-        p1.who (due_after (c.since v) G.pause) (Rel G (lv v) (kids G lv c s u l i d at_i) v p1.who (c.since v)) (law G (lv v) (kids G lv c s u l i d at_i) v z.fresh p1.who z.named (c.since v)) (λ a b. inl z.named)
-        goes_on.who (due_after (c1.since v) G.pause) (Rel G (lv v) kids1 v goes_on.who (c1.since v)) (law G (lv v) kids1 v fresh1 goes_on.who x.good.named (c1.since v)) (λ a b. inl x.good.named) (λ j js m. m) (lv v).end [] (lv v).below t.0 t.1 t.3 todo t.9) hs known dry (omega (arith, some, count_is))
+    joined = parent_joins G (lv v) kids1 v fresh1 (c1.since v) k n goes_on t.3 t1 n1
+        (parent_stand (c1.since v) since_here) x.good.named t.0 t.1
+        (again G.g G.code G.moves G.shares G.hush (λ a. Mine v a ⊎ (lv v).W a) (λ a. Mine v a ⊎ (lv v).R a) (lv v).J
+        (ops G) G.free G.finds G.formed.uses z.fresh.reads fresh1.reads
+        p1.who (due_after (c.since v) G.pause) (Rel G (lv v) (kids G lv c s u l i d at_i) v p1.who (c.since v))
+        (law G (lv v) (kids G lv c s u l i d at_i) v z.fresh p1.who z.named (c.since v)) (λ a b. inl z.named)
+        goes_on.who (due_after (c1.since v) G.pause) (Rel G (lv v) kids1 v goes_on.who (c1.since v))
+        (law G (lv v) kids1 v fresh1 goes_on.who x.good.named (c1.since v)) (λ a b. inl x.good.named) (λ j js m. m)
+        (lv v).end [] (lv v).below t.0 t.1 t.3 todo t.9) hs known dry (omega (arith, some, count_is))
         (λ j lt. (let p = at_place j lt in ap (λ b. has_ended b) (cond_child j p.0 p.1)))
         (λ j lt e. (let p = at_place j lt in subst (λ b. IsLive b) (sym (cond_child j p.0 p.1) ∙ e) tt))
         (λ a h. (let w = parts a h in (w.0, w.1, subst (λ (lf : Life). In a lf.moved) (sym (lv1_child w.0)) w.2)))
-        (λ j lt. subst (λ (lf : Life). Handed G (lv v) kids1 v t.3 n1 lf ((k, j) ∷ v)) (sym (lv1_child j)) (handed kids1 j lt))
+        (λ j lt. subst (λ (lf : Life). Handed G (lv v) kids1 v t.3 n1 lf ((k, j) ∷ v)) (sym (lv1_child j))
+        (handed kids1 j lt))
         (λ j lt a h. gives j lt a (subst (λ (lf : Life). In a lf.moved) (lv1_child j) h)) unshared
-        (λ a b la lb ne e h g. parted a b la lb ne e (subst (λ (lf : Life). In e lf.moved) (lv1_child a) h) (subst (λ (lf : Life). In e lf.moved) (lv1_child b) g))
+        (λ a b la lb ne e h g. parted a b la lb ne e (subst (λ (lf : Life). In e lf.moved) (lv1_child a) h)
+        (subst (λ (lf : Life). In e lf.moved) (lv1_child b) g))
 
     parent_does : Performs_all G lv1 v c1 t1 (u.births.opens i) (sys.Joins n left_it)
-    parent_does = subst (λ (lf : Life). Performs G lf kids1 v c1 t1 (u.births.opens i) (sys.Joins n left_it)) (sym (lv1_other v (present G lv c s u l i d at_i)))
-        (k, n, goes_on, cond_v ∙ ap (λ a. Joins k a goes_on) os_length, joined, ap (λ (a : Who). a.opens) x.who_is ∙ (its G lv c s u l i d at_i).3, (its G lv c s u l i d at_i).4)
+    parent_does = subst (λ (lf : Life). Performs G lf kids1 v c1 t1 (u.births.opens i) (sys.Joins n left_it))
+        (sym (lv1_other v (present G lv c s u l i d at_i))) (
+          k,
+          n,
+          goes_on,
+          cond_v ∙ ap (λ a. Joins k a goes_on) os_length,
+          joined,
+          ap (λ (a : Who). a.opens) x.who_is
+              ∙ (its G lv c s u l i d at_i).3,
+          (its G lv c s u l i d at_i).4,
+        )
 
     -- ---- the machine
 
@@ -473,20 +608,29 @@ module _ (G : Ground) (lv : Lives G) (c : Course) (s : StateOf G.g) (u : System 
     at_number a j = sys.Working (sys.newborn plain (run_is G) there val a j (child_or (child_at tbl j)))
 
     abbrev u1 : System Plain
-    u1 = record u { condition = λ a. cond (is_next u.births n a) (at_number a (a - P)) (cond (i == a) (sys.Joins n left_it) (u.condition a)); entries = u.entries + 1; births = b1 }
+    u1 = record u {
+      condition = λ a. cond (is_next u.births n a) (at_number a (a - P))
+          (cond (i == a) (sys.Joins n left_it) (u.condition a));
+      entries = u.entries + 1;
+      births = b1;
+    }
 
     abbrev tn2 : Turn (Memory Plain)
     tn2 = Stopped (machine.Forks tb val n) (At t.0 t.1 t.2)
 
     no_fault : fault_of G.g.limits u tn2 ≡ None
-    no_fault = sym (ap (λ b. fault_of G.g.limits u (Stopped b (At t.0 t.1 t.2))) stop_is) ∙ found false false room1 room2
+    no_fault = sym (ap (λ b. fault_of G.g.limits u (Stopped b (At t.0 t.1 t.2))) stop_is)
+        ∙ found false false room1 room2
 
     after_is : after plain (run_is G) i tn u ≡ u1
     after_is = ap (λ b. after plain (run_is G) i (Stopped b (At t.0 t.1 t.2)) u) stop_is ∙ after_quiet G i tn2 u quiet
-        ∙ ap (λ f. record (unless_fault plain (run_is G) f i tn2 u) { births = after_event u.births i (event_or f tn2) }) no_fault
+        ∙ ap (λ f. record (unless_fault plain (run_is G) f i tn2 u)
+        { births = after_event u.births i (event_or f tn2) }) no_fault
 
     event_is : event_of G.g.limits u tn ≡ event.Fork n
-    event_is = ap (λ b. event_of G.g.limits u (Stopped b (At t.0 t.1 t.2))) stop_is ∙ ap (λ b. if b then event.Laid else event_or (fault_of G.g.limits u tn2) tn2) quiet ∙ ap (λ f. event_or f tn2) no_fault
+    event_is = ap (λ b. event_of G.g.limits u (Stopped b (At t.0 t.1 t.2))) stop_is
+        ∙ ap (λ b. if b then event.Laid else event_or (fault_of G.g.limits u tn2) tn2) quiet
+        ∙ ap (λ f. event_or f tn2) no_fault
 
     module _ (began : Began G b1) where
       forks_here : u.births.forks i ≡ k
@@ -497,19 +641,26 @@ module _ (G : Ground) (lv : Lives G) (c : Course) (s : StateOf G.g) (u : System 
 
       name_child : (j : ℕ) → j < n → G.births.name (P + j) ≡ (k, j) ∷ v
       name_child j lt = sym (began.names (P + j) (omega (arith, lt)))
-          ∙ ap (λ f. cond f (cons (u.births.forks i, (P + j) - P) (u.births.name i)) (u.births.name (P + j))) (next_number u.births n j lt)
-          ∙ ap (λ a. cons (a, (P + j) - P) (u.births.name i)) forks_here ∙ ap (λ a. cons (k, a) (u.births.name i)) (minus j) ∙ ap (λ a. cons (k, j) a) (l.began.names i (here G lv c s u l i d at_i))
+          ∙ ap (λ f. cond f (cons (u.births.forks i, (P + j) - P) (u.births.name i)) (u.births.name (P + j)))
+          (next_number u.births n j lt)
+          ∙ ap (λ a. cons (a, (P + j) - P) (u.births.name i)) forks_here
+          ∙ ap (λ a. cons (k, a) (u.births.name i)) (minus j)
+          ∙ ap (λ a. cons (k, j) a) (l.began.names i (here G lv c s u l i d at_i))
 
       called : (j : ℕ) → j < n → Rattle.sp_link.proofs.Relation.Called G ((k, j) ∷ v) (P + j)
       called j lt = ((let a = began.processes in omega (arith, a, lt)), name_child j lt)
 
-      child_does : (j : ℕ) → j < n → Performs_all G lv1 ((k, j) ∷ v) c1 t1 (u.births.opens (P + j)) (at_number (P + j) j)
+      child_does : (j : ℕ) → j < n → Performs_all G lv1 ((k, j) ∷ v) c1 t1 (u.births.opens (P + j))
+          (at_number (P + j) j)
       child_does j lt =
           let p = at_place j lt in (
             newborn x.left.who o j p.0,
             ap (working_in t1.condition ((k, j) ∷ v)) (cond_child j p.0 p.1),
-            inl (subst (λ a. Stands G (lv1 ((k, j) ∷ v)) (λ a b. lv1 ((a, b) ∷ (k, j) ∷ v)) ((k, j) ∷ v) a (newborn x.left.who o j p.0) t1.store (child_of (P + j) j)) (sym (since_other ((k, j) ∷ v) (λ e. no_child j (sym e)) ∙ l.fresh_since ((k, j) ∷ v) (unborn j)))
-                (subst (λ (lf : Life). Stands G lf (λ a b. lv1 ((a, b) ∷ (k, j) ∷ v)) ((k, j) ∷ v) 0 (newborn x.left.who o j p.0) t1.store (child_of (P + j) j)) (sym (lv1_child j))
+            inl (subst (λ a. Stands G (lv1 ((k, j) ∷ v)) (λ a b. lv1 ((a, b) ∷ (k, j) ∷ v)) ((k, j) ∷ v) a
+                (newborn x.left.who o j p.0) t1.store (child_of (P + j) j))
+                (sym (since_other ((k, j) ∷ v) (λ e. no_child j (sym e)) ∙ l.fresh_since ((k, j) ∷ v) (unborn j)))
+                (subst (λ (lf : Life). Stands G lf (λ a b. lv1 ((a, b) ∷ (k, j) ∷ v)) ((k, j) ∷ v) 0
+                (newborn x.left.who o j p.0) t1.store (child_of (P + j) j)) (sym (lv1_child j))
                 (children (λ a b. lv1 ((a, b) ∷ (k, j) ∷ v)) j lt p.0 p.1 (called j lt)))),
             sym (l.unmade (P + j) (omega arith)).1,
             l.unlaid quiet ((k, j) ∷ v),
@@ -517,23 +668,34 @@ module _ (G : Ground) (lv : Lives G) (c : Course) (s : StateOf G.g) (u : System 
 
       -- by its number
       does_old : (a : ℕ) → a < P → Performs_all G lv1 (G.births.name a) c1 t1 (b1.opens a) (u1.condition a)
-      does_old a lt = subst (λ b. Performs_all G lv1 (G.births.name a) c1 t1 (u.births.opens a) b) (sym (ap (λ f. cond f (at_number a (a - P)) (cond (i == a) (sys.Joins n left_it) (u.condition a))) (old u.births n a lt)))
+      does_old a lt = subst (λ b. Performs_all G lv1 (G.births.name a) c1 t1 (u.births.opens a) b)
+          (sym (ap (λ f. cond f (at_number a (a - P)) (cond (i == a) (sys.Joins n left_it) (u.condition a)))
+          (old u.births n a lt)))
           (⊎_elim
-          (λ (e : i ≡ a). subst (λ b. Performs_all G lv1 (G.births.name b) c1 t1 (u.births.opens b) (cond (i == b) (sys.Joins n left_it) (u.condition b))) e
-          (subst (λ b. Performs_all G lv1 v c1 t1 (u.births.opens i) b) (sym (ap (λ f. cond f (sys.Joins n left_it) (u.condition i)) (eq-eqb i i refl))) parent_does))
-          (λ (e : i ≢ a). subst (λ b. Performs_all G lv1 (G.births.name a) c1 t1 (u.births.opens a) b) (sym (ap (λ f. cond f (sys.Joins n left_it) (u.condition a)) (ne_eqb i a e))) (does_other a lt e))
+          (λ (e : i ≡ a). subst (λ b. Performs_all G lv1 (G.births.name b) c1 t1 (u.births.opens b)
+          (cond (i == b) (sys.Joins n left_it) (u.condition b))) e
+          (subst (λ b. Performs_all G lv1 v c1 t1 (u.births.opens i) b)
+          (sym (ap (λ f. cond f (sys.Joins n left_it) (u.condition i)) (eq-eqb i i refl))) parent_does))
+          (λ (e : i ≢ a). subst (λ b. Performs_all G lv1 (G.births.name a) c1 t1 (u.births.opens a) b)
+          (sym (ap (λ f. cond f (sys.Joins n left_it) (u.condition a)) (ne_eqb i a e))) (does_other a lt e))
           (number_or G lv c s u l i d at_i i a))
 
-      does_new : (j : ℕ) → j < n → Performs_all G lv1 (G.births.name (P + j)) c1 t1 (b1.opens (P + j)) (u1.condition (P + j))
-      does_new j lt = subst (λ b. Performs_all G lv1 b c1 t1 (u.births.opens (P + j)) (u1.condition (P + j))) (sym (name_child j lt))
+      does_new : (j : ℕ) → j < n → Performs_all G lv1 (G.births.name (P + j)) c1 t1 (b1.opens (P + j))
+          (u1.condition (P + j))
+      does_new j lt = subst (λ b. Performs_all G lv1 b c1 t1 (u.births.opens (P + j)) (u1.condition (P + j)))
+          (sym (name_child j lt))
           (subst (λ b. Performs_all G lv1 ((k, j) ∷ v) c1 t1 (u.births.opens (P + j)) b)
-          (sym (ap (λ f. cond f (at_number (P + j) ((P + j) - P)) (cond (i == P + j) (sys.Joins n left_it) (u.condition (P + j)))) (next_number u.births n j lt) ∙ ap (λ b. at_number (P + j) b) (minus j))) (child_does j lt))
+          (sym (ap (λ f. cond f (at_number (P + j) ((P + j) - P))
+          (cond (i == P + j) (sys.Joins n left_it) (u.condition (P + j)))) (next_number u.births n j lt)
+          ∙ ap (λ b. at_number (P + j) b) (minus j))) (child_does j lt))
 
       back : (a : ℕ) → P ≤ a → P + (a - P) ≡ a
       back a le = omega (arith, le)
 
       does_all : (a : ℕ) → a < P + n → Performs_all G lv1 (G.births.name a) c1 t1 (b1.opens a) (u1.condition a)
-      does_all a lt = ⊎_elim (λ (h : a < P). does_old a h) (λ (h : P ≤ a). subst (λ b. Performs_all G lv1 (G.births.name b) c1 t1 (b1.opens b) (u1.condition b)) (back a h) (does_new (a - P) (omega (arith, h, lt)))) (cases_lt a P)
+      does_all a lt = ⊎_elim (λ (h : a < P). does_old a h)
+          (λ (h : P ≤ a). subst (λ b. Performs_all G lv1 (G.births.name b) c1 t1 (b1.opens b) (u1.condition b))
+          (back a h) (does_new (a - P) (omega (arith, h, lt)))) (cases_lt a P)
 
       beyond : (a : ℕ) → P + n ≤ a → is_next u.births n a ≡ false
       beyond a le = ap (λ f. nat_le P a && f) (not_less a (P + n) le) ∙ and_with_false (nat_le P a)
@@ -542,17 +704,26 @@ module _ (G : Ground) (lv : Lives G) (c : Course) (s : StateOf G.g) (u : System 
       not_i a le e = let b = here G lv c s u l i d at_i in omega (arith, b, le, e)
 
       child_forks : (j : ℕ) → j < n → x.at.forks ((k, j) ∷ v) ≡ 0
-      child_forks j lt = subst (λ b. Holds G.g.program (W_of G lv) (R_of G lv) x.at.forks ((k, j) ∷ v) b) (x.elsewhere.condition ((k, j) ∷ v) (λ e. no_child j (sym e)) ∙ unborn j) (rights_then.holds ((k, j) ∷ v))
+      child_forks j lt = subst (λ b. Holds G.g.program (W_of G lv) (R_of G lv) x.at.forks ((k, j) ∷ v) b)
+          (x.elsewhere.condition ((k, j) ∷ v) (λ e. no_child j (sym e)) ∙ unborn j) (rights_then.holds ((k, j) ∷ v))
 
       forks_old : (a : ℕ) → a < P → t1.forks (G.births.name a) ≡ b1.forks a
       forks_old a lt = ⊎_elim
-          (λ (e : i ≡ a). subst (λ b. t1.forks (G.births.name b) ≡ b1.forks b) e (at_same name_test x.at.forks v (k + 1) ∙ ap (λ b. b + 1) (sym forks_here) ∙ sym (ap (λ f. cond f (u.births.forks i + 1) (u.births.forks i)) (eq-eqb i i refl))))
-          (λ (e : i ≢ a). at_other name_test x.at.forks v (G.births.name a) (k + 1) (λ h. e (G.one_name i a (few i (here G lv c s u l i d at_i)) (few a lt) h)) ∙ ap (λ b. b (G.births.name a)) x.elsewhere.forks ∙ l.forks a lt ∙ sym (ap (λ f. cond f (u.births.forks i + 1) (u.births.forks a)) (ne_eqb i a e)))
+          (λ (e : i ≡ a). subst (λ b. t1.forks (G.births.name b) ≡ b1.forks b) e
+          (at_same name_test x.at.forks v (k + 1) ∙ ap (λ b. b + 1) (sym forks_here)
+          ∙ sym (ap (λ f. cond f (u.births.forks i + 1) (u.births.forks i)) (eq-eqb i i refl))))
+          (λ (e : i ≢ a). at_other name_test x.at.forks v (G.births.name a) (k + 1)
+          (λ h. e (G.one_name i a (few i (here G lv c s u l i d at_i)) (few a lt) h))
+          ∙ ap (λ b. b (G.births.name a)) x.elsewhere.forks ∙ l.forks a lt
+          ∙ sym (ap (λ f. cond f (u.births.forks i + 1) (u.births.forks a)) (ne_eqb i a e)))
           (number_or G lv c s u l i d at_i i a)
 
       forks_new : (j : ℕ) → j < n → t1.forks (G.births.name (P + j)) ≡ b1.forks (P + j)
-      forks_new j lt = ap (λ b. t1.forks b) (name_child j lt) ∙ at_other name_test x.at.forks v ((k, j) ∷ v) (k + 1) (no_child j) ∙ child_forks j lt ∙ sym (l.unmade (P + j) (omega arith)).0
-          ∙ sym (ap (λ f. cond f (u.births.forks i + 1) (u.births.forks (P + j))) (ne_eqb i (P + j) (not_i (P + j) (omega arith))))
+      forks_new j lt = ap (λ b. t1.forks b) (name_child j lt)
+          ∙ at_other name_test x.at.forks v ((k, j) ∷ v) (k + 1) (no_child j) ∙ child_forks j lt
+          ∙ sym (l.unmade (P + j) (omega arith)).0
+          ∙ sym (ap (λ f. cond f (u.births.forks i + 1) (u.births.forks (P + j)))
+          (ne_eqb i (P + j) (not_i (P + j) (omega arith))))
 
       linked : Linked G lv1 c1 t1 u1
       linked = record {
@@ -561,24 +732,43 @@ module _ (G : Ground) (lv : Lives G) (c : Course) (s : StateOf G.g) (u : System 
         reads_output = l.reads_output;
         began = began;
         open_is = l.open_is;
-        forks = λ a lt. ⊎_elim (λ (h : a < P). forks_old a h) (λ (h : P ≤ a). subst (λ b. t1.forks (G.births.name b) ≡ b1.forks b) (back a h) (forks_new (a - P) (omega (arith, h, lt)))) (cases_lt a P);
-        processes = (let a = ap (λ (b : Totals). b.processes) x.elsewhere.totals in let b = l.processes in let e = os_length in omega (arith, a, b, e));
-        channels = (let a = ap (λ (b : Totals). b.channels) x.elsewhere.totals in let b = l.channels in omega (arith, a, b));
-        entries = (let a = ap (λ (b : Totals). b.entries) x.elsewhere.totals in let b = l.entries in omega (arith, a, b));
-        fresh_since = λ a e. ⊎_elim (λ (b : a ≡ v). absurd (no_join (sym cond_v ∙ subst (λ k. t1.condition k ≡ Absent) b e)))
-            (λ (b : a ≢ v). ⊎_elim (λ (h : (j : ℕ) × (j < n) × (a ≡ (k, j) ∷ v)). absurd (let p = at_place h.0 h.1 in no_work (newborn x.left.who o h.0 p.0) (sym (cond_child h.0 p.0 p.1) ∙ subst (λ k. t1.condition k ≡ Absent) h.2 e)))
-            (λ h. since_other a b ∙ l.fresh_since a (sym (cond_r a b h) ∙ e)) (child_or_not a)) (same_or_not name_test a v);
-        pending = λ a lt. subst (λ b. Rattle.sp_link.proofs.Relation.IsPending G (b (channel G.births a)) (u.pending a)) (sym x.elsewhere.pending) (l.pending a lt);
+        forks = λ a lt. ⊎_elim (λ (h : a < P). forks_old a h)
+            (λ (h : P ≤ a). subst (λ b. t1.forks (G.births.name b) ≡ b1.forks b) (back a h)
+            (forks_new (a - P) (omega (arith, h, lt)))) (cases_lt a P);
+        processes = (let a = ap (λ (b : Totals). b.processes) x.elsewhere.totals in let b = l.processes in
+            let e = os_length in omega (arith, a, b, e));
+        channels = (let a = ap (λ (b : Totals). b.channels) x.elsewhere.totals in let b = l.channels in
+            omega (arith, a, b));
+        entries = (let a = ap (λ (b : Totals). b.entries) x.elsewhere.totals in let b = l.entries in
+            omega (arith, a, b));
+        fresh_since = λ a e. ⊎_elim (λ (b : a ≡ v). absurd
+            (no_join (sym cond_v ∙ subst (λ k. t1.condition k ≡ Absent) b e)))
+            (λ (b : a ≢ v). ⊎_elim (λ (h : (j : ℕ) × (j < n) × (a ≡ (k, j) ∷ v)). absurd
+            (let p = at_place h.0 h.1 in
+            no_work (newborn x.left.who o h.0 p.0)
+            (sym (cond_child h.0 p.0 p.1) ∙ subst (λ k. t1.condition k ≡ Absent) h.2 e)))
+            (λ h. since_other a b ∙ l.fresh_since a (sym (cond_r a b h) ∙ e)) (child_or_not a))
+            (same_or_not name_test a v);
+        pending = λ a lt. subst (λ b. Rattle.sp_link.proofs.Relation.IsPending G (b (channel G.births a)) (u.pending a))
+            (sym x.elsewhere.pending) (l.pending a lt);
         none_pending = l.none_pending;
         faulted = l.faulted;
         quiet = λ e. x.elsewhere.fault ∙ l.quiet e;
         unlaid = l.unlaid;
         does = does_all;
-        unborn = λ a le. ap (λ f. cond f (at_number a (a - P)) (cond (i == a) (sys.Joins n left_it) (u.condition a))) (beyond a le) ∙ ap (λ f. cond f (sys.Joins n left_it) (u.condition a)) (ne_eqb i a (not_i a (omega (arith, le)))) ∙ l.unborn a (omega (arith, le));
-        unmade = λ a le. (ap (λ f. cond f (u.births.forks i + 1) (u.births.forks a)) (ne_eqb i a (not_i a (omega (arith, le)))) ∙ (l.unmade a (omega (arith, le))).0, (l.unmade a (omega (arith, le))).1);
+        unborn = λ a le. ap (λ f. cond f (at_number a (a - P)) (cond (i == a) (sys.Joins n left_it) (u.condition a)))
+            (beyond a le) ∙ ap (λ f. cond f (sys.Joins n left_it) (u.condition a))
+            (ne_eqb i a (not_i a (omega (arith, le)))) ∙ l.unborn a (omega (arith, le));
+        unmade = λ a le. (
+          ap (λ f. cond f (u.births.forks i + 1) (u.births.forks a))
+              (ne_eqb i a (not_i a (omega (arith, le)))) ∙ (l.unmade a (omega (arith, le))).0,
+          (l.unmade a (omega (arith, le))).1,
+        );
         numbered = λ a h. ⊎_elim (λ (e : a ≡ v). (i, (let b = here G lv c s u l i d at_i in omega (arith, b)), sym e))
-            (λ (e : a ≢ v). ⊎_elim (λ (g : (j : ℕ) × (j < n) × (a ≡ (k, j) ∷ v)). (P + g.0, (let b = g.1 in omega (arith, b)), name_child g.0 g.1 ∙ sym g.2))
-            (λ g. (let w = l.numbered a (λ f. h (cond_r a e g ∙ f)) in (w.0, (let b = w.1 in omega (arith, b)), w.2))) (child_or_not a)) (same_or_not name_test a v);
+            (λ (e : a ≢ v). ⊎_elim (λ (g : (j : ℕ) × (j < n) × (a ≡ (k, j) ∷ v)).
+            (P + g.0, (let b = g.1 in omega (arith, b)), name_child g.0 g.1 ∙ sym g.2))
+            (λ g. (let w = l.numbered a (λ f. h (cond_r a e g ∙ f)) in (w.0, (let b = w.1 in omega (arith, b)), w.2)))
+            (child_or_not a)) (same_or_not name_test a v);
       }
         where
           no_join : ◌≡◌ {A = Condition Process Held Address} (Joins k (length os) goes_on) Absent → ⊥
@@ -594,7 +784,9 @@ module _ (G : Ground) (lv : Lives G) (c : Course) (s : StateOf G.g) (u : System 
       way = way_by _ (sym told);
       speaks = subst (λ f. IsOpen u.births f) (sym event_is) tt;
       lives = lv1;
-      linked = λ began. now_by G lv1 c1 t1 (after plain (run_is G) i tn u) (subst (λ a. Linked G lv1 c1 t1 a) (sym after_is) (linked (subst (λ (a : System Plain). Began G a.births) after_is began)));
+      linked = λ began. now_by G lv1 c1 t1 (after plain (run_is G) i tn u)
+          (subst (λ a. Linked G lv1 c1 t1 a) (sym after_is)
+          (linked (subst (λ (a : System Plain). Began G a.births) after_is began)));
     }
       where
         told : happening u.births (event_of G.g.limits u tn) ≡ says_now
@@ -610,5 +802,6 @@ module _ (G : Ground) (lv : Lives G) (c : Course) (s : StateOf G.g) (u : System 
           cost = 1;
           course = c1;
           state = t1;
-          enters = λ left n a. subst (λ f. Entered G.g left c x.at false v f (1 + n)) h (l.faulted ∙ quiet, refl, t1, n, one-add n, (x.left, x.runs, said_now, goes_next), a);
+          enters = λ left n a. subst (λ f. Entered G.g left c x.at false v f (1 + n)) h
+              (l.faulted ∙ quiet, refl, t1, n, one-add n, (x.left, x.runs, said_now, goes_next), a);
         }

@@ -1,6 +1,7 @@
 -- What each front of a journal that can be named has given to processes and channels is a beginning of what the whole
 -- gives (`all_began`). The relation speaks of the whole journal's names; this leads from them to those of a front.
-use Rattle.std.proofs.Common.{◌≡◌, ℕ, ◌+◌, ◌<◌, ◌≤◌, ◌==◌, List, [], ◌∷◌, Bool, true, false, ◌&&◌, cond, eqb-true, refl, sym, ap, ◌∙◌, subst, arith}
+use Rattle.std.proofs.Common.{◌≡◌, ℕ, ◌+◌, ◌<◌, ◌≤◌, ◌==◌, List, [], ◌∷◌, Bool, true, false, ◌&&◌, cond, eqb-true, refl}
+use Rattle.std.proofs.Common.{sym, ap, ◌∙◌, subst, arith}
 use Rattle.std.specs.Prelude.{nat_le, nat_lt, ◌-◌}
 use Rattle.sp_journal.specs.declared.entry.Event.{Event}
 use Rattle.sp_journal.specs.declared.entry.Event.TheVariants as event
@@ -40,19 +41,23 @@ grows_event b p (event.Fork n) w = record {
   processes = omega arith;
   channels = omega arith;
   names = λ i l. sym (name_old i l);
-  openings = λ j l. ap (λ x. record { owner = x; nth = (b.opening j).nth }) (sym (name_old (b.opening j).owner (w.owned j l)));
+  openings = λ j l. ap (λ x. record { owner = x; nth = (b.opening j).nth })
+      (sym (name_old (b.opening j).owner (w.owned j l)));
 }
   where
-    name_old : (i : ℕ) → i < b.processes → cond (is_next b n i) ((b.forks p, i - b.processes) ∷ b.name p) (b.name i) ≡ b.name i
+    name_old : (i : ℕ) → i < b.processes → cond (is_next b n i) ((b.forks p, i - b.processes) ∷ b.name p) (b.name i)
+        ≡ b.name i
     name_old i l = ap (λ x. cond x ((b.forks p, i - b.processes) ∷ b.name p) (b.name i)) (old b n i l)
 grows_event b p event.Open w = record {
   processes = omega arith;
   channels = omega arith;
   names = λ i l. refl;
-  openings = λ j l. ap (λ (x : Opening). record { owner = b.name x.owner; nth = x.nth }) (sym (by (b.channels == j) refl l));
+  openings = λ j l. ap (λ (x : Opening). record { owner = b.name x.owner; nth = x.nth })
+      (sym (by (b.channels == j) refl l));
 }
   where
-    by : {j : ℕ} (x : Bool) → b.channels == j ≡ x → j < b.channels → cond (b.channels == j) (record { owner = p; nth = b.opens p }) (b.opening j) ≡ b.opening j
+    by : {j : ℕ} (x : Bool) → b.channels == j ≡ x → j < b.channels
+        → cond (b.channels == j) (record { owner = p; nth = b.opens p }) (b.opening j) ≡ b.opening j
     by {j} true e l = let h : b.channels ≡ j = eqb-true b.channels j e in absurd (omega (arith, h, l))
     by {j} false e l = ap (λ x. cond x (record { owner = p; nth = b.opens p }) (b.opening j)) e
 grows_event b p (event.Send c) w = grows_same b
@@ -64,7 +69,9 @@ grows_event b p event.Pause w = grows_same b
 
 pub grows_from : (es : List Entry) (b : Births) → Lawful b → NameableFrom b es → Grows b (births_from b es)
 grows_from [] b w n = grows_same b
-grows_from (e ∷ es) b w n = grows_on b (after_event b e.process e.event) (births_from (after_event b e.process e.event) es) (grows_event b e.process e.event w) (grows_from es (after_event b e.process e.event) (lawful_after b e w n.0) n.1)
+grows_from (e ∷ es) b w n = grows_on b (after_event b e.process e.event)
+    (births_from (after_event b e.process e.event) es) (grows_event b e.process e.event w)
+    (grows_from es (after_event b e.process e.event) (lawful_after b e w n.0) n.1)
 
 module _ (G : Ground) where
   pub began : (b : Births) → Lawful b → Grows b G.births → Began G b
@@ -78,8 +85,13 @@ module _ (G : Ground) where
   }
 
   -- each front of a nameable journal has begun
-  pub all_began : (es : List Entry) (b : Births) → Lawful b → NameableFrom b es → births_from b es ≡ G.births → AllBegan G b es
+  pub all_began : (es : List Entry) (b : Births) → Lawful b → NameableFrom b es → births_from b es ≡ G.births
+      → AllBegan G b es
   all_began [] b w n e = tt
   all_began (x ∷ es) b w n e =
-      let d = lawful_after b x w n.0 in
-      (began (after_event b x.process x.event) d (subst (λ y. Grows (after_event b x.process x.event) y) e (grows_from es (after_event b x.process x.event) d n.1)), all_began es (after_event b x.process x.event) d n.1 e)
+      let d = lawful_after b x w n.0 in (
+        began (after_event b x.process x.event) d
+            (subst (λ y. Grows (after_event b x.process x.event) y) e
+            (grows_from es (after_event b x.process x.event) d n.1)),
+        all_began es (after_event b x.process x.event) d n.1 e,
+      )

@@ -1,6 +1,7 @@
 -- A legal history of the kernel over a program's code ends as the program does along its journal: what the control of
 -- its notes tells of the end is so of the program.
-use Rattle.std.proofs.Common.{◌≡◌, ◌⊎◌, inl, inr, ℕ, ◌-◌, ◌==◌, List, [], ◌∷◌, Option, Some, None, Bool, true, false, cond, if◌then◌else◌, ◌||◌, refl, sym, ap, ◌∙◌, subst, arith}
+use Rattle.std.proofs.Common.{◌≡◌, ◌⊎◌, inl, inr, ℕ, ◌-◌, ◌==◌, List, [], ◌∷◌, Option, Some, None, Bool, true, false}
+use Rattle.std.proofs.Common.{cond, if◌then◌else◌, ◌||◌, refl, sym, ap, ◌∙◌, subst, arith}
 use Rattle.std.specs.Prelude.{◌≢◌, nat_lt}
 use Rattle.std.proofs.lemmas.Bool.{or_parts}
 use Rattle.std.proofs.lemmas.Option.{none-some, same_Some}
@@ -24,16 +25,21 @@ use Rattle.sp_meaning.specs.Own.{Setting}
 use Rattle.sp_meaning.specs.Runs.{StateOf, output_of}
 use Rattle.sp_meaning.specs.Along.{IsAlong}
 use Rattle.sp_meaning.specs.Ends.{Waiting, IsDone, IsDeadlock, EndIs}
-use Rattle.sp_code.specs.Control.{Control, Doing, Unborn, Ready, Out, Sending, Receiving, Joining, Laid, Ended, Gone, queues, offers, does, one_fewer, reports, happens, comes_back, abandons, takes, given, noted, noted_all, control, control_at_start, Standing, Running, IsMemory, IsFault, has_ended, is_ready, standing, entries_of}
+use Rattle.sp_code.specs.Control.{Control, Doing, Unborn, Ready, Out, Sending, Receiving, Joining, Laid, Ended, Gone}
+use Rattle.sp_code.specs.Control.{queues, offers, does, one_fewer, reports, happens, comes_back, abandons, takes, given}
+use Rattle.sp_code.specs.Control.{noted, noted_all, control, control_at_start, Standing, Running, IsMemory, IsFault}
+use Rattle.sp_code.specs.Control.{has_ended, is_ready, standing, entries_of}
 use Rattle.sp_code.specs.Control as ctrl
 use Rattle.sp_code.specs.Machine.{Stop, Forks, Opens, Sends, Receives, Ends, Pauses, Config}
 use Rattle.sp_code.specs.Emitted.{program_code}
 use Rattle.sp_code.specs.Memory.{Memory}
 use Rattle.sp_code.specs.Memory as memory
 use Rattle.sp_code.specs.PlainStore.{plain}
-use Rattle.sp_code.specs.System.{System, Condition, Absent, Working, Waits, Joins, Laid as IsLaid, Gone as HasGone, Over, IsSystem, Leads, OutputIs, store_in, opening}
+use Rattle.sp_code.specs.System.{System, Condition, Absent, Working, Waits, Joins, Laid as IsLaid, Gone as HasGone}
+use Rattle.sp_code.specs.System.{Over, IsSystem, Leads, OutputIs, store_in, opening}
 use Rattle.sp_codegen.specs.Meets.{code_run}
-use Rattle.sp_history.specs.Agreement.{ToSend, ToReceive, Finished, phase, phase_in, IsOrderly, Agrees, HasOuts, Reaches}
+use Rattle.sp_history.specs.Agreement.{ToSend, ToReceive, Finished, phase, phase_in, IsOrderly, Agrees, HasOuts}
+use Rattle.sp_history.specs.Agreement.{Reaches}
 use Rattle.sp_history.proofs.Agreeing.{orderly_start, agrees_start}
 use Rattle.sp_history.proofs.Holders.{one_holder}
 use Rattle.sp_history.proofs.Legal.{reaches_leads, reaches_keeps}
@@ -83,9 +89,14 @@ reporting (Some b) p k =
     let w = fewer b.parent ((does p Ended k).doing b.parent) (does p Ended k) in
     record { none = λ h. w.none (set p Ended k.doing (λ e. cc e) h); same = w.same }
 
-offering : (w : Way) (d : Doing) (p c : ℕ) (o : Option (Way × ℕ)) (k : Control) → d ≢ Gone → Keeps_all k (offers w d p c o k)
+offering : (w : Way) (d : Doing) (p c : ℕ) (o : Option (Way × ℕ)) (k : Control) → d ≢ Gone
+    → Keeps_all k (offers w d p c o k)
 offering w d p c None k n = record { none = λ h. set p d k.doing n h; same = refl }
-offering w d p c (Some z) k n = record { none = λ h. set p Ready (at_key ◌==◌ z.1 Ready k.doing) (λ e. cc e) (set z.1 Ready k.doing (λ e. cc e) h); same = refl }
+offering w d p c (Some z) k n = record {
+  none =
+      λ h. set p Ready (at_key ◌==◌ z.1 Ready k.doing) (λ e. cc e) (set z.1 Ready k.doing (λ e. cc e) h);
+  same = refl;
+}
 
 happening : (p : ℕ) (e : Event) (k : Control) → Keeps_all k (happens p e k)
 happening p (event.Fork n) k = record { none = λ h q. by h q (is_next k.births n q) (p == q); same = refl }
@@ -113,7 +124,8 @@ giving_up : (o : Option ℕ) (k : Control) → Unless_given_up (abandons o k)
 giving_up None k = λ e. absurd (omega (arith, e))
 giving_up (Some p) k = λ e. absurd (omega (arith, e))
 
-giving : (p : Option ℕ) (e : Option Event) (got : Option ℕ) (k : Control) → Unless_given_up k → Unless_given_up (given p e got k)
+giving : (p : Option ℕ) (e : Option Event) (got : Option ℕ) (k : Control) → Unless_given_up k
+    → Unless_given_up (given p e got k)
 giving (Some p) (Some e) got k h = λ r. (let w = happening p e k in w.none (h (sym w.same ∙ r)))
 giving None (Some e) got k h = h
 giving None None None k h = giving_up None k
@@ -123,7 +135,8 @@ giving (Some p) None (Some q) k h = h
 
 all_notes : (ns : List Note) (k : Control) → Unless_given_up k → Unless_given_up (noted_all ns k)
 all_notes [] k h = h
-all_notes (n ∷ ns) k h = all_notes ns (noted n k) (taking n.worker n.got (given n.given n.event n.got k) (giving n.given n.event n.got k h))
+all_notes (n ∷ ns) k h = all_notes ns (noted n k)
+    (taking n.worker n.got (given n.given n.event n.got k) (giving n.given n.event n.got k h))
 
 none_gone : (ns : List Note) → (control ns).abandons ≡ 0 → (q : ℕ) → (control ns).doing q ≢ Gone
 none_gone ns = all_notes ns control_at_start (λ e q. by q (q == 0))
@@ -135,7 +148,8 @@ none_gone ns = all_notes ns control_at_start (λ e q. by q (q == 0))
 -- ---- how the control stands
 
 abbrev Stand : (gave faulted ended going : Bool) → Standing
-Stand a f e r = if a then IsMemory else (if f then IsFault else (if e then ctrl.IsDone else (if r then Running else ctrl.IsDeadlock)))
+Stand a f e r = if a then IsMemory else (if f then IsFault else
+    (if e then ctrl.IsDone else (if r then Running else ctrl.IsDeadlock)))
 
 stands_done : (a f e r : Bool) → Stand a f e r ≡ ctrl.IsDone → (a ≡ false) × (f ≡ false) × (e ≡ true)
 stands_done true f e r h = absurd (cc h)
@@ -144,7 +158,8 @@ stands_done false false true r h = (refl, refl, refl)
 stands_done false false false true h = absurd (cc h)
 stands_done false false false false h = absurd (cc h)
 
-stands_deadlock : (a f e r : Bool) → Stand a f e r ≡ ctrl.IsDeadlock → (a ≡ false) × (f ≡ false) × (e ≡ false) × (r ≡ false)
+stands_deadlock : (a f e r : Bool) → Stand a f e r ≡ ctrl.IsDeadlock → (a ≡ false) × (f ≡ false) × (e ≡ false)
+    × (r ≡ false)
 stands_deadlock true f e r h = absurd (cc h)
 stands_deadlock false true e r h = absurd (cc h)
 stands_deadlock false false true r h = absurd (cc h)
@@ -191,7 +206,8 @@ Waits_with b i X w = (stop : Stop) × (d : Config (Memory Plain)) × (X ≡ Wait
 to_send : (b : Births) (i c : ℕ) (X : Condition Plain) → ToSend c ≡ phase_in X → Waits_with b i X (Sends_at b i c)
 to_send b i c Absent e = absurd (cc e)
 to_send b i c (Working d) e = absurd (cc e)
-to_send b i c (Waits (Sends c1 k cs) d) e = let same : c1 ≡ c = cc e in (Sends c1 k cs, d, refl, ap (λ y. Some (Sends_at b i y)) same)
+to_send b i c (Waits (Sends c1 k cs) d) e = let same : c1 ≡ c = cc e in
+    (Sends c1 k cs, d, refl, ap (λ y. Some (Sends_at b i y)) same)
 to_send b i c (Waits (Receives c1 k a) d) e = absurd (cc e)
 to_send b i c (Waits (Forks t v n) d) e = absurd (cc e)
 to_send b i c (Waits (Opens a) d) e = absurd (cc e)
@@ -202,11 +218,13 @@ to_send b i c (IsLaid d) e = absurd (cc e)
 to_send b i c HasGone e = absurd (cc e)
 to_send b i c (Over d) e = absurd (cc e)
 
-to_receive : (b : Births) (i c : ℕ) (X : Condition Plain) → ToReceive c ≡ phase_in X → Waits_with b i X (Receives_at b i c)
+to_receive : (b : Births) (i c : ℕ) (X : Condition Plain) → ToReceive c ≡ phase_in X
+    → Waits_with b i X (Receives_at b i c)
 to_receive b i c Absent e = absurd (cc e)
 to_receive b i c (Working d) e = absurd (cc e)
 to_receive b i c (Waits (Sends c1 k cs) d) e = absurd (cc e)
-to_receive b i c (Waits (Receives c1 k a) d) e = let same : c1 ≡ c = cc e in (Receives c1 k a, d, refl, ap (λ y. Some (Receives_at b i y)) same)
+to_receive b i c (Waits (Receives c1 k a) d) e = let same : c1 ≡ c = cc e in
+    (Receives c1 k a, d, refl, ap (λ y. Some (Receives_at b i y)) same)
 to_receive b i c (Waits (Forks t v n) d) e = absurd (cc e)
 to_receive b i c (Waits (Opens a) d) e = absurd (cc e)
 to_receive b i c (Waits Ends d) e = absurd (cc e)
@@ -242,9 +260,24 @@ module _ (k : Control) (t : System Plain) (a : Agrees k t) where
   control_waits : (w : Waiting) → IsWaiting k w → WaitsAs t w
   control_waits w h = by h.2
     where
-      by : ((k.doing h.0 ≡ Sending h.1) × (w ≡ Sends_at k.births h.0 h.1)) ⊎ ((k.doing h.0 ≡ Receiving h.1) × (w ≡ Receives_at k.births h.0 h.1)) → WaitsAs t w
-      by (inl x) = let z = to_send t.births h.0 h.1 (t.condition h.0) (sym (ap phase x.0) ∙ a.each h.0) in (h.0, z.0, z.1, z.2, z.3 ∙ ap (λ (y : Births). Some (Sends_at y h.0 h.1)) (sym a.births) ∙ ap (λ y. Some y) (sym x.1))
-      by (inr x) = let z = to_receive t.births h.0 h.1 (t.condition h.0) (sym (ap phase x.0) ∙ a.each h.0) in (h.0, z.0, z.1, z.2, z.3 ∙ ap (λ (y : Births). Some (Receives_at y h.0 h.1)) (sym a.births) ∙ ap (λ y. Some y) (sym x.1))
+      by : ((k.doing h.0 ≡ Sending h.1) × (w ≡ Sends_at k.births h.0 h.1))
+          ⊎ ((k.doing h.0 ≡ Receiving h.1) × (w ≡ Receives_at k.births h.0 h.1)) → WaitsAs t w
+      by (inl x) = let z = to_send t.births h.0 h.1 (t.condition h.0) (sym (ap phase x.0) ∙ a.each h.0) in (
+        h.0,
+        z.0,
+        z.1,
+        z.2,
+        z.3 ∙ ap (λ (y : Births). Some (Sends_at y h.0 h.1)) (sym a.births)
+            ∙ ap (λ y. Some y) (sym x.1),
+      )
+      by (inr x) = let z = to_receive t.births h.0 h.1 (t.condition h.0) (sym (ap phase x.0) ∙ a.each h.0) in (
+        h.0,
+        z.0,
+        z.1,
+        z.2,
+        z.3 ∙ ap (λ (y : Births). Some (Receives_at y h.0 h.1)) (sym a.births)
+            ∙ ap (λ y. Some y) (sym x.1),
+      )
 
   system_waits : (w : Waiting) → WaitsAs t w → IsWaiting k w
   system_waits w h = by h.1 h.3 h.4
@@ -252,20 +285,38 @@ module _ (k : Control) (t : System Plain) (a : Agrees k t) where
       by : (stop : Stop) → t.condition h.0 ≡ Waits stop h.2 → waiting_at t.births h.0 stop ≡ Some w → IsWaiting k w
       by (Forks tb v n) e r = absurd (none-some _ r)
       by (Opens x) e r = absurd (none-some _ r)
-      by (Sends c m cs) e r = (h.0, c, inl (sending (k.doing h.0) c (a.each h.0 ∙ ap (λ y. phase_in y) e), sym (same_Some _ _ r) ∙ ap (λ (y : Births). Sends_at y h.0 c) (sym a.births)))
-      by (Receives c m x) e r = (h.0, c, inr (receiving (k.doing h.0) c (a.each h.0 ∙ ap (λ y. phase_in y) e), sym (same_Some _ _ r) ∙ ap (λ (y : Births). Receives_at y h.0 c) (sym a.births)))
+      by (Sends c m cs) e r = (
+        h.0,
+        c,
+        inl (
+          sending (k.doing h.0) c (a.each h.0 ∙ ap (λ y. phase_in y) e),
+          sym (same_Some _ _ r) ∙ ap (λ (y : Births). Sends_at y h.0 c) (sym a.births),
+        ),
+      )
+      by (Receives c m x) e r = (
+        h.0,
+        c,
+        inr (
+          receiving (k.doing h.0) c (a.each h.0 ∙ ap (λ y. phase_in y) e),
+          sym (same_Some _ _ r)
+              ∙ ap (λ (y : Births). Receives_at y h.0 c) (sym a.births),
+        ),
+      )
       by Ends e r = absurd (none-some _ r)
       by Pauses e r = absurd (none-some _ r)
 
 -- ---- histories
 
 -- what the entries have given to a system is what they give
-births_are : (g : memory.Setting) (es : List Entry) (s t : System Plain) → Leads plain g s es t → t.births ≡ births_from s.births es
+births_are : (g : memory.Setting) (es : List Entry) (s t : System Plain) → Leads plain g s es t
+    → t.births ≡ births_from s.births es
 births_are g [] s t h = ap (λ (y : System Plain). y.births) h
 births_are g (e ∷ es) s t h =
-    births_are g es h.0 t h.2 ∙ ap (λ (y : System Plain). births_from y.births es) h.1.5 ∙ ap (λ y. births_from (after_event s.births e.process y) es) h.1.4
+    births_are g es h.0 t h.2 ∙ ap (λ (y : System Plain). births_from y.births es) h.1.5
+    ∙ ap (λ y. births_from (after_event s.births e.process y) es) h.1.4
 
-module _ (g : Setting) (moves shares : Stmt → List ℕ) (pause : ℕ) (ready : IsReady g moves shares) (ns : List Note) where
+module _ (g : Setting) (moves shares : Stmt → List ℕ) (pause : ℕ) (ready : IsReady g moves shares)
+    (ns : List Note) where
   abbrev run : memory.Setting
   run = code_run g (program_code g.program moves shares) pause
 
@@ -277,26 +328,33 @@ module _ (g : Setting) (moves shares : Stmt → List ℕ) (pause : ℕ) (ready :
     alike = reaches_keeps plain run control_at_start (opening plain run) t ns orderly_start (agrees_start plain run) r
 
     outs : HasOuts (control ns)
-    outs = outs_all plain run control_at_start (opening plain run) t ns orderly_start (agrees_start plain run) outs_start r
+    outs = outs_all plain run control_at_start (opening plain run) t ns orderly_start (agrees_start plain run)
+        outs_start r
 
     lawful : Lawful (control ns).births
-    lawful = subst (λ b. Lawful b) (sym (alike.1.births ∙ births_are run (entries_of ns) (opening plain run) t journal)) (lawful_births (entries_of ns) (names_on g moves shares pause ready (entries_of ns) t journal))
+    lawful = subst (λ b. Lawful b) (sym (alike.1.births ∙ births_are run (entries_of ns) (opening plain run) t journal))
+        (lawful_births (entries_of ns) (names_on g moves shares pause ready (entries_of ns) t journal))
 
     pub history_means : (n : ℕ) × (s : StateOf g) × IsAlong g pause (occurrences_from at_start (entries_of ns)) n s
-    history_means = program_means g moves shares pause ready (entries_of ns) (names_on g moves shares pause ready (entries_of ns) t journal) t journal
+    history_means = program_means g moves shares pause ready (entries_of ns)
+        (names_on g moves shares pause ready (entries_of ns) t journal) t journal
 
     module _ (n : ℕ) (s : StateOf g) (k : IsAlong g pause (occurrences_from at_start (entries_of ns)) n s) where
       pub history_output : OutputIs plain run t (output_of g s)
-      history_output = program_output g moves shares pause ready (entries_of ns) (names_on g moves shares pause ready (entries_of ns) t journal) t journal n s k
+      history_output = program_output g moves shares pause ready (entries_of ns)
+          (names_on g moves shares pause ready (entries_of ns) t journal) t journal n s k
 
       -- and whoever holds an output holds this one
-      pub history_held : (q : ℕ) (m : Plain) (bs : List ℕ) → store_in (t.condition q) ≡ Some m → plain.output m ≡ Some bs → bs ≡ output_of g s
+      pub history_held : (q : ℕ) (m : Plain) (bs : List ℕ) → store_in (t.condition q) ≡ Some m
+          → plain.output m ≡ Some bs → bs ≡ output_of g s
       history_held q m bs at out =
           let one = one_holder run t ns (λ es u l. program_well g moves shares pause ready es u l) r in
           let mine = history_output in
-          let holder : q ≡ mine.0 = one.2.only q m bs at out ∙ sym (one.2.only mine.0 mine.1 (output_of g s) mine.2 mine.3) in
+          let holder : q ≡ mine.0 = one.2.only q m bs at out
+          ∙ sym (one.2.only mine.0 mine.1 (output_of g s) mine.2 mine.3) in
           let store : Some m ≡ Some mine.1 = sym at ∙ ap (λ y. store_in (t.condition y)) holder ∙ mine.2 in
-          let outputs : Some bs ≡ Some (output_of g s) = sym out ∙ ap (λ y. plain.output y) (same_Some m mine.1 store) ∙ mine.3 in
+          let outputs : Some bs ≡ Some (output_of g s) = sym out ∙ ap (λ y. plain.output y) (same_Some m mine.1 store)
+          ∙ mine.3 in
           same_Some bs (output_of g s) outputs
 
       -- the first process has ended
@@ -318,18 +376,23 @@ module _ (g : Setting) (moves shares : Stmt → List ℕ) (pause : ℕ) (ready :
           by (Joins left d) x f = absurd (cc f)
           by (IsLaid d) x f = absurd (cc f)
           by HasGone x f = absurd (program_root g moves shares pause ready (entries_of ns) t journal n s k x)
-          by (Over d) x f = program_done g moves shares pause ready (entries_of ns) (names_on g moves shares pause ready (entries_of ns) t journal) t journal n s k d x
+          by (Over d) x f = program_done g moves shares pause ready (entries_of ns)
+              (names_on g moves shares pause ready (entries_of ns) t journal) t journal n s k d x
 
       pub history_done : standing (control ns) ≡ ctrl.IsDone → IsDone g s
       history_done e =
-          let w = stands_done (nat_lt 0 (control ns).abandons) (control ns).faulted (has_ended ((control ns).doing 0)) (is_ready (control ns).ready || nat_lt 0 (control ns).out) e in
+          let w = stands_done (nat_lt 0 (control ns).abandons) (control ns).faulted (has_ended ((control ns).doing 0))
+          (is_ready (control ns).ready || nat_lt 0 (control ns).out) e in
           over (sym (alike.1.each 0) ∙ ended_is ((control ns).doing 0) w.2)
 
-      pub history_deadlock : (ws : List Waiting) → standing (control ns) ≡ ctrl.IsDeadlock → AreAllWaiting (control ns) ws → IsDeadlock g s ws
+      pub history_deadlock : (ws : List Waiting) → standing (control ns) ≡ ctrl.IsDeadlock
+          → AreAllWaiting (control ns) ws → IsDeadlock g s ws
       history_deadlock ws e q =
-          let w = stands_deadlock (nat_lt 0 (control ns).abandons) (control ns).faulted (has_ended ((control ns).doing 0)) (is_ready (control ns).ready || nat_lt 0 (control ns).out) e in
+          let w = stands_deadlock (nat_lt 0 (control ns).abandons) (control ns).faulted
+          (has_ended ((control ns).doing 0)) (is_ready (control ns).ready || nat_lt 0 (control ns).out) e in
           let v = or_parts (is_ready (control ns).ready) (nat_lt 0 (control ns).out) w.3 in
-          let still = nobody_runs (control ns) t alike.0 alike.1 outs (no_queue (control ns).ready v.0) (none_if_not_above (control ns).out v.1) (none_gone ns (none_if_not_above (control ns).abandons w.0)) in
+          let still = nobody_runs (control ns) t alike.0 alike.1 outs (no_queue (control ns).ready v.0)
+          (none_if_not_above (control ns).out v.1) (none_gone ns (none_if_not_above (control ns).abandons w.0)) in
           program_stuck g moves shares pause ready (entries_of ns) t journal n s k ws (record {
             quiet = sym alike.1.faulted ∙ w.1;
             idle = λ i d x. still i (ap (λ y. phase_in y) x);
@@ -342,6 +405,11 @@ module _ (g : Setting) (moves shares : Stmt → List ℕ) (pause : ℕ) (ready :
       -- each end of the history is one of the program
       pub history_ends : (e : End) → StandsAt ns e → EndIs g s e
       history_ends end.Done h = history_done h
-      history_ends (end.Deadlock ws) h = let z = all_waiting (control ns) lawful alike.0.unborn ws h.1.all h.1.sorted in (z.0, history_deadlock z.0 h.0 z.1, z.2)
-      history_ends (end.Fault name f) h = ((births_from at_start (entries_of ns)).name h.1.0, program_fault g moves shares pause ready (entries_of ns) t journal n s k h.1.0 f h.1.1, h.1.2)
+      history_ends (end.Deadlock ws) h = let z = all_waiting (control ns) lawful alike.0.unborn ws h.1.all h.1.sorted in
+          (z.0, history_deadlock z.0 h.0 z.1, z.2)
+      history_ends (end.Fault name f) h = (
+        (births_from at_start (entries_of ns)).name h.1.0,
+        program_fault g moves shares pause ready (entries_of ns) t journal n s k h.1.0 f h.1.1,
+        h.1.2,
+      )
       history_ends end.Memory h = absurd h

@@ -1,7 +1,8 @@
 -- Along a journal: where each entry keeps the relation, the meaning goes along the journal as the system does.
 -- `OneEntry` is what one entry has to give, `goes_along` the induction; `Now` is the relation with the channels that
 -- are open after so many entries.
-use Rattle.std.proofs.Common.{◌≡◌, ◌⊎◌, inl, inr, ⊎_elim, ℕ, zero, suc, ◌+◌, ◌<◌, ◌≤◌, List, [], ◌∷◌, Bool, false, refl, sym, ap, ◌∙◌, subst, arith}
+use Rattle.std.proofs.Common.{◌≡◌, ◌⊎◌, inl, inr, ⊎_elim, ℕ, zero, suc, ◌+◌, ◌<◌, ◌≤◌, List, [], ◌∷◌, Bool, false, refl}
+use Rattle.std.proofs.Common.{sym, ap, ◌∙◌, subst, arith}
 use Rattle.std.specs.Prelude.{◌≢◌}
 use Rattle.std.proofs.lemmas.Bool.{cases_lt}
 use Rattle.sp_journal.specs.declared.entry.Event.{Event}
@@ -30,7 +31,8 @@ pub record Way_by (g : Setting) (pause : ℕ) (c : Course) (s : StateOf g) (q : 
   pub cost : ℕ
   pub course : Course
   pub state : StateOf g
-  pub enters : (left : Course → StateOf g → ℕ → Type 0) (n : ℕ) → left course state n → Entered g left c at paused q what (cost + n)
+  pub enters : (left : Course → StateOf g → ℕ → Type 0) (n : ℕ) → left course state n
+      → Entered g left c at paused q what (cost + n)
 
 abbrev pub Way_on : (G : Ground) → Course → StateOf G.g → Name → Happening → Type 1
 Way_on G c s q what = Way_by G.g G.pause c s q what
@@ -40,7 +42,8 @@ abbrev pub Now : (G : Ground) → Lives G → Course → StateOf G.g → System 
 Now G lv c s u = Linked (at_open G u.births.channels) lv c s u
 
 -- where it is told with these channels
-pub now_by : (G : Ground) (lv : Lives G) (c : Course) (s : StateOf G.g) (u : System Plain) → Linked G lv c s u → Now G lv c s u
+pub now_by : (G : Ground) (lv : Lives G) (c : Course) (s : StateOf G.g) (u : System Plain) → Linked G lv c s u
+    → Now G lv c s u
 now_by G lv c s u l = subst (λ n. Linked (at_open G n) lv c s u) l.open_is l
 
 -- the channel that an event speaks of is open
@@ -63,7 +66,8 @@ module _ (G : Ground) where
 
   -- one entry on both sides
   abbrev pub OneEntry : Type 1
-  OneEntry = (lv : Lives G) (c : Course) (s : StateOf G.g) (u t : System Plain) (i : ℕ) (e : Event) → Now G lv c s u → Enters plain (run_is G) u i e t → Began G t.births
+  OneEntry = (lv : Lives G) (c : Course) (s : StateOf G.g) (u t : System Plain) (i : ℕ) (e : Event) → Now G lv c s u
+      → Enters plain (run_is G) u i e t → Began G t.births
       → Goes_on c s (G.births.name i) (happening u.births e) t
 
   -- a whole journal
@@ -79,31 +83,58 @@ module _ (G : Ground) where
   absent_not c e = cc e
 
   -- who does anything has a number
-  pub has_number : (lv : Lives G) (c : Course) (s : StateOf G.g) (u : System Plain) → Linked G lv c s u → (i : ℕ) (x : Condition Plain) → u.condition i ≡ x → x ≢ Absent → i < u.births.processes
-  has_number lv c s u l i x e there = ⊎_elim (λ (h : i < u.births.processes). h) (λ (h : u.births.processes ≤ i). absurd (there (sym e ∙ l.unborn i h))) (cases_lt i u.births.processes)
+  pub has_number : (lv : Lives G) (c : Course) (s : StateOf G.g) (u : System Plain) → Linked G lv c s u
+      → (i : ℕ) (x : Condition Plain) → u.condition i ≡ x → x ≢ Absent → i < u.births.processes
+  has_number lv c s u l i x e there = ⊎_elim (λ (h : i < u.births.processes). h)
+      (λ (h : u.births.processes ≤ i). absurd (there (sym e ∙ l.unborn i h))) (cases_lt i u.births.processes)
 
-  pub is_born : (lv : Lives G) (c : Course) (s : StateOf G.g) (u : System Plain) → Linked G lv c s u → (i : ℕ) (d : Config (Memory Plain)) → u.condition i ≡ Working d → i < u.births.processes
-  is_born lv c s u l i d e = ⊎_elim (λ (h : i < u.births.processes). h) (λ (h : u.births.processes ≤ i). absurd (absent_not d (sym (l.unborn i h) ∙ e))) (cases_lt i u.births.processes)
+  pub is_born : (lv : Lives G) (c : Course) (s : StateOf G.g) (u : System Plain) → Linked G lv c s u
+      → (i : ℕ) (d : Config (Memory Plain)) → u.condition i ≡ Working d → i < u.births.processes
+  is_born lv c s u l i d e = ⊎_elim (λ (h : i < u.births.processes). h)
+      (λ (h : u.births.processes ≤ i). absurd (absent_not d (sym (l.unborn i h) ∙ e))) (cases_lt i u.births.processes)
 
-  is_born_now : (lv : Lives G) (c : Course) (s : StateOf G.g) (u : System Plain) → Now G lv c s u → (i : ℕ) (d : Config (Memory Plain)) → u.condition i ≡ Working d → i < u.births.processes
-  is_born_now lv c s u l i d e = ⊎_elim (λ (h : i < u.births.processes). h) (λ (h : u.births.processes ≤ i). absurd (absent_not d (sym (l.unborn i h) ∙ e))) (cases_lt i u.births.processes)
+  is_born_now : (lv : Lives G) (c : Course) (s : StateOf G.g) (u : System Plain) → Now G lv c s u
+      → (i : ℕ) (d : Config (Memory Plain)) → u.condition i ≡ Working d → i < u.births.processes
+  is_born_now lv c s u l i d e = ⊎_elim (λ (h : i < u.births.processes). h)
+      (λ (h : u.births.processes ≤ i). absurd (absent_not d (sym (l.unborn i h) ∙ e))) (cases_lt i u.births.processes)
 
   -- each front of the journal has begun
   abbrev pub AllBegan : Births → List Entry → Type 0
   AllBegan b [] = Unit {0}
   AllBegan b (e ∷ es) = Began G (after_event b e.process e.event) × AllBegan (after_event b e.process e.event) es
 
-  pub goes_along : OneEntry → (es : List Entry) (lv : Lives G) (c : Course) (s : StateOf G.g) (u t : System Plain) → Now G lv c s u → AllBegan u.births es → Leads plain (run_is G) u es t → Goes_along c s u.births es t
-  goes_along one [] lv c s u t l b h = record { steps = 0; course = c; state = s; along = (refl, refl); lives = lv; linked = subst (λ z. Now G lv c s z) (sym h) l }
+  pub goes_along : OneEntry → (es : List Entry) (lv : Lives G) (c : Course) (s : StateOf G.g) (u t : System Plain)
+      → Now G lv c s u → AllBegan u.births es → Leads plain (run_is G) u es t → Goes_along c s u.births es t
+  goes_along one [] lv c s u t l b h = record {
+    steps = 0;
+    course = c;
+    state = s;
+    along = (refl, refl);
+    lives = lv;
+    linked = subst (λ z. Now G lv c s z) (sym h) l;
+  }
   goes_along one (e ∷ es) lv c s u t l b h = on (λ z lv1 c1 s1 k q. goes_along one es lv1 c1 s1 h.0 t k q h.2)
     where
-      on : ((z : Unit {0}) (lv1 : Lives G) (c1 : Course) (s1 : StateOf G.g) → Now G lv1 c1 s1 h.0 → AllBegan (h.0).births es → Goes_along c1 s1 (h.0).births es t) → Goes_along c s u.births (e ∷ es) t
+      on : ((z : Unit {0}) (lv1 : Lives G) (c1 : Course) (s1 : StateOf G.g) → Now G lv1 c1 s1 h.0
+          → AllBegan (h.0).births es → Goes_along c1 s1 (h.0).births es t) → Goes_along c s u.births (e ∷ es) t
       on ih = record {
         steps = x.way.steps + (x.way.cost + y.steps);
         course = y.course;
         state = y.state;
-        along = subst (λ z. Along G.g G.pause c s (z ∷ occurrences_from (after_event u.births e.process e.event) es) (x.way.steps + (x.way.cost + y.steps)) y.state) (sym names)
-            (x.way.unlaid, x.way.steps, x.way.cost + y.steps, x.way.at, x.way.paused, refl, x.way.turn, x.way.enters (λ c1 u1 r. Along G.g G.pause c1 u1 (occurrences_from (after_event u.births e.process e.event) es) r y.state) y.steps (subst (λ z. Along G.g G.pause x.way.course x.way.state (occurrences_from z es) y.steps y.state) given y.along));
+        along = subst (λ z. Along G.g G.pause c s (z ∷ occurrences_from (after_event u.births e.process e.event) es)
+            (x.way.steps + (x.way.cost + y.steps)) y.state) (sym names) (
+              x.way.unlaid,
+              x.way.steps,
+              x.way.cost + y.steps,
+              x.way.at,
+              x.way.paused,
+              refl,
+              x.way.turn,
+              x.way.enters (λ c1 u1 r. Along G.g G.pause c1 u1
+                  (occurrences_from (after_event u.births e.process e.event) es) r y.state) y.steps
+                  (subst (λ z. Along G.g G.pause x.way.course x.way.state (occurrences_from z es) y.steps y.state) given
+                  y.along),
+            );
         lives = y.lives;
         linked = y.linked;
       }
@@ -118,7 +149,8 @@ module _ (G : Ground) where
           given = ap (λ (z : System Plain). z.births) h.1.5 ∙ ap (λ z. after_event u.births e.process z) h.1.4
 
           names : occurrence u.births e ≡ record { who = G.births.name e.process; what = happening u.births e.event }
-          names = ap (λ z. record { who = z; what = happening u.births e.event }) (l.began.names e.process (is_born_now lv c s u l e.process d h.1.1))
+          names = ap (λ z. record { who = z; what = happening u.births e.event })
+              (l.began.names e.process (is_born_now lv c s u l e.process d h.1.1))
 
           x : Goes_on c s (G.births.name e.process) (happening u.births e.event) v
           x = one lv c s u v e.process e.event l h.1 (subst (λ z. Began G z) (sym given) b.0)

@@ -18,22 +18,27 @@ use Rattle.sp_codegen.specs.Joints.{Joint}
 use Rattle.sp_codegen.proofs.Joints.{from_length}
 use Rattle.sp_link.proofs.Relation.{Ground, Life, St}
 
-module _ (g : Setting) (q : Name) (s : StateOf g) (pr : Process) (runs : running g s q ≡ Some pr) (r : Came Deed × Store) (does : ◌≡◌ {A = Came Deed × Store} (answer same_loc (deed_of g pr) s.store) r) where
+module _ (g : Setting) (q : Name) (s : StateOf g) (pr : Process) (runs : running g s q ≡ Some pr)
+    (r : Came Deed × Store) (does : ◌≡◌ {A = Came Deed × Store} (answer same_loc (deed_of g pr) s.store) r) where
   abbrev pub act : ActOf (superpascal g)
   act = act_of pr.who r.0 (put_by same_loc (asks g pr) s.store)
 
   act_is : (superpascal g).next pr s.store ≡ act
-  act_is = next_is g pr s.store ∙ ap (λ (x : Came Deed × Store). act_of pr.who x.0 (put_by same_loc (asks g pr) s.store)) does
+  act_is = next_is g pr s.store ∙ ap (λ (x : Came Deed × Store). act_of pr.who x.0
+      (put_by same_loc (asks g pr) s.store)) does
 
   pub kernel_next : next g s q ≡ Some (result_of s q (outcome (most g) s q act))
-  kernel_next = ap (step_with (most g) s q) runs ∙ ap (λ (a : ActOf (superpascal g)). Some (result_of s q (outcome (most g) s q a))) act_is
+  kernel_next = ap (step_with (most g) s q) runs
+      ∙ ap (λ (a : ActOf (superpascal g)). Some (result_of s q (outcome (most g) s q a))) act_is
 
   pub kernel_says : says g s q pr ≡ said_of act (outcome (most g) s q act)
   kernel_says = ap (λ (a : ActOf (superpascal g)). said_of a (outcome (most g) s q a)) act_is
 
 module _ (G : Ground) (lf : Life) (kids : ℕ → ℕ → Life) (q : Name) where
   -- so it stands without them
-  pub stand_dead : {w : Who} {since : ℕ} {js : List Joint} {o : Own} {s : Store} {n : Memory Plain} → St G lf kids q w since js o s n → (s1 : Store) → ((l : Loc) → (s1 l ≡ s l) ⊎ IsDead (length js) l) → St G lf kids q w since js o s1 n
+  pub stand_dead : {w : Who} {since : ℕ} {js : List Joint} {o : Own} {s : Store} {n : Memory Plain}
+      → St G lf kids q w since js o s n → (s1 : Store) → ((l : Loc) → (s1 l ≡ s l) ⊎ IsDead (length js) l)
+      → St G lf kids q w since js o s1 n
   stand_dead {js = js} t s1 same = record {
     frames = t.frames;
     machine_frames = t.machine_frames;
@@ -56,7 +61,16 @@ module _ (G : Ground) (lf : Life) (kids : ℕ → ℕ → Life) (q : Name) where
     apart = t.apart;
     root = t.root;
     bottom = t.bottom;
-    held = λ r h x l m. (let z = t.held r h x l m in record { tree = z.tree; is = ⊎_elim (λ e. e) (λ (d : length js ≤ h). (let a = (from_length (suc h) js l.joint l.rest l.at).1 in absurd (omega (arith, a, d)))) (same (Cell r h x)) ∙ z.is; cells = z.cells; piece = z.piece; flat = z.flat });
+    held = λ r h x l m. (let z = t.held r h x l m in
+        record {
+          tree = z.tree;
+          is = ⊎_elim (λ e. e)
+              (λ (d : length js ≤ h). (let a = (from_length (suc h) js l.joint l.rest l.at).1 in
+              absurd (omega (arith, a, d)))) (same (Cell r h x)) ∙ z.is;
+          cells = z.cells;
+          piece = z.piece;
+          flat = z.flat;
+        });
     indexes = t.indexes;
     position = λ m. (let z = t.position m in (z.0, ⊎_elim (λ e. e) (λ d. absurd d) (same Input) ∙ z.1, z.2));
     output = λ m. (let z = t.output m in (z.0, ⊎_elim (λ e. e) (λ d. absurd d) (same Output) ∙ z.1, z.2));

@@ -1,12 +1,14 @@
 -- A message goes over: what is sent, in cells, is of its type (`sent_flat`), and the receiver stands with it
 -- (`receiver_stands`).
-use Rattle.std.proofs.Common.{◌≡◌, ◌⊎◌, ℕ, ◌+◌, ◌<◌, ◌≤◌, List, length, Option, Some, None, true, refl, sym, ap, ◌∙◌, subst, arith}
+use Rattle.std.proofs.Common.{◌≡◌, ◌⊎◌, ℕ, ◌+◌, ◌<◌, ◌≤◌, List, length, Option, Some, None, true, refl, sym, ap, ◌∙◌}
+use Rattle.std.proofs.Common.{subst, arith}
 use Rattle.std.specs.FinMap as fin
 use Rattle.sp_cell.specs.declared.cell.Cell.{Cell as OneCell}
 use Rattle.sp_cell.specs.declared.spot.Spot.{Spot}
 use Rattle.sp_cell.specs.declared.spot.Address.{Address as Ptr}
 use Rattle.sp_cell.specs.Laws.{get_here}
-use Rattle.sp_cell.specs.Map.{Content, Own as Owned, Shared, Output as Bytes, Away, Plain, IsOwn, IsPiece, HasCells, cells_of}
+use Rattle.sp_cell.specs.Map.{Content, Own as Owned, Shared, Output as Bytes, Away, Plain, IsOwn, IsPiece, HasCells}
+use Rattle.sp_cell.specs.Map.{cells_of}
 use Rattle.sp_meaning.specs.Maps.{at_key}
 use Rattle.sp_meaning.specs.Model.{Name, Channel, Takes}
 use Rattle.sp_meaning.specs.Values.{Value, Ordinal, Chan}
@@ -30,20 +32,32 @@ use Rattle.sp_link.proofs.Relation.{Ground, Life, Called, Named, Rel, St, Stands
 
 module _ (G : Ground) (lf : Life) (kids : ℕ → ℕ → Life) (q : Name) where
   -- what is sent, in cells
-  pub sent_flat : (w : Who) (since k : ℕ) (y : Sort) → sort G.g.program k ≡ y → (v : Value) (e : Entry) → Stood (Rel G lf kids q w since) G.g.program y k v e → Flat G.g.program (Named G) k v (cells_in e)
+  pub sent_flat : (w : Who) (since k : ℕ) (y : Sort) → sort G.g.program k ≡ y → (v : Value) (e : Entry)
+      → Stood (Rel G lf kids q w since) G.g.program y k v e → Flat G.g.program (Named G) k v (cells_in e)
   sent_flat w since k Ordinals i v e s =
-      subst (λ y. Flat G.g.program (Named G) k y (cells_in e)) (sym s.1) (subst (λ y. Flat G.g.program (Named G) k (Ordinal s.0) (cells_in y)) (sym s.2)
-      (subst (λ y. SameShape y (Ordinal s.0)) (sym (simple_value G.g.program G.formed k (subst Rattle.sp_codegen.specs.Relation.OneCell (sym i) tt))) tt, (refl, tt)))
+      subst (λ y. Flat G.g.program (Named G) k y (cells_in e)) (sym s.1)
+      (subst (λ y. Flat G.g.program (Named G) k (Ordinal s.0) (cells_in y)) (sym s.2) (
+        subst (λ y. SameShape y (Ordinal s.0))
+            (sym (simple_value G.g.program G.formed k (subst Rattle.sp_codegen.specs.Relation.OneCell (sym i) tt))) tt,
+        (refl, tt),
+      ))
   sent_flat w since k Channels i v e s =
-      subst (λ y. Flat G.g.program (Named G) k y (cells_in e)) (sym s.2) (subst (λ y. Flat G.g.program (Named G) k (Chan s.0) (cells_in y)) (sym s.3)
-      (subst (λ y. SameShape y (Chan s.0)) (sym (simple_value G.g.program G.formed k (subst Rattle.sp_codegen.specs.Relation.OneCell (sym i) tt))) tt, (s.4, tt)))
+      subst (λ y. Flat G.g.program (Named G) k y (cells_in e)) (sym s.2)
+      (subst (λ y. Flat G.g.program (Named G) k (Chan s.0) (cells_in y)) (sym s.3) (
+        subst (λ y. SameShape y (Chan s.0)) (sym
+            (simple_value G.g.program G.formed k (subst Rattle.sp_codegen.specs.Relation.OneCell (sym i) tt))) tt,
+        (s.4, tt),
+      ))
   sent_flat w since k Many i v e s = subst (λ y. Flat G.g.program (Named G) k v (cells_in y)) (sym s.1) s.2
   sent_flat w since k NoSort i v e s = absurd s
 
   -- the receiver, whose target is a of the type of the message
-  pub receiver_stands : {since : ℕ} {pr : Process} {s : Store} {c : Config (Memory Plain)} (t : Stands G lf kids q since pr s c) (ch : Channel) (k : ℕ) (a : Address) (stop : Stop) → (x : Ca G lf kids q t.fresh pr.who t.named since t.js ch k (Takes a) stop)
+  pub receiver_stands : {since : ℕ} {pr : Process} {s : Store} {c : Config (Memory Plain)}
+      (t : Stands G lf kids q since pr s c) (ch : Channel) (k : ℕ) (a : Address) (stop : Stop)
+      → (x : Ca G lf kids q t.fresh pr.who t.named since t.js ch k (Takes a) stop)
       → (v : Value) (ds : List OneCell) → Flat G.g.program (Named G) k v ds
-      → Stands G lf kids q since pr (at_key same_loc a.spot (assigned a (s a.spot) (Tree v)) s) (on_store (put_cells plain x.1 ds) c)
+      → Stands G lf kids q since pr (at_key same_loc a.spot (assigned a (s a.spot) (Tree v)) s)
+      (on_store (put_cells plain x.1 ds) c)
   receiver_stands {since} {pr} {s} {c} t ch k a stop x v ds f = record {
     fresh = t.fresh;
     named = t.named;
@@ -52,7 +66,9 @@ module _ (G : Ground) (lf : Life) (kids : ℕ → ℕ → Life) (q : Name) where
     stack = t.stack;
     memory = record (t.memory) { store = put_cells plain x.1 ds t.memory.store };
     is = ap (λ y. on_store (put_cells plain x.1 ds) y) t.is;
-    stand = put_cells_law G.g G.code pr.who (Named G) (Called G) (λ l. Mine q l ⊎ lf.W l) (λ l. Mine q l ⊎ lf.R l) lf.J lf.low (length lf.below) lf.born since G.pause lf.moved G.formed t.stand a x.1 x.5 x.6 v ds (subst (λ y. Flat G.g.program (Named G) y v ds) (sym x.4) f);
+    stand = put_cells_law G.g G.code pr.who (Named G) (Called G) (λ l. Mine q l ⊎ lf.W l) (λ l. Mine q l ⊎ lf.R l) lf.J
+        lf.low (length lf.below) lf.born since G.pause lf.moved G.formed t.stand a x.1 x.5 x.6 v ds
+        (subst (λ y. Flat G.g.program (Named G) y v ds) (sym x.4) f);
     follows = t.follows;
   }
 
@@ -61,17 +77,20 @@ own_here : (n : Memory Plain) (a : Spot) (cs : List OneCell) → IsOwn (fin.get 
 own_here n a cs = subst (λ c. IsOwn c) (sym (get_here n.store.map a (Owned cs))) tt
 
 -- a receiver at its stop
-pub owned_ready : (G : Ground) (z : Stop) (pc : ℕ) (st : List Entry) (n : Memory Plain) → IsOwned (ops G) z n → Ready z (At pc st (record n { since = n.ticks }))
+pub owned_ready : (G : Ground) (z : Stop) (pc : ℕ) (st : List Entry) (n : Memory Plain) → IsOwned (ops G) z n
+    → Ready z (At pc st (record n { since = n.ticks }))
 owned_ready G (Forks tb val k) pc st n h = tt
 owned_ready G (Opens a) pc st n h = tt
 owned_ready G (Sends ch k cs) pc st n h = tt
-owned_ready G (Receives ch k a) pc st n h = subst (λ (y : Memory Plain). IsOwn (fin.get y.store.map a.spot)) (sym h.1) (own_here h.0 a.spot (cells_at plain (h.0).store a.spot))
+owned_ready G (Receives ch k a) pc st n h = subst (λ (y : Memory Plain). IsOwn (fin.get y.store.map a.spot)) (sym h.1)
+    (own_here h.0 a.spot (cells_at plain (h.0).store a.spot))
 owned_ready G Ends pc st n h = tt
 owned_ready G Pauses pc st n h = tt
 
 -- ---- room for a message
 
-in_piece : (c : Option Content) (offset k : ℕ) → has_cells (piece_of c) offset k ≡ true → IsPiece c × (offset + k ≤ length (cells_of c))
+in_piece : (c : Option Content) (offset k : ℕ) → has_cells (piece_of c) offset k ≡ true → IsPiece c
+    × (offset + k ≤ length (cells_of c))
 in_piece None offset k e = absurd (cc e)
 in_piece (Some (Owned cs)) offset k e = (tt, Prim.grind (arith, e))
 in_piece (Some (Shared cs)) offset k e = (tt, Prim.grind (arith, e))
@@ -80,10 +99,16 @@ in_piece (Some Away) offset k e = absurd (cc e)
 
 module _ (G : Ground) (lf : Life) (kids : ℕ → ℕ → Life) (q : Name) where
   -- where a message of type k goes there is room for it
-  pub room : {w : Who} {since : ℕ} {js : List Joint} {o : Own} {s : Store} {n : Memory Plain} → St G lf kids q w since js o s n → (a : Address) (t : Ptr) → PointsTo G.g.program js a t → Mine q a.spot ⊎ lf.R a.spot → HasCells n.store.map t (size G.g.program a.kind)
-  room {w} {since} {js} {o} {s} {n} st a t p may = in_piece (fin.get n.store.map t.spot) t.offset (size G.g.program a.kind)
-      (has_all G.g G.code w (Named G) (Called G) (λ l. Mine q l ⊎ lf.W l) (λ l. Mine q l ⊎ lf.R l) lf.J lf.low (length lf.below) lf.born since G.pause lf.moved G.formed st a t p may)
+  pub room : {w : Who} {since : ℕ} {js : List Joint} {o : Own} {s : Store} {n : Memory Plain}
+      → St G lf kids q w since js o s n → (a : Address) (t : Ptr) → PointsTo G.g.program js a t → Mine q a.spot
+      ⊎ lf.R a.spot → HasCells n.store.map t (size G.g.program a.kind)
+  room {w} {since} {js} {o} {s} {n} st a t p may =
+      in_piece (fin.get n.store.map t.spot) t.offset (size G.g.program a.kind)
+      (has_all G.g G.code w (Named G) (Called G) (λ l. Mine q l ⊎ lf.W l) (λ l. Mine q l ⊎ lf.R l) lf.J lf.low
+      (length lf.below) lf.born since G.pause lf.moved G.formed st a t p may)
 
 -- a message is as long as its type
-pub message_length : (G : Ground) (k : ℕ) → k < length G.g.program.kinds → (v : Value) (cs : List OneCell) → Flat G.g.program (Named G) k v cs → length cs ≡ size G.g.program k
-message_length G k lt v cs f = sym (cells_length (Named G) (leaves v) cs f.1) ∙ shaped_size G.g.program G.formed k lt v f.0
+pub message_length : (G : Ground) (k : ℕ) → k < length G.g.program.kinds → (v : Value) (cs : List OneCell)
+    → Flat G.g.program (Named G) k v cs → length cs ≡ size G.g.program k
+message_length G k lt v cs f = sym (cells_length (Named G) (leaves v) cs f.1)
+    ∙ shaped_size G.g.program G.formed k lt v f.0

@@ -29,7 +29,8 @@ use Rattle.sp_code.specs.System as sys
 use Rattle.sp_codegen.specs.Meets.{due_after}
 use Rattle.sp_codegen.specs.Relation.{Stood}
 use Rattle.sp_link.proofs.AfterEntry.{again}
-use Rattle.sp_link.proofs.Relation.{Ground, Life, Called, Named, Fresh, Stands, Joined, Handed, Performs, Fo, Ca, Rel, law, left_of, at_open, ops}
+use Rattle.sp_link.proofs.Relation.{Ground, Life, Called, Named, Fresh, Stands, Joined, Handed, Performs, Fo, Ca, Rel}
+use Rattle.sp_link.proofs.Relation.{law, left_of, at_open, ops}
 
 module _ (Named Named1 : Channel → ℕ → Type 0) (more : (c : Channel) (j : ℕ) → Named c j → Named1 c j) where
   cell_more : (v : Value) (c : OneCell) → CellIs Named v c → CellIs Named1 v c
@@ -53,8 +54,11 @@ module _ (Named Named1 : Channel → ℕ → Type 0) (more : (c : Channel) (j : 
   pub flat_more : (p : Program) (k : ℕ) (v : Value) (cs : List OneCell) → Flat p Named k v cs → Flat p Named1 k v cs
   flat_more p k v cs h = (h.0, cells_more (leaves v) cs h.1)
 
-  module _ (g : Setting) (code : Code) (w : Who) (Called : Name → ℕ → Type 0) (W R : Loc → Type 0) (J : ℕ → Type 0) (low base born since pause : ℕ) (moved : List Spot) where
-    pub stand_more : {js : List Joint} {o : Own} {s : Store} {n : Memory Plain} → Stand g code w Named Called W R J low base born since pause moved js o s n → Stand g code w Named1 Called W R J low base born since pause moved js o s n
+  module _ (g : Setting) (code : Code) (w : Who) (Called : Name → ℕ → Type 0) (W R : Loc → Type 0) (J : ℕ → Type 0)
+      (low base born since pause : ℕ) (moved : List Spot) where
+    pub stand_more : {js : List Joint} {o : Own} {s : Store} {n : Memory Plain}
+        → Stand g code w Named Called W R J low base born since pause moved js o s n
+        → Stand g code w Named1 Called W R J low base born since pause moved js o s n
     stand_more t = record {
       frames = t.frames;
       machine_frames = t.machine_frames;
@@ -77,19 +81,35 @@ module _ (Named Named1 : Channel → ℕ → Type 0) (more : (c : Channel) (j : 
       apart = t.apart;
       root = t.root;
       bottom = t.bottom;
-      held = λ q h x l r. (let z = t.held q h x l r in record { tree = z.tree; is = z.is; cells = z.cells; piece = z.piece; flat = flat_more g.program l.info.kind z.tree z.cells z.flat });
+      held = λ q h x l r. (let z = t.held q h x l r in
+          record {
+            tree = z.tree;
+            is = z.is;
+            cells = z.cells;
+            piece = z.piece;
+            flat = flat_more g.program l.info.kind z.tree z.cells z.flat;
+          });
       indexes = t.indexes;
       position = t.position;
       output = t.output;
     }
 
-    pub joining_grows : {A : Spot → Type 0} {js : List Joint} {o : Own} {s : Store} {n : Memory Plain} {mp : Map} → Joining g code w Named Called W R J low base born since pause moved A js o s n mp → Joining g code w Named1 Called W R J low base born since pause moved A js o s n mp
+    pub joining_grows : {A : Spot → Type 0} {js : List Joint} {o : Own} {s : Store} {n : Memory Plain} {mp : Map}
+        → Joining g code w Named Called W R J low base born since pause moved A js o s n mp
+        → Joining g code w Named1 Called W R J low base born since pause moved A js o s n mp
     joining_grows t = record {
       store = t.store;
       before = stand_more t.before;
       known = t.known;
       unaway = t.unaway;
-      held = λ q h x l r. ⊎_elim (λ a. inl a) (λ z. inr (record { tree = z.tree; is = z.is; cells = z.cells; piece = z.piece; flat = flat_more g.program l.info.kind z.tree z.cells z.flat })) (t.held q h x l r);
+      held = λ q h x l r. ⊎_elim (λ a. inl a)
+          (λ z. inr (record {
+            tree = z.tree;
+            is = z.is;
+            cells = z.cells;
+            piece = z.piece;
+            flat = flat_more g.program l.info.kind z.tree z.cells z.flat;
+          })) (t.held q h x l r);
       indexes = t.indexes;
       position = t.position;
       output = t.output;
@@ -107,11 +127,19 @@ module _ (G : Ground) where
     abbrev pub fresh_more : Fresh G lf kids q → Fresh (one_more G) lf kids q
     fresh_more f = record { based = f.based; reads = f.reads; low_small = f.low_small; ends = f.ends }
 
-    pub follows_more : (f : Fresh G lf kids q) (w : Who) (n : w.name ≡ q) (since pc : ℕ) (stack : List Entry) (js : List Joint) (todo : List Item) → Fo G lf kids q f w n since pc stack js todo → Fo (one_more G) lf kids q (fresh_more f) w n since pc stack js todo
-    follows_more f w n since pc stack js todo h = again G.g G.code G.moves G.shares G.hush (λ l. Mine q l ⊎ lf.W l) (λ l. Mine q l ⊎ lf.R l) lf.J (ops G) G.free G.finds G.formed.uses f.reads f.reads w (due_after since G.pause) (Rel G lf kids q w since) (law G lf kids q f w n since) (λ h x. inl n)
-        w (due_after since G.pause) (Rel (one_more G) lf kids q w since) (law (one_more G) lf kids q (fresh_more f) w n since) (λ h x. inl n) (λ j js m. m) lf.end [] lf.below pc stack js todo h
+    pub follows_more : (f : Fresh G lf kids q) (w : Who) (n : w.name ≡ q) (since pc : ℕ) (stack : List Entry)
+        (js : List Joint) (todo : List Item) → Fo G lf kids q f w n since pc stack js todo
+        → Fo (one_more G) lf kids q (fresh_more f) w n since pc stack js todo
+    follows_more f w n since pc stack js todo h =
+        again G.g G.code G.moves G.shares G.hush (λ l. Mine q l ⊎ lf.W l) (λ l. Mine q l ⊎ lf.R l) lf.J (ops G) G.free
+        G.finds G.formed.uses f.reads f.reads w (due_after since G.pause) (Rel G lf kids q w since)
+        (law G lf kids q f w n since) (λ h x. inl n)
+        w (due_after since G.pause) (Rel (one_more G) lf kids q w since)
+        (law (one_more G) lf kids q (fresh_more f) w n since) (λ h x. inl n) (λ j js m. m) lf.end [] lf.below pc
+        stack js todo h
 
-    abbrev pub stands_more : (since : ℕ) (pr : Process) (s : Store) (d : Config (Memory Plain)) → Stands G lf kids q since pr s d → Stands (one_more G) lf kids q since pr s d
+    abbrev pub stands_more : (since : ℕ) (pr : Process) (s : Store) (d : Config (Memory Plain))
+        → Stands G lf kids q since pr s d → Stands (one_more G) lf kids q since pr s d
     stands_more since pr s d z = record {
       fresh = fresh_more z.fresh;
       named = z.named;
@@ -120,30 +148,53 @@ module _ (G : Ground) where
       stack = z.stack;
       memory = z.memory;
       is = z.is;
-      stand = stand_more (Named G) (Named (one_more G)) named_more G.g G.code pr.who (Called G) (λ l. Mine q l ⊎ lf.W l) (λ l. Mine q l ⊎ lf.R l) lf.J lf.low (length lf.below) lf.born since G.pause lf.moved z.stand;
+      stand = stand_more (Named G) (Named (one_more G)) named_more G.g G.code pr.who (Called G) (λ l. Mine q l ⊎ lf.W l)
+          (λ l. Mine q l ⊎ lf.R l) lf.J lf.low (length lf.below) lf.born since G.pause lf.moved z.stand;
       follows = follows_more z.fresh pr.who z.named since z.pc z.stack z.js pr.todo z.follows;
     }
 
-    stood_more : (w : Who) (since : ℕ) (y : Sort) (k : ℕ) (v : Value) (e : Entry) → Stood (Rel G lf kids q w since) G.g.program y k v e → Stood (Rel (one_more G) lf kids q w since) G.g.program y k v e
+    stood_more : (w : Who) (since : ℕ) (y : Sort) (k : ℕ) (v : Value) (e : Entry)
+        → Stood (Rel G lf kids q w since) G.g.program y k v e
+        → Stood (Rel (one_more G) lf kids q w since) G.g.program y k v e
     stood_more w since Ordinals k v e h = h
     stood_more w since Channels k v e h = (h.0, h.1, h.2, h.3, named_more h.0 h.1 h.4)
-    stood_more w since Many k v e h = (h.0, h.1, flat_more (Named G) (Named (one_more G)) named_more G.g.program k v h.0 h.2)
+    stood_more w since Many k v e h = (
+      h.0,
+      h.1,
+      flat_more (Named G) (Named (one_more G)) named_more G.g.program k v h.0 h.2,
+    )
     stood_more w since NoSort k v e h = h
 
-    cargo_more : (f : Fresh G lf kids q) (w : Who) (n : w.name ≡ q) (since : ℕ) (js : List Joint) (c : Channel) (k : ℕ) (x : Cargo Held Address) (z : Stop) → Ca G lf kids q f w n since js c k x z → Ca (one_more G) lf kids q (fresh_more f) w n since js c k x z
-    cargo_more f w n since js c k (Message (Tree v)) z h = (h.0, h.1, h.2, named_more c h.0 h.3, stood_more w since (sort G.g.program k) k v h.1 h.4)
+    cargo_more : (f : Fresh G lf kids q) (w : Who) (n : w.name ≡ q) (since : ℕ) (js : List Joint) (c : Channel) (k : ℕ)
+        (x : Cargo Held Address) (z : Stop) → Ca G lf kids q f w n since js c k x z
+        → Ca (one_more G) lf kids q (fresh_more f) w n since js c k x z
+    cargo_more f w n since js c k (Message (Tree v)) z h =
+        (h.0, h.1, h.2, named_more c h.0 h.3, stood_more w since (sort G.g.program k) k v h.1 h.4)
     cargo_more f w n since js c k (Message (Position m)) z h = h
     cargo_more f w n since js c k (Message (Written bs)) z h = h
     cargo_more f w n since js c k (Takes a) z h = (h.0, h.1, h.2, named_more c h.0 h.3, h.4, h.5, h.6)
 
-    handed_more : (js : List Joint) (n : Memory Plain) (v : Life) (z : Name) → Handed G lf kids q js n v z → Handed (one_more G) lf kids q js n v z
-    handed_more js n v z h = record { live = h.live; aims = h.aims; no_index = h.no_index; input = h.input; output = h.output; input_aims = h.input_aims; output_aims = h.output_aims; old = h.old; kept = h.kept }
+    handed_more : (js : List Joint) (n : Memory Plain) (v : Life) (z : Name) → Handed G lf kids q js n v z
+        → Handed (one_more G) lf kids q js n v z
+    handed_more js n v z h = record {
+      live = h.live;
+      aims = h.aims;
+      no_index = h.no_index;
+      input = h.input;
+      output = h.output;
+      input_aims = h.input_aims;
+      output_aims = h.output_aims;
+      old = h.old;
+      kept = h.kept;
+    }
 
-    left_more : (c : Name → Condition Process Held Address) (k n : ℕ) → left_of (one_more G) lf kids q c k n ≡ left_of G lf kids q c k n
+    left_more : (c : Name → Condition Process Held Address) (k n : ℕ)
+        → left_of (one_more G) lf kids q c k n ≡ left_of G lf kids q c k n
     left_more c k zero = refl
     left_more c k (suc i) = ap (λ n. (if has_ended (c ((k, i) ∷ q)) then 0 else 1) + n) (left_more c k i)
 
-    joined_more : (since k n left : ℕ) (pr : Process) (s : StateOf G.g) (d : Config (Memory Plain)) → Joined G lf kids q since k n left pr s d → Joined (one_more G) lf kids q since k n left pr s d
+    joined_more : (since k n left : ℕ) (pr : Process) (s : StateOf G.g) (d : Config (Memory Plain))
+        → Joined G lf kids q since k n left pr s d → Joined (one_more G) lf kids q since k n left pr s d
     joined_more since k n left pr s d z = record {
       fresh = fresh_more z.fresh;
       named = z.named;
@@ -153,7 +204,9 @@ module _ (G : Ground) where
       memory = z.memory;
       held = z.held;
       is = z.is;
-      joining = joining_grows (Named G) (Named (one_more G)) named_more G.g G.code pr.who (Called G) (λ l. Mine q l ⊎ lf.W l) (λ l. Mine q l ⊎ lf.R l) lf.J lf.low (length lf.below) lf.born since G.pause lf.moved z.joining;
+      joining = joining_grows (Named G) (Named (one_more G)) named_more G.g G.code pr.who (Called G)
+          (λ l. Mine q l ⊎ lf.W l) (λ l. Mine q l ⊎ lf.R l) lf.J lf.low (length lf.below) lf.born since G.pause lf.moved
+          z.joining;
       follows = follows_more z.fresh pr.who z.named since z.pc z.stack z.js pr.todo z.follows;
       count = z.count ∙ sym (left_more s.condition k n);
       some = z.some;
@@ -164,11 +217,28 @@ module _ (G : Ground) where
     }
 
     -- whatever it does
-    pub does_more : (c : Course) (s : StateOf G.g) (opens : ℕ) (x : sys.Condition Plain) → Performs G lf kids q c s opens x → Performs (one_more G) lf kids q c s opens x
+    pub does_more : (c : Course) (s : StateOf G.g) (opens : ℕ) (x : sys.Condition Plain)
+        → Performs G lf kids q c s opens x → Performs (one_more G) lf kids q c s opens x
     does_more c s opens sys.Absent h = h
-    does_more c s opens (sys.Working d) h = (h.0, h.1, ⊎_elim (λ z. inl (stands_more (c.since q) h.0 s.store d z)) (λ z. inr z) h.2, h.3, h.4)
-    does_more c s opens (sys.Waits y d) h = (h.0, h.1, stands_more (c.since q) (h.0).next s.store d h.2, cargo_more (h.2).fresh (h.0).next.who (h.2).named (c.since q) (h.2).js (h.0).channel (h.0).kind (h.0).cargo y h.3, h.4, h.5, h.6)
-    does_more c s opens (sys.Joins left d) h = (h.0, h.1, h.2, h.3, joined_more (c.since q) h.0 h.1 left h.2 s d h.4, h.5, h.6)
+    does_more c s opens (sys.Working d) h = (
+      h.0,
+      h.1,
+      ⊎_elim (λ z. inl (stands_more (c.since q) h.0 s.store d z)) (λ z. inr z) h.2,
+      h.3,
+      h.4,
+    )
+    does_more c s opens (sys.Waits y d) h = (
+      h.0,
+      h.1,
+      stands_more (c.since q) (h.0).next s.store d h.2,
+      cargo_more (h.2).fresh (h.0).next.who (h.2).named (c.since q) (h.2).js (h.0).channel (h.0).kind (h.0).cargo y
+          h.3,
+      h.4,
+      h.5,
+      h.6,
+    )
+    does_more c s opens (sys.Joins left d) h =
+        (h.0, h.1, h.2, h.3, joined_more (c.since q) h.0 h.1 left h.2 s d h.4, h.5, h.6)
     does_more c s opens (sys.Laid d) h = h
     does_more c s opens sys.Gone h = h
     does_more c s opens (sys.Over d) h = h

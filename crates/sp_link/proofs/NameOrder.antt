@@ -1,6 +1,7 @@
 -- The order of names as the program keeps them is that of the meaning (`in_order`), and each is told by its pairs
 -- (`one_name`).
-use Rattle.std.proofs.Common.{◌≡◌, ℕ, ◌==◌, List, [], ◌∷◌, ◌++◌, Bool, true, false, cond, if◌then◌else◌, refl, sym, ap, ◌∙◌, arith}
+use Rattle.std.proofs.Common.{◌≡◌, ℕ, ◌==◌, List, [], ◌∷◌, ◌++◌, Bool, true, false, cond, if◌then◌else◌, refl, sym, ap}
+use Rattle.std.proofs.Common.{◌∙◌, arith}
 use Rattle.std.specs.Prelude.{nat_lt, map, reverse}
 use Rattle.std.proofs.lemmas.List.{reverse-append, reverse-reverse}
 use Rattle.std.specs.declared.cmp.Ordering.{Ordering}
@@ -23,16 +24,20 @@ last_pair (x ∷ xs) a = ap (λ y. pair x ∷ y) (last_pair xs a)
 
 pairs_are : (p : Name) → pairs_of p ≡ map pair (reverse p)
 pairs_are [] = refl
-pairs_are (a ∷ p) = ap (λ y. y ++ pair a ∷ []) (pairs_are p) ∙ sym (last_pair (reverse p) a) ∙ ap (λ y. map pair y) (sym (reverse-append (a ∷ []) p))
+pairs_are (a ∷ p) = ap (λ y. y ++ pair a ∷ []) (pairs_are p) ∙ sym (last_pair (reverse p) a)
+    ∙ ap (λ y. map pair y) (sym (reverse-append (a ∷ []) p))
 
 -- one number before another, alike, or behind it
-numbers_before : (a b : ℕ) (x : Ordering) (y : Bool) → ordering_then (nat_cmp a b) x ≡ Less → (x ≡ Less → y ≡ true) → (if nat_lt a b then true else (if nat_lt b a then false else y)) ≡ true
+numbers_before : (a b : ℕ) (x : Ordering) (y : Bool) → ordering_then (nat_cmp a b) x ≡ Less → (x ≡ Less → y ≡ true)
+    → (if nat_lt a b then true else (if nat_lt b a then false else y)) ≡ true
 numbers_before a b x y e h = go (nat_lt a b) (a == b) (nat_lt b a) refl refl refl e
   where
     apart : nat_lt a b ≡ false → a == b ≡ true → nat_lt b a ≡ false
     apart e f = Prim.grind (arith, e, f)
 
-    go : (p q r : Bool) → nat_lt a b ≡ p → a == b ≡ q → nat_lt b a ≡ r → ordering_then (cond p Less (cond q Equal Greater)) x ≡ Less → (if p then true else (if r then false else y)) ≡ true
+    go : (p q r : Bool) → nat_lt a b ≡ p → a == b ≡ q → nat_lt b a ≡ r
+        → ordering_then (cond p Less (cond q Equal Greater)) x ≡ Less
+        → (if p then true else (if r then false else y)) ≡ true
     go true q r u v w e = refl
     go false true true u v w e = let bad : false ≡ true = sym (apart u v) ∙ w in absurd (cc bad)
     go false true false u v w e = h e
@@ -43,17 +48,22 @@ list_before [] [] e = absurd (cc e)
 list_before [] (b ∷ ys) e = refl
 list_before (a ∷ xs) [] e = absurd (cc e)
 list_before (a ∷ xs) (b ∷ ys) e =
-    numbers_before a.0 b.0 (ordering_then (nat_cmp a.1 b.1) (slice_cmp pair_cmp (map pair xs) (map pair ys))) (if nat_lt a.1 b.1 then true else (if nat_lt b.1 a.1 then false else pairs_before xs ys))
+    numbers_before a.0 b.0 (ordering_then (nat_cmp a.1 b.1) (slice_cmp pair_cmp (map pair xs) (map pair ys)))
+    (if nat_lt a.1 b.1 then true else (if nat_lt b.1 a.1 then false else pairs_before xs ys))
     (together (nat_cmp a.0 b.0) (nat_cmp a.1 b.1) (slice_cmp pair_cmp (map pair xs) (map pair ys)) e)
-    (λ f. numbers_before a.1 b.1 (slice_cmp pair_cmp (map pair xs) (map pair ys)) (pairs_before xs ys) f (λ k. list_before xs ys k))
+    (λ f. numbers_before a.1 b.1 (slice_cmp pair_cmp (map pair xs) (map pair ys)) (pairs_before xs ys) f
+    (λ k. list_before xs ys k))
   where
-    together : (x y z : Ordering) → ordering_then (ordering_then x y) z ≡ Less → ordering_then x (ordering_then y z) ≡ Less
+    together : (x y z : Ordering) → ordering_then (ordering_then x y) z ≡ Less
+        → ordering_then x (ordering_then y z) ≡ Less
     together Less y z e = e
     together Equal y z e = e
     together Greater y z e = e
 
 pub in_order : (p q : Name) → name_cmp (proc_name p) (proc_name q) ≡ Less → name_before p q ≡ true
-in_order p q e = list_before (reverse p) (reverse q) (ap (λ y. slice_cmp pair_cmp y (map pair (reverse q))) (sym (pairs_are p)) ∙ ap (λ y. slice_cmp pair_cmp (pairs_of p) y) (sym (pairs_are q)) ∙ e)
+in_order p q e = list_before (reverse p) (reverse q)
+    (ap (λ y. slice_cmp pair_cmp y (map pair (reverse q))) (sym (pairs_are p))
+    ∙ ap (λ y. slice_cmp pair_cmp (pairs_of p) y) (sym (pairs_are q)) ∙ e)
 
 -- a name is told by its pairs
 abbrev unpair : Pair → ℕ × ℕ
@@ -65,6 +75,7 @@ back (x ∷ xs) = ap (λ y. x ∷ y) (back xs)
 
 pub one_name : (p q : Name) → proc_name p ≡ proc_name q → p ≡ q
 one_name p q e =
-    let pairs : map pair (reverse p) ≡ map pair (reverse q) = sym (pairs_are p) ∙ ap (λ (y : ProcName). y.pairs) e ∙ pairs_are q in
+    let pairs : map pair (reverse p) ≡ map pair (reverse q) = sym (pairs_are p) ∙ ap (λ (y : ProcName). y.pairs) e
+    ∙ pairs_are q in
     let same : reverse p ≡ reverse q = sym (back (reverse p)) ∙ ap (λ y. map unpair y) pairs ∙ back (reverse q) in
     sym (reverse-reverse p) ∙ ap (λ y. reverse y) same ∙ reverse-reverse q

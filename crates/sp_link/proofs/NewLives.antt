@@ -13,33 +13,49 @@ use Rattle.sp_code.specs.System as sys
 use Rattle.sp_link.proofs.Relation.{Ground, Lives, Performs, Performs_all}
 
 -- what a process does is told by its life and those of its children
-pub does_lives : (G : Ground) (lv lv1 : Lives G) (r : Name) → lv1 r ≡ lv r → ((k i : ℕ) → lv1 ((k, i) ∷ r) ≡ lv ((k, i) ∷ r)) → (c : Course) (s : StateOf G.g) (opens : ℕ) (x : sys.Condition Plain) → Performs_all G lv r c s opens x → Performs_all G lv1 r c s opens x
+pub does_lives : (G : Ground) (lv lv1 : Lives G) (r : Name) → lv1 r ≡ lv r
+    → ((k i : ℕ) → lv1 ((k, i) ∷ r) ≡ lv ((k, i) ∷ r))
+    → (c : Course) (s : StateOf G.g) (opens : ℕ) (x : sys.Condition Plain) → Performs_all G lv r c s opens x
+    → Performs_all G lv1 r c s opens x
 does_lives G lv lv1 r e h c s opens x d =
-    subst (λ y. Performs G (lv1 r) y r c s opens x) (λ j k i. sym (h k i) j) (subst (λ y. Performs G y (λ k i. lv ((k, i) ∷ r)) r c s opens x) (sym e) d)
+    subst (λ y. Performs G (lv1 r) y r c s opens x) (λ j k i. sym (h k i) j)
+    (subst (λ y. Performs G y (λ k i. lv ((k, i) ∷ r)) r c s opens x) (sym e) d)
 
 -- rights that are the same in other words
-module _ (G : Ground) (W R V T : Name → Loc → Type 0) (wv : (q : Name) (l : Loc) → W q l → V q l) (vw : (q : Name) (l : Loc) → V q l → W q l) (rt : (q : Name) (l : Loc) → R q l → T q l) (tr : (q : Name) (l : Loc) → T q l → R q l) where
+module _ (G : Ground) (W R V T : Name → Loc → Type 0) (wv : (q : Name) (l : Loc) → W q l → V q l)
+    (vw : (q : Name) (l : Loc) → V q l → W q l) (rt : (q : Name) (l : Loc) → R q l → T q l)
+    (tr : (q : Name) (l : Loc) → T q l → R q l) where
   all_w : (q : Name) (l : Loc) → All W q l → All V q l
   all_w q l h = ⊎_elim (λ m. inl m) (λ w. inr (wv q l w)) h
 
   all_r : (q : Name) (l : Loc) → All R q l → All T q l
   all_r q l h = ⊎_elim (λ m. inl m) (λ w. inr (rt q l w)) h
 
-  keeps_same : (f : Name → ℕ) (q : Name) (pr : Process) → Keeps_to G.g.program W R f q pr → Keeps_to G.g.program V T f q pr
-  keeps_same f q pr k = record { named = k.named; forked = k.forked; last = k.last; fit = more_fit G.g.program (All W q) (All R q) (All V q) (All T q) (all_w q) (all_r q) k.last pr.own.frames pr.todo k.fit }
+  keeps_same : (f : Name → ℕ) (q : Name) (pr : Process) → Keeps_to G.g.program W R f q pr
+      → Keeps_to G.g.program V T f q pr
+  keeps_same f q pr k = record {
+    named = k.named;
+    forked = k.forked;
+    last = k.last;
+    fit = more_fit G.g.program (All W q) (All R q) (All V q) (All T q) (all_w q) (all_r q) k.last pr.own.frames
+        pr.todo k.fit;
+  }
 
-  takes_same : (q : Name) (x : Cargo Held Address) → MayTake G.g.program (All W q) (All R q) x → MayTake G.g.program (All V q) (All T q) x
+  takes_same : (q : Name) (x : Cargo Held Address) → MayTake G.g.program (All W q) (All R q) x
+      → MayTake G.g.program (All V q) (All T q) x
   takes_same q (Message v) h = tt
   takes_same q (Takes a) h = all_w q a.spot h
 
-  holds_same : (f : Name → ℕ) (q : Name) (c : Condition Process Held Address) → Holds G.g.program W R f q c → Holds G.g.program V T f q c
+  holds_same : (f : Name → ℕ) (q : Name) (c : Condition Process Held Address) → Holds G.g.program W R f q c
+      → Holds G.g.program V T f q c
   holds_same f q Absent h = h
   holds_same f q (Works pr) h = keeps_same f q pr h
   holds_same f q (Waits o) h = (keeps_same f q o.next h.0, takes_same q o.cargo h.1)
   holds_same f q (Joins k n pr) h = keeps_same f q pr h
   holds_same f q Ended h = tt
 
-  pub inv_same : (c : Name → Condition Process Held Address) (f : Name → ℕ) → Inv G.g.program W R c f → Inv G.g.program V T c f
+  pub inv_same : (c : Name → Condition Process Held Address) (f : Name → ℕ) → Inv G.g.program W R c f
+      → Inv G.g.program V T c f
   inv_same c f i = record {
     holds = λ q. holds_same f q (c q) (i.holds q);
     unborn = i.unborn;

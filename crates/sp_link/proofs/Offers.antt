@@ -1,6 +1,7 @@
 -- The entry of an offer, whatever is pending on its channel (`offering`): it waits, it meets the other one, or a fault
 -- comes.
-use Rattle.std.proofs.Common.{◌≡◌, ℕ, ◌+◌, ◌<◌, List, ◌∷◌, Option, Some, None, Bool, true, false, if◌then◌else◌, refl, sym, ap, ◌∙◌, subst, arith}
+use Rattle.std.proofs.Common.{◌≡◌, ℕ, ◌+◌, ◌<◌, List, ◌∷◌, Option, Some, None, Bool, true, false, if◌then◌else◌, refl}
+use Rattle.std.proofs.Common.{sym, ap, ◌∙◌, subst, arith}
 use Rattle.std.specs.Prelude.{◌≢◌, nat_lt}
 use Rattle.std.proofs.lemmas.Option.{same_Some}
 use Rattle.sp_base.specs.declared.fault.Fault.TheVariants as fault
@@ -32,10 +33,15 @@ use Rattle.sp_link.proofs.OneChanges.{runs}
 use Rattle.sp_link.proofs.Pauses.{Entry_of, Meant, Machined, Kept_to, kids}
 use Rattle.sp_link.proofs.Relation.{Ground, Lives, Named, Stands, Ca, Performs_all, IsPending, Linked}
 
-module _ (G : Ground) (lv : Lives G) (c : Course) (s : StateOf G.g) (u : System Plain) (l : Linked G lv c s u) (i : ℕ) (d : Config (Memory Plain)) (at_i : u.condition i ≡ sys.Working d)
-    (z : Stands G (lv (w G lv c s u l i d at_i)) (kids G lv c s u l i d at_i) (w G lv c s u l i d at_i) (c.since (w G lv c s u l i d at_i)) (p1 G lv c s u l i d at_i) s.store d)
-    (ch : Channel) (kd : ℕ) (cg : Cargo Held Address) (todo : List Item) (o : Own) (m : Store) (x : Meant G lv c s u l i d at_i z (Got (source.Stops (Offered ch kd cg todo)) o, m)) (t : Machined G lv c s u l i d at_i z (Got (source.Stops (Offered ch kd cg todo)) o, m))
-    (y : Kept_to G lv c s u l i d at_i z (Got (source.Stops (Offered ch kd cg todo)) o, m)) (quiet : u.faulted ≡ false) where
+module _ (G : Ground) (lv : Lives G) (c : Course) (s : StateOf G.g) (u : System Plain) (l : Linked G lv c s u) (i : ℕ)
+    (d : Config (Memory Plain)) (at_i : u.condition i ≡ sys.Working d)
+    (z : Stands G (lv (w G lv c s u l i d at_i)) (kids G lv c s u l i d at_i) (w G lv c s u l i d at_i)
+    (c.since (w G lv c s u l i d at_i)) (p1 G lv c s u l i d at_i) s.store d)
+    (ch : Channel) (kd : ℕ) (cg : Cargo Held Address) (todo : List Item) (o : Own) (m : Store)
+    (x : Meant G lv c s u l i d at_i z (Got (source.Stops (Offered ch kd cg todo)) o, m))
+    (t : Machined G lv c s u l i d at_i z (Got (source.Stops (Offered ch kd cg todo)) o, m))
+    (y : Kept_to G lv c s u l i d at_i z (Got (source.Stops (Offered ch kd cg todo)) o, m))
+    (quiet : u.faulted ≡ false) where
   abbrev v : Name
   v = w G lv c s u l i d at_i
 
@@ -52,9 +58,11 @@ module _ (G : Ground) (lv : Lives G) (c : Course) (s : StateOf G.g) (u : System 
   -- ---- the entries are at their limit
 
   over_entry : nat_lt G.g.limits.entries (u.entries + 1) ≡ true → Entry_of G c s u i d
-  over_entry full = failed_entry G lv c s u l i d at_i (offered_halt G lv c s u l i d at_i z ch kd cg todo o m x t) refl fault.F15
+  over_entry full = failed_entry G lv c s u l i d at_i (offered_halt G lv c s u l i d at_i z ch kd cg todo o m x t) refl
+      fault.F15
       (kernel_says G.g v x.at x.left x.runs r x.does ∙ ap (λ b. said_of {L = superpascal G.g} (Offering off) b) faults)
-      (kernel_next G.g v x.at x.left x.runs r x.does ∙ ap (λ b. Some (result_of {L = superpascal G.g} x.at v b)) faults) (found cg refl t.9) quiet
+      (kernel_next G.g v x.at x.left x.runs r x.does ∙ ap (λ b. Some (result_of {L = superpascal G.g} x.at v b)) faults)
+      (found cg refl t.9) quiet
     where
       passes : passed (most G.g) x.at.totals (Some an_entry) ≡ Some fault.F15
       passes =
@@ -65,61 +73,82 @@ module _ (G : Ground) (lv : Lives G) (c : Course) (s : StateOf G.g) (u : System 
       faults : outcome {L = superpascal G.g} (most G.g) x.at v (Offering off) ≡ Faulty fault.F15
       faults = ap (λ a. unless a (offered {L = superpascal G.g} x.at v off (x.at.pending ch))) passes
 
-      found : (g1 : Cargo Held Address) → cg ≡ g1 → Ca G (lv v) (λ a b. lv ((a, b) ∷ v)) v z.fresh (p1 G lv c s u l i d at_i).who z.named (c.since v) t.3 ch kd g1 t.5 → fault_of G.g.limits u (Stopped t.5 (At t.0 t.1 t.2)) ≡ Some fault.F15
+      found : (g1 : Cargo Held Address) → cg ≡ g1
+          → Ca G (lv v) (λ a b. lv ((a, b) ∷ v)) v z.fresh (p1 G lv c s u l i d at_i).who z.named (c.since v) t.3 ch kd
+          g1 t.5 → fault_of G.g.limits u (Stopped t.5 (At t.0 t.1 t.2)) ≡ Some fault.F15
       found (Message (Tree a)) e h = ap (λ b. fault_of G.g.limits u (Stopped b (At t.0 t.1 t.2))) h.2
-          ∙ ap (λ b. sys.first_fault (if b then Some fault.F15 else None) (sys.clash_of u (machine.Sends h.0 kd (Rattle.sp_codegen.specs.Following.cells_in h.1)))) full
+          ∙ ap (λ b. sys.first_fault (if b then Some fault.F15 else None)
+          (sys.clash_of u (machine.Sends h.0 kd (Rattle.sp_codegen.specs.Following.cells_in h.1)))) full
       found (Message (Position n)) e h = absurd h
       found (Message (Written bs)) e h = absurd h
       found (Takes a) e h = ap (λ b. fault_of G.g.limits u (Stopped b (At t.0 t.1 t.2))) h.2
-          ∙ ap (λ b. sys.first_fault (if b then Some fault.F15 else None) (sys.clash_of u (machine.Receives h.0 kd h.1))) full
+          ∙ ap (λ b. sys.first_fault (if b then Some fault.F15 else None)
+          (sys.clash_of u (machine.Receives h.0 kd h.1))) full
 
   -- ---- an offer is pending
 
-  module _ (zi : ℕ) (below : zi < G.births.processes) (pends : s.pending ch ≡ Some (G.births.name zi)) (j : ℕ) (named : Named G ch j) (pending_is : u.pending j ≡ Some zi) (enough : nat_lt G.g.limits.entries (u.entries + 1) ≡ false) where
+  module _ (zi : ℕ) (below : zi < G.births.processes) (pends : s.pending ch ≡ Some (G.births.name zi)) (j : ℕ)
+      (named : Named G ch j) (pending_is : u.pending j ≡ Some zi)
+      (enough : nat_lt G.g.limits.entries (u.entries + 1) ≡ false) where
     waits_on : WaitsOn ch (s.condition (G.births.name zi))
     waits_on = l.known.sound.waits ch (G.births.name zi) pends
 
     few : zi < u.births.processes
     few = let n = l.numbered (G.births.name zi) (λ e. subst (λ b. WaitsOn ch b) e waits_on) in
-        subst (λ k. k < u.births.processes) (G.one_name n.0 zi (let a = n.1 in let b = l.began.processes in omega (arith, a, b)) below n.2) n.1
+        subst (λ k. k < u.births.processes) (G.one_name n.0 zi
+        (let a = n.1 in let b = l.began.processes in omega (arith, a, b)) below n.2) n.1
 
     apart : G.births.name zi ≢ v
-    apart e = waiting_idle s.condition v ch (s.condition v) _ (subst (λ b. WaitsOn ch (s.condition b)) e waits_on) (runs G lv c s u l i d at_i)
+    apart e = waiting_idle s.condition v ch (s.condition v) _ (subst (λ b. WaitsOn ch (s.condition b)) e waits_on)
+        (runs G lv c s u l i d at_i)
 
     waits_then : WaitsOn ch (x.at.condition (G.births.name zi))
     waits_then = subst (λ b. WaitsOn ch b) (sym (x.elsewhere.condition (G.births.name zi) apart)) waits_on
 
-    by_condition : (X : sys.Condition Plain) → u.condition zi ≡ X → Performs_all G lv (G.births.name zi) c x.at (u.births.opens zi) X → Entry_of G c s u i d
+    by_condition : (X : sys.Condition Plain) → u.condition zi ≡ X
+        → Performs_all G lv (G.births.name zi) c x.at (u.births.opens zi) X → Entry_of G c s u i d
     by_condition sys.Absent e h = absurd h
-    by_condition (sys.Working a) e h = absurd (waiting_idle x.at.condition (G.births.name zi) ch (x.at.condition (G.births.name zi)) h.0 waits_then h.1)
-    by_condition (sys.Waits st2 d2) e h = meeting_entry G lv c s u l i d at_i z ch kd cg todo o m x t y said_any.0 said_any.1 quiet zi few pends j named pending_is enough apart st2 d2 e h.0 h.1 (subst (λ b. WaitsOn ch b) h.1 waits_then) h.2 h.3 h.4 h.5
+    by_condition (sys.Working a) e h = absurd
+        (waiting_idle x.at.condition (G.births.name zi) ch (x.at.condition (G.births.name zi)) h.0 waits_then h.1)
+    by_condition (sys.Waits st2 d2) e h = meeting_entry G lv c s u l i d at_i z ch kd cg todo o m x t y said_any.0
+        said_any.1 quiet zi few pends j named pending_is enough apart st2 d2 e h.0 h.1
+        (subst (λ b. WaitsOn ch b) h.1 waits_then) h.2 h.3 h.4 h.5
     by_condition (sys.Joins left a) e h = absurd (subst (λ b. WaitsOn ch b) h.3 waits_then)
-    by_condition (sys.Laid a) e h = absurd (waiting_idle x.at.condition (G.births.name zi) ch (x.at.condition (G.births.name zi)) h.2.0 waits_then h.2.1)
+    by_condition (sys.Laid a) e h = absurd (waiting_idle x.at.condition (G.births.name zi) ch
+        (x.at.condition (G.births.name zi)) h.2.0 waits_then h.2.1)
     by_condition sys.Gone e h = absurd (subst (λ b. WaitsOn ch b) h.0 waits_then)
     by_condition (sys.Over a) e h = absurd (subst (λ b. WaitsOn ch b) h.0 waits_then)
 
     meets_it : Entry_of G c s u i d
-    meets_it = by_condition (u.condition zi) refl (does_at G lv c s u l i d at_i z r x said_any.0 said_any.1 zi few (λ e. apart (ap (λ n. G.births.name n) (sym e))))
+    meets_it = by_condition (u.condition zi) refl
+        (does_at G lv c s u l i d at_i z r x said_any.0 said_any.1 zi few
+        (λ e. apart (ap (λ n. G.births.name n) (sym e))))
 
   -- its number
-  by_pending : (zn : Name) → s.pending ch ≡ Some zn → (j : ℕ) → Named G ch j → nat_lt G.g.limits.entries (u.entries + 1) ≡ false → Entry_of G c s u i d
-  by_pending zn pends j named enough = go (s.pending (channel G.births j)) (u.pending j) refl refl (ap (λ a. s.pending a) named.2 ∙ pends) (l.pending j (subst (λ n. j < n) l.open_is named.0))
+  by_pending : (zn : Name) → s.pending ch ≡ Some zn → (j : ℕ) → Named G ch j
+      → nat_lt G.g.limits.entries (u.entries + 1) ≡ false → Entry_of G c s u i d
+  by_pending zn pends j named enough = go (s.pending (channel G.births j)) (u.pending j) refl refl
+      (ap (λ a. s.pending a) named.2 ∙ pends) (l.pending j (subst (λ n. j < n) l.open_is named.0))
     where
-      go : (a : Option Name) (b : Option ℕ) → s.pending (channel G.births j) ≡ a → u.pending j ≡ b → a ≡ Some zn → IsPending G a b → Entry_of G c s u i d
+      go : (a : Option Name) (b : Option ℕ) → s.pending (channel G.births j) ≡ a → u.pending j ≡ b → a ≡ Some zn
+          → IsPending G a b → Entry_of G c s u i d
       go None b e f h k = let n : ◌≡◌ {A = Option Name} None (Some zn) = h in absurd (cc n)
       go (Some a) None e f h k = absurd k
-      go (Some a) (Some zi) e f h k = meets_it zi k.0 (pends ∙ ap (λ b. Some b) (sym (same_Some a zn h) ∙ sym k.1)) j named f enough
+      go (Some a) (Some zi) e f h k = meets_it zi k.0 (pends ∙ ap (λ b. Some b) (sym (same_Some a zn h) ∙ sym k.1)) j
+          named f enough
 
   pub offering : Entry_of G c s u i d
   offering = by_limit (nat_lt G.g.limits.entries (u.entries + 1)) refl
     where
-      number : (g1 : Cargo Held Address) → Ca G (lv v) (λ a b. lv ((a, b) ∷ v)) v z.fresh (p1 G lv c s u l i d at_i).who z.named (c.since v) t.3 ch kd g1 t.5 → (j : ℕ) × Named G ch j
+      number : (g1 : Cargo Held Address) → Ca G (lv v) (λ a b. lv ((a, b) ∷ v)) v z.fresh (p1 G lv c s u l i d at_i).who
+          z.named (c.since v) t.3 ch kd g1 t.5 → (j : ℕ) × Named G ch j
       number (Message (Tree a)) h = (h.0, h.3)
       number (Message (Position n)) h = absurd h
       number (Message (Written bs)) h = absurd h
       number (Takes a) h = (h.0, h.3)
 
-      by_offer : (b : Option Name) → s.pending ch ≡ b → nat_lt G.g.limits.entries (u.entries + 1) ≡ false → Entry_of G c s u i d
+      by_offer : (b : Option Name) → s.pending ch ≡ b → nat_lt G.g.limits.entries (u.entries + 1) ≡ false
+          → Entry_of G c s u i d
       by_offer None e h = waiting_entry G lv c s u l i d at_i z ch kd cg todo o m x t y quiet e h
       by_offer (Some zn) e h = let n = number cg t.9 in by_pending zn e n.0 n.1 h
 

@@ -1,6 +1,8 @@
 -- The entry `Send` or `Receive` on both sides where an offer is pending on the channel. It meets the other one, and
 -- both go on, the receiver with the message (`meets`); or both have one way, or other types: F6, F7 (`clashes`).
-use Rattle.std.proofs.Common.{◌≡◌, ◌⊎◌, inl, inr, ⊎_elim, ℕ, suc, ◌+◌, ◌<◌, ◌==◌, List, [], ◌∷◌, Option, Some, None, Bool, true, false, cond, if◌then◌else◌, eqb-true, eq-eqb, refl, sym, ap, ◌∙◌, subst, arith}
+use Rattle.std.proofs.Common.{◌≡◌, ◌⊎◌, inl, inr, ⊎_elim, ℕ, suc, ◌+◌, ◌<◌, ◌==◌, List, [], ◌∷◌, Option, Some, None}
+use Rattle.std.proofs.Common.{Bool, true, false, cond, if◌then◌else◌, eqb-true, eq-eqb, refl, sym, ap, ◌∙◌, subst}
+use Rattle.std.proofs.Common.{arith}
 use Rattle.std.proofs.Common.{one-add}
 use Rattle.std.specs.Prelude.{◌≢◌, nat_lt}
 use Rattle.std.proofs.lemmas.Bool.{ne_eqb}
@@ -15,10 +17,13 @@ use Rattle.sp_cell.specs.declared.cell.Cell.{Cell as OneCell}
 use Rattle.sp_cell.specs.declared.spot.Address.{Address as Ptr}
 use Rattle.sp_cell.specs.Map.{Plain}
 use Rattle.sp_meaning.specs.Maps.{at_key as put_at}
-use Rattle.sp_meaning.specs.Model.{Name, same_name, Condition, Absent, Works, Waits, Joins, Ended, after as After, same_channel, Channel, Cargo, Message, Takes, Offering, Totals}
-use Rattle.sp_meaning.specs.Steps.{has_ended, working_in, Lives as IsLive, WaitsOn, OfferOf, meeting, message, an_entry, way_of, Advances, Faulty, outcome, passed, unless, offered, meets, hands, result_of}
+use Rattle.sp_meaning.specs.Model.{Name, same_name, Condition, Absent, Works, Waits, Joins, Ended, after as After}
+use Rattle.sp_meaning.specs.Model.{same_channel, Channel, Cargo, Message, Takes, Offering, Totals}
+use Rattle.sp_meaning.specs.Steps.{has_ended, working_in, Lives as IsLive, WaitsOn, OfferOf, meeting, message, an_entry}
+use Rattle.sp_meaning.specs.Steps.{way_of, Advances, Faulty, outcome, passed, unless, offered, meets, hands, result_of}
 use Rattle.sp_meaning.specs.Entries.{Happening, Offered as Is_offered}
-use Rattle.sp_meaning.specs.Own.{Loc, Held, Address, Own, Process, Came, Got, Item, Tree, Position, Written, assigned, same_loc}
+use Rattle.sp_meaning.specs.Own.{Loc, Held, Address, Own, Process, Came, Got, Item, Tree, Position, Written, assigned}
+use Rattle.sp_meaning.specs.Own.{same_loc}
 use Rattle.sp_meaning.specs.Values.{Value}
 use Rattle.sp_meaning.specs.Deeds.{Deed, Offered}
 use Rattle.sp_meaning.specs.SuperPascal.{superpascal}
@@ -52,24 +57,37 @@ use Rattle.sp_link.proofs.Messages.{sent_flat, receiver_stands}
 use Rattle.sp_link.proofs.OneChanges.{its, here, number_or, inv_local}
 use Rattle.sp_link.proofs.OthersStay.{does_stay, stands_stay}
 use Rattle.sp_link.proofs.Pauses.{Entry_of, Meant, Machined, Kept_to, kids, after_quiet}
-use Rattle.sp_link.proofs.Relation.{Ground, Lives, W_of, R_of, Named, Stands, Ca, Performs_all, IsPending, Linked, run_is}
+use Rattle.sp_link.proofs.Relation.{Ground, Lives, W_of, R_of, Named, Stands, Ca, Performs_all, IsPending, Linked}
+use Rattle.sp_link.proofs.Relation.{run_is}
 
 -- one that waits does not run
-pub waiting_idle : (m : Name → Condition Process Held Address) (q : Name) (ch : Channel) (c : Condition Process Held Address) (own : Process) → WaitsOn ch c → working_in m q c ≡ Some own → ⊥
+pub waiting_idle : (m : Name → Condition Process Held Address) (q : Name) (ch : Channel)
+    (c : Condition Process Held Address) (own : Process) → WaitsOn ch c → working_in m q c ≡ Some own → ⊥
 waiting_idle m q ch Absent own h e = h
 waiting_idle m q ch (Works pr) own h e = h
 waiting_idle m q ch (Waits w) own h e = absurd (cc e)
 waiting_idle m q ch (Joins k n pr) own h e = h
 waiting_idle m q ch Ended own h e = h
 
-module _ (G : Ground) (lv : Lives G) (c : Course) (s : StateOf G.g) (u : System Plain) (l : Linked G lv c s u) (i : ℕ) (d : Config (Memory Plain)) (at_i : u.condition i ≡ sys.Working d)
-    (z : Stands G (lv (w G lv c s u l i d at_i)) (kids G lv c s u l i d at_i) (w G lv c s u l i d at_i) (c.since (w G lv c s u l i d at_i)) (p1 G lv c s u l i d at_i) s.store d)
-    (ch : Channel) (kd : ℕ) (cg : Cargo Held Address) (todo : List Item) (o : Own) (m : Store) (x : Meant G lv c s u l i d at_i z (Got (source.Stops (Offered ch kd cg todo)) o, m)) (t : Machined G lv c s u l i d at_i z (Got (source.Stops (Offered ch kd cg todo)) o, m))
+module _ (G : Ground) (lv : Lives G) (c : Course) (s : StateOf G.g) (u : System Plain) (l : Linked G lv c s u) (i : ℕ)
+    (d : Config (Memory Plain)) (at_i : u.condition i ≡ sys.Working d)
+    (z : Stands G (lv (w G lv c s u l i d at_i)) (kids G lv c s u l i d at_i) (w G lv c s u l i d at_i)
+    (c.since (w G lv c s u l i d at_i)) (p1 G lv c s u l i d at_i) s.store d)
+    (ch : Channel) (kd : ℕ) (cg : Cargo Held Address) (todo : List Item) (o : Own) (m : Store)
+    (x : Meant G lv c s u l i d at_i z (Got (source.Stops (Offered ch kd cg todo)) o, m))
+    (t : Machined G lv c s u l i d at_i z (Got (source.Stops (Offered ch kd cg todo)) o, m))
     (y : Kept_to G lv c s u l i d at_i z (Got (source.Stops (Offered ch kd cg todo)) o, m))
-    (what : Happening) (said : says G.g x.at (w G lv c s u l i d at_i) x.left ≡ Some what) (quiet : u.faulted ≡ false) (zi : ℕ) (few : zi < u.births.processes) (pends : s.pending ch ≡ Some (G.births.name zi)) (j : ℕ) (named : Named G ch j) (pending_is : u.pending j ≡ Some zi) (enough : nat_lt G.g.limits.entries (u.entries + 1) ≡ false)
-    (apart : G.births.name zi ≢ w G lv c s u l i d at_i) (st2 : Stop) (d2 : Config (Memory Plain)) (at_z : u.condition zi ≡ sys.Waits st2 d2) (off2 : OfferOf (superpascal G.g)) (waits : x.at.condition (G.births.name zi) ≡ Waits off2) (on : off2.channel ≡ ch)
-    (t2 : Stands G (lv (G.births.name zi)) (λ a b. lv ((a, b) ∷ G.births.name zi)) (G.births.name zi) (c.since (G.births.name zi)) off2.next x.at.store d2)
-    (ca2 : Ca G (lv (G.births.name zi)) (λ a b. lv ((a, b) ∷ G.births.name zi)) (G.births.name zi) t2.fresh off2.next.who t2.named (c.since (G.births.name zi)) t2.js off2.channel off2.kind off2.cargo st2)
+    (what : Happening) (said : says G.g x.at (w G lv c s u l i d at_i) x.left ≡ Some what) (quiet : u.faulted ≡ false)
+    (zi : ℕ) (few : zi < u.births.processes) (pends : s.pending ch ≡ Some (G.births.name zi)) (j : ℕ)
+    (named : Named G ch j) (pending_is : u.pending j ≡ Some zi)
+    (enough : nat_lt G.g.limits.entries (u.entries + 1) ≡ false)
+    (apart : G.births.name zi ≢ w G lv c s u l i d at_i) (st2 : Stop) (d2 : Config (Memory Plain))
+    (at_z : u.condition zi ≡ sys.Waits st2 d2) (off2 : OfferOf (superpascal G.g))
+    (waits : x.at.condition (G.births.name zi) ≡ Waits off2) (on : off2.channel ≡ ch)
+    (t2 : Stands G (lv (G.births.name zi)) (λ a b. lv ((a, b) ∷ G.births.name zi)) (G.births.name zi)
+    (c.since (G.births.name zi)) off2.next x.at.store d2)
+    (ca2 : Ca G (lv (G.births.name zi)) (λ a b. lv ((a, b) ∷ G.births.name zi)) (G.births.name zi) t2.fresh
+    off2.next.who t2.named (c.since (G.births.name zi)) t2.js off2.channel off2.kind off2.cargo st2)
     (opens2 : off2.next.who.opens ≡ u.births.opens zi) (laid2 : c.laid (G.births.name zi) ≡ false) where
   abbrev v : Name
   v = w G lv c s u l i d at_i
@@ -97,9 +115,13 @@ module _ (G : Ground) (lv : Lives G) (c : Course) (s : StateOf G.g) (u : System 
       ∙ ap (λ n. if nat_lt G.g.limits.entries (n + 1) then Some fault.F15 else None) l.entries
       ∙ ap (λ b. if b then Some fault.F15 else None) enough
 
-  outcome_is : (mm : Option (Address × Held)) → message cg off2.cargo ≡ mm → outcome {L = superpascal G.g} (most G.g) x.at v (Offering off) ≡ hands {L = superpascal G.g} x.at v off zn off2 mm
-  outcome_is mm e = ap (λ a. unless a (offered {L = superpascal G.g} x.at v off (x.at.pending ch))) passes ∙ ap (λ a. offered {L = superpascal G.g} x.at v off a) (ap (λ a. a ch) x.elsewhere.pending ∙ pends)
-      ∙ ap (λ a. meets {L = superpascal G.g} x.at v off zn a) waits ∙ ap (λ a. hands {L = superpascal G.g} x.at v off zn off2 a) e
+  outcome_is : (mm : Option (Address × Held)) → message cg off2.cargo ≡ mm
+      → outcome {L = superpascal G.g} (most G.g) x.at v (Offering off)
+      ≡ hands {L = superpascal G.g} x.at v off zn off2 mm
+  outcome_is mm e = ap (λ a. unless a (offered {L = superpascal G.g} x.at v off (x.at.pending ch))) passes
+      ∙ ap (λ a. offered {L = superpascal G.g} x.at v off a) (ap (λ a. a ch) x.elsewhere.pending ∙ pends)
+      ∙ ap (λ a. meets {L = superpascal G.g} x.at v off zn a) waits
+      ∙ ap (λ a. hands {L = superpascal G.g} x.at v off zn off2 a) e
 
   numbers : i ≢ zi
   numbers e = apart (ap (λ n. G.births.name n) (sym e))
@@ -112,43 +134,61 @@ module _ (G : Ground) (lv : Lives G) (c : Course) (s : StateOf G.g) (u : System 
 
   -- ---- the two meet: a is where the message goes, hv the message, wr who receives it
 
-  module _ (a : Address) (hv : Held) (same_kind : kd == off2.kind ≡ true) (msg : message cg off2.cargo ≡ Some (a, hv)) (wr : Name) (wr_alone : IsAlone x.at wr) (wr_is : (wr ≡ v) ⊎ (wr ≡ zn)) (may : All (W_of G lv) wr a.spot) where
+  module _ (a : Address) (hv : Held) (same_kind : kd == off2.kind ≡ true) (msg : message cg off2.cargo ≡ Some (a, hv))
+      (wr : Name) (wr_alone : IsAlone x.at wr) (wr_is : (wr ≡ v) ⊎ (wr ≡ zn)) (may : All (W_of G lv) wr a.spot) where
     abbrev t1 : StateOf G.g
     t1 = After {L = superpascal G.g} (meeting {L = superpascal G.g} x.at v off zn off2 (a, hv)) x.at
 
-    meets_so : outcome {L = superpascal G.g} (most G.g) x.at v (Offering off) ≡ Advances (meeting {L = superpascal G.g} x.at v off zn off2 (a, hv))
-    meets_so = outcome_is (Some (a, hv)) msg ∙ ap (λ b. if b then Advances (meeting {L = superpascal G.g} x.at v off zn off2 (a, hv)) else Faulty fault.F7) same_kind
+    meets_so : outcome {L = superpascal G.g} (most G.g) x.at v (Offering off)
+        ≡ Advances (meeting {L = superpascal G.g} x.at v off zn off2 (a, hv))
+    meets_so = outcome_is (Some (a, hv)) msg
+        ∙ ap (λ b. if b then Advances (meeting {L = superpascal G.g} x.at v off zn off2 (a, hv)) else Faulty fault.F7)
+        same_kind
 
     abbrev says_now : Happening
     says_now = Is_offered (way_of cg) ch
 
     said_now : says G.g x.at v x.left ≡ Some says_now
-    said_now = kernel_says G.g v x.at x.left x.runs r x.does ∙ ap (λ b. said_of {L = superpascal G.g} (Offering off) b) meets_so
+    said_now = kernel_says G.g v x.at x.left x.runs r x.does
+        ∙ ap (λ b. said_of {L = superpascal G.g} (Offering off) b) meets_so
 
     goes_next : next G.g x.at v ≡ Some t1
-    goes_next = kernel_next G.g v x.at x.left x.runs r x.does ∙ ap (λ b. Some (result_of {L = superpascal G.g} x.at v b)) meets_so
+    goes_next = kernel_next G.g v x.at x.left x.runs r x.does
+        ∙ ap (λ b. Some (result_of {L = superpascal G.g} x.at v b)) meets_so
 
     cond_z : t1.condition zn ≡ Works off2.next
     cond_z = at_same name_test (put_at same_name v (Works off.next) x.at.condition) zn (Works off2.next)
 
     cond_v : t1.condition v ≡ Works off.next
-    cond_v = at_other name_test (put_at same_name v (Works off.next) x.at.condition) zn v (Works off2.next) apart ∙ at_same name_test x.at.condition v (Works off.next)
+    cond_v = at_other name_test (put_at same_name v (Works off.next) x.at.condition) zn v (Works off2.next) apart
+        ∙ at_same name_test x.at.condition v (Works off.next)
 
     cond_r : (b : Name) → b ≢ v → b ≢ zn → t1.condition b ≡ x.at.condition b
-    cond_r b nv nz = at_other name_test (put_at same_name v (Works off.next) x.at.condition) zn b (Works off2.next) (λ e. nz (sym e)) ∙ at_other name_test x.at.condition v b (Works off.next) (λ e. nv (sym e))
+    cond_r b nv nz = at_other name_test (put_at same_name v (Works off.next) x.at.condition) zn b (Works off2.next)
+        (λ e. nz (sym e)) ∙ at_other name_test x.at.condition v b (Works off.next) (λ e. nv (sym e))
 
     known_now : Known G.g t1
-    known_now = record { sound = step_sound (most G.g) x.at v t1 known_then.sound goes_next; well = lowered G.g (λ b. ticks_in (x.at.condition b)) t1 (step_well G.g x.at known_then.sound v (raised G.g x.at known_then.well) t1 goes_next) }
+    known_now = record {
+      sound = step_sound (most G.g) x.at v t1 known_then.sound goes_next;
+      well = lowered G.g (λ b. ticks_in (x.at.condition b)) t1
+          (step_well G.g x.at known_then.sound v (raised G.g x.at known_then.well) t1 goes_next);
+    }
 
     holds_z : Holds G.g.program (W_of G lv) (R_of G lv) x.at.forks zn (Waits off2)
     holds_z = subst (λ b. Holds G.g.program (W_of G lv) (R_of G lv) x.at.forks zn b) waits (rights_then.holds zn)
 
     rights_now : Inv G.g.program (W_of G lv) (R_of G lv) t1.condition t1.forks
     rights_now = inv_local G (W_of G lv) (R_of G lv) first t1.condition x.at.forks x.at.forks zn
-        (inv_local G (W_of G lv) (R_of G lv) x.at.condition first x.at.forks x.at.forks v rights_then refl (λ e. subst (λ b. IsLive b) e (working_lives x.at.condition v (x.at.condition v) x.left x.runs))
-        (λ b e. at_other name_test x.at.condition v b (Works off.next) (λ f. e (sym f))) (subst (λ b. Holds G.g.program (W_of G lv) (R_of G lv) x.at.forks v b) (sym (at_same name_test x.at.condition v (Works off.next))) (ao.holds G lv c s u l i d at_i z ch kd cg todo o m x t y).0))
-        refl (λ e. no_absent (sym waits ∙ sym (at_other name_test x.at.condition v zn (Works off.next) (λ f. apart (sym f))) ∙ e))
-        (λ b e. at_other name_test first zn b (Works off2.next) (λ f. e (sym f))) (subst (λ b. Holds G.g.program (W_of G lv) (R_of G lv) x.at.forks zn b) (sym cond_z) holds_z.0)
+        (inv_local G (W_of G lv) (R_of G lv) x.at.condition first x.at.forks x.at.forks v rights_then refl
+        (λ e. subst (λ b. IsLive b) e (working_lives x.at.condition v (x.at.condition v) x.left x.runs))
+        (λ b e. at_other name_test x.at.condition v b (Works off.next) (λ f. e (sym f)))
+        (subst (λ b. Holds G.g.program (W_of G lv) (R_of G lv) x.at.forks v b)
+        (sym (at_same name_test x.at.condition v (Works off.next)))
+        (ao.holds G lv c s u l i d at_i z ch kd cg todo o m x t y).0))
+        refl (λ e. no_absent (sym waits ∙ sym
+        (at_other name_test x.at.condition v zn (Works off.next) (λ f. apart (sym f))) ∙ e))
+        (λ b e. at_other name_test first zn b (Works off2.next) (λ f. e (sym f)))
+        (subst (λ b. Holds G.g.program (W_of G lv) (R_of G lv) x.at.forks zn b) (sym cond_z) holds_z.0)
       where
         first : Name → Condition Process Held Address
         first = put_at same_name v (Works off.next) x.at.condition
@@ -165,9 +205,11 @@ module _ (G : Ground) (lv : Lives G) (c : Course) (s : StateOf G.g) (u : System 
 
     ended_same : (b : Name) → has_ended (t1.condition b) ≡ has_ended (x.at.condition b)
     ended_same b = ⊎_elim
-        (λ (e : b ≡ v). ap (λ k. has_ended (t1.condition k)) e ∙ ap (λ k. has_ended k) cond_v ∙ sym (ended_at G lv c s u l i d at_i z r x what said) ∙ ap (λ k. has_ended (x.at.condition k)) (sym e))
+        (λ (e : b ≡ v). ap (λ k. has_ended (t1.condition k)) e ∙ ap (λ k. has_ended k) cond_v
+        ∙ sym (ended_at G lv c s u l i d at_i z r x what said) ∙ ap (λ k. has_ended (x.at.condition k)) (sym e))
         (λ (nv : b ≢ v). ⊎_elim
-        (λ (e : b ≡ zn). ap (λ k. has_ended (t1.condition k)) e ∙ ap (λ k. has_ended k) cond_z ∙ sym (ap (λ k. has_ended k) waits) ∙ ap (λ k. has_ended (x.at.condition k)) (sym e))
+        (λ (e : b ≡ zn). ap (λ k. has_ended (t1.condition k)) e ∙ ap (λ k. has_ended k) cond_z
+        ∙ sym (ap (λ k. has_ended k) waits) ∙ ap (λ k. has_ended (x.at.condition k)) (sym e))
         (λ (nz : b ≢ zn). ap (λ k. has_ended k) (cond_r b nv nz))
         (same_or_not name_test b zn))
         (same_or_not name_test b v)
@@ -175,7 +217,9 @@ module _ (G : Ground) (lv : Lives G) (c : Course) (s : StateOf G.g) (u : System 
     present_same : (b : Name) → x.at.condition b ≢ Absent → t1.condition b ≢ Absent
     present_same b h e = ⊎_elim
         (λ (f : b ≡ v). subst (λ k. IsLive k) (sym cond_v ∙ subst (λ k. t1.condition k ≡ Absent) f e) tt)
-        (λ (nv : b ≢ v). ⊎_elim (λ (f : b ≡ zn). subst (λ k. IsLive k) (sym cond_z ∙ subst (λ k. t1.condition k ≡ Absent) f e) tt) (λ (nz : b ≢ zn). h (sym (cond_r b nv nz) ∙ e)) (same_or_not name_test b zn))
+        (λ (nv : b ≢ v). ⊎_elim (λ (f : b ≡ zn). subst (λ k. IsLive k)
+        (sym cond_z ∙ subst (λ k. t1.condition k ≡ Absent) f e) tt) (λ (nz : b ≢ zn). h (sym (cond_r b nv nz) ∙ e))
+        (same_or_not name_test b zn))
         (same_or_not name_test b v)
 
     abbrev c1 : Course
@@ -185,7 +229,8 @@ module _ (G : Ground) (lv : Lives G) (c : Course) (s : StateOf G.g) (u : System 
     since_other b e = ap (λ f. cond f (ticks_of G.g t1 v) (c.since b)) (differs name_test v b (λ h. e (sym h)))
 
     since_here : c1.since v ≡ (t.2).ticks
-    since_here = ap (λ b. cond b (ticks_of G.g t1 v) (c.since v)) (itself name_test v) ∙ ap ticks_in cond_v ∙ (t.8).ticks
+    since_here = ap (λ b. cond b (ticks_of G.g t1 v) (c.since v)) (itself name_test v) ∙ ap ticks_in cond_v
+        ∙ (t.8).ticks
 
     known_numbers : (k : ℕ) → k < u.births.processes → k < G.births.processes
     known_numbers k lt = let b = l.began.processes in omega (arith, lt, b)
@@ -196,47 +241,77 @@ module _ (G : Ground) (lv : Lives G) (c : Course) (s : StateOf G.g) (u : System 
     not_writer : (b : Name) → b ≢ v → b ≢ zn → b ≢ wr
     not_writer b nv nz e = ⊎_elim (λ f. nv (e ∙ f)) (λ f. nz (e ∙ f)) wr_is
 
-    does_other : (k : ℕ) → k < u.births.processes → i ≢ k → zi ≢ k → Performs_all G lv (G.births.name k) c1 t1 (u.births.opens k) (u.condition k)
+    does_other : (k : ℕ) → k < u.births.processes → i ≢ k → zi ≢ k
+        → Performs_all G lv (G.births.name k) c1 t1 (u.births.opens k) (u.condition k)
     does_other k lt e f =
         let nv = other_name G lv c s u l i d at_i z r x what said k lt e in
         let nz = other_z k lt f in
-        does_stay G lv x.at t1 known_then.sound rights_then.fair wr wr_alone stays (G.births.name k) (not_writer (G.births.name k) nv nz) (cond_r (G.births.name k) nv nz)
-        (λ a b. ended_same ((a, b) ∷ G.births.name k)) (λ a b. present_same ((a, b) ∷ G.births.name k)) c c1 (since_other (G.births.name k) nv) refl (λ h. h) (u.births.opens k) (u.condition k) (does_at G lv c s u l i d at_i z r x what said k lt e)
+        does_stay G lv x.at t1 known_then.sound rights_then.fair wr wr_alone stays (G.births.name k)
+        (not_writer (G.births.name k) nv nz) (cond_r (G.births.name k) nv nz)
+        (λ a b. ended_same ((a, b) ∷ G.births.name k)) (λ a b. present_same ((a, b) ∷ G.births.name k)) c c1
+        (since_other (G.births.name k) nv) refl (λ h. h) (u.births.opens k) (u.condition k)
+        (does_at G lv c s u l i d at_i z r x what said k lt e)
 
     -- with the message, and with nothing else changed
     abbrev with_message : StateOf G.g
     with_message = record (x.at) { store = t1.store }
 
-    module _ (e1 e2 : Config (Memory Plain)) (do_v : Stands G (lv v) (λ a b. lv ((a, b) ∷ v)) v (c1.since v) off.next t1.store e1) (do_z : Stands G (lv zn) (λ a b. lv ((a, b) ∷ zn)) zn (c.since zn) off2.next t1.store e2) where
+    module _ (e1 e2 : Config (Memory Plain))
+        (do_v : Stands G (lv v) (λ a b. lv ((a, b) ∷ v)) v (c1.since v) off.next t1.store e1)
+        (do_z : Stands G (lv zn) (λ a b. lv ((a, b) ∷ zn)) zn (c.since zn) off2.next t1.store e2) where
       abbrev u1 : System Plain
-      u1 = record u { condition = at_key ◌==◌ i (sys.Working e1) (at_key ◌==◌ zi (sys.Working e2) u.condition); pending = at_key ◌==◌ j None u.pending; entries = u.entries + 1 }
+      u1 = record u {
+        condition = at_key ◌==◌ i (sys.Working e1) (at_key ◌==◌ zi (sys.Working e2) u.condition);
+        pending = at_key ◌==◌ j None u.pending;
+        entries = u.entries + 1;
+      }
 
       at_v : u1.condition i ≡ sys.Working e1
       at_v = ap (λ b. cond b (sys.Working e1) (cond (zi == i) (sys.Working e2) (u.condition i))) (eq-eqb i i refl)
 
       at_zi : u1.condition zi ≡ sys.Working e2
-      at_zi = ap (λ b. cond b (sys.Working e1) (cond (zi == zi) (sys.Working e2) (u.condition zi))) (ne_eqb i zi numbers) ∙ ap (λ b. cond b (sys.Working e2) (u.condition zi)) (eq-eqb zi zi refl)
+      at_zi = ap (λ b. cond b (sys.Working e1) (cond (zi == zi) (sys.Working e2) (u.condition zi)))
+          (ne_eqb i zi numbers) ∙ ap (λ b. cond b (sys.Working e2) (u.condition zi)) (eq-eqb zi zi refl)
 
       at_far : (k : ℕ) → i ≢ k → zi ≢ k → u1.condition k ≡ u.condition k
-      at_far k e f = ap (λ b. cond b (sys.Working e1) (cond (zi == k) (sys.Working e2) (u.condition k))) (ne_eqb i k e) ∙ ap (λ b. cond b (sys.Working e2) (u.condition k)) (ne_eqb zi k f)
+      at_far k e f = ap (λ b. cond b (sys.Working e1) (cond (zi == k) (sys.Working e2) (u.condition k))) (ne_eqb i k e)
+          ∙ ap (λ b. cond b (sys.Working e2) (u.condition k)) (ne_eqb zi k f)
 
       its_does : Performs_all G lv v c1 t1 (u.births.opens i) (sys.Working e1)
-      its_does = (off.next, ap (working_in t1.condition v) cond_v, inl do_v, ao.opens_same G lv c s u l i d at_i z ch kd cg todo o m x t y, (its G lv c s u l i d at_i).4)
+      its_does = (
+        off.next,
+        ap (working_in t1.condition v) cond_v,
+        inl do_v,
+        ao.opens_same G lv c s u l i d at_i z ch kd cg todo o m x t y,
+        (its G lv c s u l i d at_i).4,
+      )
 
       other_does : Performs_all G lv zn c1 t1 (u.births.opens zi) (sys.Working e2)
-      other_does = (off2.next, ap (working_in t1.condition zn) cond_z, inl (subst (λ k. Stands G (lv zn) (λ a b. lv ((a, b) ∷ zn)) zn k off2.next t1.store e2) (sym (since_other zn apart)) do_z), opens2, laid2)
+      other_does = (
+        off2.next,
+        ap (working_in t1.condition zn) cond_z,
+        inl (subst (λ k. Stands G (lv zn) (λ a b. lv ((a, b) ∷ zn)) zn k off2.next t1.store e2)
+            (sym (since_other zn apart)) do_z),
+        opens2,
+        laid2,
+      )
 
       pends_now : (k : ℕ) → k < u.births.channels → IsPending G (t1.pending (channel G.births k)) (u1.pending k)
       pends_now k lt = ⊎_elim
           (λ (e : j ≡ k). subst (λ b. IsPending G (t1.pending (channel G.births b)) (u1.pending b)) e
-          (subst (λ b. IsPending G (cond b None (x.at.pending (channel G.births j))) (u1.pending j)) (sym ((channel_test ch (channel G.births j)).1 (sym named.2)))
+          (subst (λ b. IsPending G (cond b None (x.at.pending (channel G.births j))) (u1.pending j))
+          (sym ((channel_test ch (channel G.births j)).1 (sym named.2)))
           (subst (λ b. IsPending G None (cond b None (u.pending j))) (sym (eq-eqb j j refl)) tt)))
-          (λ (e : j ≢ k). subst (λ b. IsPending G (cond b None (x.at.pending (channel G.births k))) (u1.pending k)) (sym (far e))
-          (subst (λ b. IsPending G (x.at.pending (channel G.births k)) (cond b None (u.pending k))) (sym (ne_eqb j k e)) (subst (λ b. IsPending G (b (channel G.births k)) (u.pending k)) (sym x.elsewhere.pending) (l.pending k lt))))
+          (λ (e : j ≢ k). subst (λ b. IsPending G (cond b None (x.at.pending (channel G.births k))) (u1.pending k))
+          (sym (far e))
+          (subst (λ b. IsPending G (x.at.pending (channel G.births k)) (cond b None (u.pending k))) (sym (ne_eqb j k e))
+          (subst (λ b. IsPending G (b (channel G.births k)) (u.pending k)) (sym x.elsewhere.pending)
+          (l.pending k lt))))
           (number_or G lv c s u l i d at_i j k)
         where
           far : j ≢ k → same_channel ch (channel G.births k) ≡ false
-          far e = differs channel_test ch (channel G.births k) (λ h. e (G.one_channel j k named.1 (let b = l.began.channels in omega (arith, lt, b)) (named.2 ∙ h)))
+          far e = differs channel_test ch (channel G.births k)
+              (λ h. e (G.one_channel j k named.1 (let b = l.began.channels in omega (arith, lt, b)) (named.2 ∙ h)))
 
       linked : Linked G lv c1 t1 u1
       linked = record {
@@ -246,36 +321,60 @@ module _ (G : Ground) (lv : Lives G) (c : Course) (s : StateOf G.g) (u : System 
         began = l.began;
         open_is = l.open_is;
         forks = λ k lt. ap (λ b. b (G.births.name k)) x.elsewhere.forks ∙ l.forks k lt;
-        processes = (let b = ap (λ (k : Totals). k.processes) x.elsewhere.totals in let e = l.processes in omega (arith, b, e));
-        channels = (let b = ap (λ (k : Totals). k.channels) x.elsewhere.totals in let e = l.channels in omega (arith, b, e));
-        entries = (let b = ap (λ (k : Totals). k.entries) x.elsewhere.totals in let e = l.entries in omega (arith, b, e));
-        fresh_since = λ b e. ⊎_elim (λ (f : b ≡ v). absurd (no_absent off.next (sym cond_v ∙ subst (λ k. t1.condition k ≡ Absent) f e)))
-            (λ (nv : b ≢ v). ⊎_elim (λ (f : b ≡ zn). absurd (no_absent off2.next (sym cond_z ∙ subst (λ k. t1.condition k ≡ Absent) f e)))
-            (λ (nz : b ≢ zn). since_other b nv ∙ l.fresh_since b (sym (x.elsewhere.condition b nv) ∙ sym (cond_r b nv nz) ∙ e)) (same_or_not name_test b zn)) (same_or_not name_test b v);
+        processes = (let b = ap (λ (k : Totals). k.processes) x.elsewhere.totals in let e = l.processes in
+            omega (arith, b, e));
+        channels = (let b = ap (λ (k : Totals). k.channels) x.elsewhere.totals in let e = l.channels in
+            omega (arith, b, e));
+        entries = (let b = ap (λ (k : Totals). k.entries) x.elsewhere.totals in let e = l.entries in
+            omega (arith, b, e));
+        fresh_since = λ b e. ⊎_elim (λ (f : b ≡ v). absurd
+            (no_absent off.next (sym cond_v ∙ subst (λ k. t1.condition k ≡ Absent) f e)))
+            (λ (nv : b ≢ v). ⊎_elim (λ (f : b ≡ zn). absurd
+            (no_absent off2.next (sym cond_z ∙ subst (λ k. t1.condition k ≡ Absent) f e)))
+            (λ (nz : b ≢ zn). since_other b nv
+            ∙ l.fresh_since b (sym (x.elsewhere.condition b nv) ∙ sym (cond_r b nv nz) ∙ e))
+            (same_or_not name_test b zn)) (same_or_not name_test b v);
         pending = pends_now;
-        none_pending = λ k le. ap (λ b. cond b None (u.pending k)) (ne_eqb j k (λ e. let b = is_open in omega (arith, b, le, e))) ∙ l.none_pending k le;
+        none_pending = λ k le. ap (λ b. cond b None (u.pending k))
+            (ne_eqb j k (λ e. let b = is_open in omega (arith, b, le, e))) ∙ l.none_pending k le;
         faulted = l.faulted;
         quiet = λ e. x.elsewhere.fault ∙ l.quiet e;
         unlaid = l.unlaid;
         does = λ k lt. ⊎_elim
-            (λ (e : i ≡ k). subst (λ b. Performs_all G lv (G.births.name b) c1 t1 (u.births.opens b) (u1.condition b)) e (subst (λ b. Performs_all G lv v c1 t1 (u.births.opens i) b) (sym at_v) its_does))
+            (λ (e : i ≡ k). subst (λ b. Performs_all G lv (G.births.name b) c1 t1 (u.births.opens b) (u1.condition b)) e
+            (subst (λ b. Performs_all G lv v c1 t1 (u.births.opens i) b) (sym at_v) its_does))
             (λ (e : i ≢ k). ⊎_elim
-            (λ (f : zi ≡ k). subst (λ b. Performs_all G lv (G.births.name b) c1 t1 (u.births.opens b) (u1.condition b)) f (subst (λ b. Performs_all G lv zn c1 t1 (u.births.opens zi) b) (sym at_zi) other_does))
-            (λ (f : zi ≢ k). subst (λ b. Performs_all G lv (G.births.name k) c1 t1 (u.births.opens k) b) (sym (at_far k e f)) (does_other k lt e f))
+            (λ (f : zi ≡ k). subst (λ b. Performs_all G lv (G.births.name b) c1 t1 (u.births.opens b) (u1.condition b))
+            f (subst (λ b. Performs_all G lv zn c1 t1 (u.births.opens zi) b) (sym at_zi) other_does))
+            (λ (f : zi ≢ k). subst (λ b. Performs_all G lv (G.births.name k) c1 t1 (u.births.opens k) b)
+            (sym (at_far k e f)) (does_other k lt e f))
             (number_or G lv c s u l i d at_i zi k))
             (number_or G lv c s u l i d at_i i k);
-        unborn = λ k le. at_far k (λ e. let b = here G lv c s u l i d at_i in omega (arith, b, le, e)) (λ e. omega (arith, few, le, e)) ∙ l.unborn k le;
+        unborn = λ k le. at_far k (λ e. let b = here G lv c s u l i d at_i in omega (arith, b, le, e))
+            (λ e. omega (arith, few, le, e)) ∙ l.unborn k le;
         unmade = l.unmade;
-        numbered = λ b h. ⊎_elim (λ (e : b ≡ v). (i, here G lv c s u l i d at_i, sym e)) (λ (nv : b ≢ v). ⊎_elim (λ (e : b ≡ zn). (zi, few, sym e))
-            (λ (nz : b ≢ zn). l.numbered b (λ f. h (cond_r b nv nz ∙ x.elsewhere.condition b nv ∙ f))) (same_or_not name_test b zn)) (same_or_not name_test b v);
+        numbered = λ b h. ⊎_elim (λ (e : b ≡ v). (i, here G lv c s u l i d at_i, sym e))
+            (λ (nv : b ≢ v). ⊎_elim (λ (e : b ≡ zn). (zi, few, sym e))
+            (λ (nz : b ≢ zn). l.numbered b (λ f. h (cond_r b nv nz ∙ x.elsewhere.condition b nv ∙ f)))
+            (same_or_not name_test b zn)) (same_or_not name_test b v);
       }
         where
           no_absent : (pr : Process) → ◌≡◌ {A = Condition Process Held Address} (Works pr) Absent → ⊥
           no_absent pr e = cc e
 
       -- once it is known what the machine's turn makes
-      entry_by : after plain (run_is G) i (Stopped t.5 (At t.0 t.1 t.2)) u ≡ u1 → happening u.births (event_of G.g.limits u (Stopped t.5 (At t.0 t.1 t.2))) ≡ says_now → IsOpen u.births (event_of G.g.limits u (Stopped t.5 (At t.0 t.1 t.2))) → Entry_of G c s u i d
-      entry_by is told speaks = record { turn = Stopped t.5 (At t.0 t.1 t.2); is = ao.tn_is G lv c s u l i d at_i z ch kd cg todo o m x t y; way = way_by _ (sym told); speaks = speaks; lives = lv; linked = λ began. now_by G lv c1 t1 (after plain (run_is G) i (Stopped t.5 (At t.0 t.1 t.2)) u) (subst (λ a. Linked G lv c1 t1 a) (sym is) linked) }
+      entry_by : after plain (run_is G) i (Stopped t.5 (At t.0 t.1 t.2)) u ≡ u1
+          → happening u.births (event_of G.g.limits u (Stopped t.5 (At t.0 t.1 t.2))) ≡ says_now
+          → IsOpen u.births (event_of G.g.limits u (Stopped t.5 (At t.0 t.1 t.2))) → Entry_of G c s u i d
+      entry_by is told speaks = record {
+        turn = Stopped t.5 (At t.0 t.1 t.2);
+        is = ao.tn_is G lv c s u l i d at_i z ch kd cg todo o m x t y;
+        way = way_by _ (sym told);
+        speaks = speaks;
+        lives = lv;
+        linked = λ began. now_by G lv c1 t1 (after plain (run_is G) i (Stopped t.5 (At t.0 t.1 t.2)) u)
+            (subst (λ a. Linked G lv c1 t1 a) (sym is) linked);
+      }
         where
           way_by : (e : Happening) → says_now ≡ e → Way_on G c s v e
           way_by e h = record {
@@ -287,12 +386,14 @@ module _ (G : Ground) (lv : Lives G) (c : Course) (s : StateOf G.g) (u : System 
             cost = 1;
             course = c1;
             state = t1;
-            enters = λ left n k. subst (λ f. Entered G.g left c x.at false v f (1 + n)) h (l.faulted ∙ quiet, refl, t1, n, one-add n, (x.left, x.runs, said_now, goes_next), k);
+            enters = λ left n k. subst (λ f. Entered G.g left c x.at false v f (1 + n)) h
+                (l.faulted ∙ quiet, refl, t1, n, one-add n, (x.left, x.runs, said_now, goes_next), k);
           }
 
   -- ---- this one sends
 
-  module _ (value : Value) (cg_is : cg ≡ Message (Tree value)) (a : Address) (cargo2 : off2.cargo ≡ Takes a) (same_kind : kd == off2.kind ≡ true) where
+  module _ (value : Value) (cg_is : cg ≡ Message (Tree value)) (a : Address) (cargo2 : off2.cargo ≡ Takes a)
+      (same_kind : kd == off2.kind ≡ true) where
     msg : message cg off2.cargo ≡ Some (a, Tree value)
     msg = ap (λ b. message b off2.cargo) cg_is ∙ ap (λ b. message (Message (Tree value)) b) cargo2
 
@@ -300,7 +401,8 @@ module _ (G : Ground) (lv : Lives G) (c : Course) (s : StateOf G.g) (u : System 
     alone_z = inr (ch, subst (λ b. WaitsOn ch b) (sym waits) on)
 
     may_z : All (W_of G lv) zn a.spot
-    may_z = (subst (λ b. Rattle.sp_meaning.specs.Owning.MayTake G.g.program (λ k. All (W_of G lv) zn k) (λ k. All (R_of G lv) zn k) b) cargo2
+    may_z = (subst (λ b. Rattle.sp_meaning.specs.Owning.MayTake G.g.program (λ k. All (W_of G lv) zn k)
+        (λ k. All (R_of G lv) zn k) b) cargo2
         (subst (λ b. Holds G.g.program (W_of G lv) (R_of G lv) x.at.forks zn b) waits (rights_then.holds zn)).1)
 
     abbrev t1s : StateOf G.g
@@ -313,25 +415,37 @@ module _ (G : Ground) (lv : Lives G) (c : Course) (s : StateOf G.g) (u : System 
     since_s = since_here a (Tree value) same_kind msg zn alone_z (inr refl) may_z
 
     -- what it gives, at the stop, and where the other takes it
-    gives : Ca G (lv v) (λ a b. lv ((a, b) ∷ v)) v z.fresh x.left.who x.good.named (c1s.since v) t.3 ch kd (Message (Tree value)) t.5
-    gives = subst (λ b. Ca G (lv v) (λ a b. lv ((a, b) ∷ v)) v z.fresh x.left.who x.good.named (c1s.since v) t.3 ch kd b t.5) cg_is (ao.cargo G lv c s u l i d at_i z ch kd cg todo o m x t y (c1s.since v) since_s)
+    gives : Ca G (lv v) (λ a b. lv ((a, b) ∷ v)) v z.fresh x.left.who x.good.named (c1s.since v) t.3 ch kd
+        (Message (Tree value)) t.5
+    gives = subst (λ b. Ca G (lv v) (λ a b. lv ((a, b) ∷ v)) v z.fresh x.left.who x.good.named (c1s.since v) t.3 ch kd b
+        t.5) cg_is (ao.cargo G lv c s u l i d at_i z ch kd cg todo o m x t y (c1s.since v) since_s)
 
-    takes : Ca G (lv zn) (λ a b. lv ((a, b) ∷ zn)) zn t2.fresh off2.next.who t2.named (c.since zn) t2.js off2.channel off2.kind (Takes a) st2
-    takes = subst (λ b. Ca G (lv zn) (λ a b. lv ((a, b) ∷ zn)) zn t2.fresh off2.next.who t2.named (c.since zn) t2.js off2.channel off2.kind b st2) cargo2 ca2
+    takes : Ca G (lv zn) (λ a b. lv ((a, b) ∷ zn)) zn t2.fresh off2.next.who t2.named (c.since zn) t2.js off2.channel
+        off2.kind (Takes a) st2
+    takes = subst (λ b. Ca G (lv zn) (λ a b. lv ((a, b) ∷ zn)) zn t2.fresh off2.next.who t2.named (c.since zn) t2.js
+        off2.channel off2.kind b st2) cargo2 ca2
 
     cs : List OneCell
     cs = cells_in gives.1
 
     flat : Rattle.sp_codegen.specs.Shapes.Flat G.g.program (Named G) off2.kind value (cells_in gives.1)
-    flat = subst (λ k. Rattle.sp_codegen.specs.Shapes.Flat G.g.program (Named G) k value (cells_in gives.1)) (eqb-true kd off2.kind same_kind)
-        (sent_flat G (lv v) (λ a b. lv ((a, b) ∷ v)) v x.left.who (c1s.since v) kd (sort G.g.program kd) refl value gives.1 gives.4)
+    flat = subst (λ k. Rattle.sp_codegen.specs.Shapes.Flat G.g.program (Named G) k value (cells_in gives.1))
+        (eqb-true kd off2.kind same_kind)
+        (sent_flat G (lv v) (λ a b. lv ((a, b) ∷ v)) v x.left.who (c1s.since v) kd (sort G.g.program kd) refl value
+        gives.1 gives.4)
 
-    sender : Stands G (lv v) (λ a b. lv ((a, b) ∷ v)) v (c1s.since v) off.next t1s.store (ao.there G lv c s u l i d at_i z ch kd cg todo o m x t y)
-    sender = stands_stay G lv x.at (with_message a (Tree value) same_kind msg zn alone_z (inr refl) may_z) known_then.sound rights_then.fair zn alone_z (stays a (Tree value) same_kind msg zn alone_z (inr refl) may_z) v (λ e. apart (sym e)) refl (λ k n. refl) (λ k n h. h)
-        (c1s.since v) off.next (ao.there G lv c s u l i d at_i z ch kd cg todo o m x t y) (inl (x.left, x.runs)) (ao.stands G lv c s u l i d at_i z ch kd cg todo o m x t y (c1s.since v) since_s)
+    sender : Stands G (lv v) (λ a b. lv ((a, b) ∷ v)) v (c1s.since v) off.next t1s.store
+        (ao.there G lv c s u l i d at_i z ch kd cg todo o m x t y)
+    sender = stands_stay G lv x.at (with_message a (Tree value) same_kind msg zn alone_z (inr refl) may_z)
+        known_then.sound rights_then.fair zn alone_z (stays a (Tree value) same_kind msg zn alone_z (inr refl) may_z) v
+        (λ e. apart (sym e)) refl (λ k n. refl) (λ k n h. h)
+        (c1s.since v) off.next (ao.there G lv c s u l i d at_i z ch kd cg todo o m x t y) (inl (x.left, x.runs))
+        (ao.stands G lv c s u l i d at_i z ch kd cg todo o m x t y (c1s.since v) since_s)
 
-    receiver : Stands G (lv zn) (λ a b. lv ((a, b) ∷ zn)) zn (c.since zn) off2.next t1s.store (on_store (put_cells plain takes.1 (cells_in gives.1)) d2)
-    receiver = receiver_stands G (lv zn) (λ a b. lv ((a, b) ∷ zn)) zn t2 off2.channel off2.kind a st2 takes value (cells_in gives.1) flat
+    receiver : Stands G (lv zn) (λ a b. lv ((a, b) ∷ zn)) zn (c.since zn) off2.next t1s.store
+        (on_store (put_cells plain takes.1 (cells_in gives.1)) d2)
+    receiver = receiver_stands G (lv zn) (λ a b. lv ((a, b) ∷ zn)) zn t2 off2.channel off2.kind a st2 takes value
+        (cells_in gives.1) flat
 
     -- ---- in the machine
 
@@ -348,31 +462,59 @@ module _ (G : Ground) (lv : Lives G) (c : Course) (s : StateOf G.g) (u : System 
     tn = Stopped (Sends j kd (cells_in gives.1)) (At t.0 t.1 t.2)
 
     no_fault : fault_of G.g.limits u tn ≡ None
-    no_fault = ap (λ b. sys.first_fault (if b then Some fault.F15 else None) (sys.clash_by way.Send kd (sys.pending_stop u (u.pending j)))) enough
-        ∙ ap (λ b. sys.clash_by way.Send kd (sys.pending_stop u b)) pending_is ∙ ap (λ b. sys.clash_by way.Send kd (sys.stop_of {S = Plain} b)) at_z ∙ ap (λ b. sys.clash_by way.Send kd (Some b)) takes.2
+    no_fault = ap (λ b. sys.first_fault (if b then Some fault.F15 else None)
+        (sys.clash_by way.Send kd (sys.pending_stop u (u.pending j)))) enough
+        ∙ ap (λ b. sys.clash_by way.Send kd (sys.pending_stop u b)) pending_is
+        ∙ ap (λ b. sys.clash_by way.Send kd (sys.stop_of {S = Plain} b)) at_z
+        ∙ ap (λ b. sys.clash_by way.Send kd (Some b)) takes.2
         ∙ ap (λ b. if b then None else Some fault.F7) kinds_back
 
     abbrev u1s : System Plain
-    u1s = u1 a (Tree value) same_kind msg zn alone_z (inr refl) may_z (ao.there G lv c s u l i d at_i z ch kd cg todo o m x t y) (on_store (put_cells plain takes.1 (cells_in gives.1)) d2) sender receiver
+    u1s = u1 a (Tree value) same_kind msg zn alone_z (inr refl) may_z
+        (ao.there G lv c s u l i d at_i z ch kd cg todo o m x t y)
+        (on_store (put_cells plain takes.1 (cells_in gives.1)) d2) sender receiver
 
     after_is : after plain (run_is G) i tn u ≡ u1s
-    after_is = after_quiet G i tn u quiet ∙ ap (λ f. record (unless_fault plain (run_is G) f i tn u) { births = after_event u.births i (event_or f tn) }) no_fault
-        ∙ ap (λ b. record (sys.counted plain (run_is G) (sys.sent plain (run_is G) i (Sends j kd (cells_in gives.1)) j (cells_in gives.1) (ao.there G lv c s u l i d at_i z ch kd cg todo o m x t y) b u)) { births = u.births }) pending_is
-        ∙ ap (λ b. record u { condition = at_key ◌==◌ i (sys.Working (ao.there G lv c s u l i d at_i z ch kd cg todo o m x t y)) (at_key ◌==◌ zi (sys.received plain (run_is G) (cells_in gives.1) b) u.condition); pending = at_key ◌==◌ j None u.pending; entries = u.entries + 1 }) at_z
-        ∙ ap (λ b. record u { condition = at_key ◌==◌ i (sys.Working (ao.there G lv c s u l i d at_i z ch kd cg todo o m x t y)) (at_key ◌==◌ zi (sys.received plain (run_is G) (cells_in gives.1) (sys.Waits b d2)) u.condition); pending = at_key ◌==◌ j None u.pending; entries = u.entries + 1 }) takes.2
+    after_is = after_quiet G i tn u quiet ∙ ap
+        (λ f. record (unless_fault plain (run_is G) f i tn u) { births = after_event u.births i (event_or f tn) })
+        no_fault
+        ∙ ap (λ b. record (sys.counted plain (run_is G)
+        (sys.sent plain (run_is G) i (Sends j kd (cells_in gives.1)) j (cells_in gives.1)
+        (ao.there G lv c s u l i d at_i z ch kd cg todo o m x t y) b u)) { births = u.births }) pending_is
+        ∙ ap (λ b. record u {
+          condition = at_key ◌==◌ i
+              (sys.Working (ao.there G lv c s u l i d at_i z ch kd cg todo o m x t y))
+              (at_key ◌==◌ zi (sys.received plain (run_is G) (cells_in gives.1) b) u.condition);
+          pending = at_key ◌==◌ j None u.pending;
+          entries = u.entries + 1;
+        }) at_z
+        ∙ ap (λ b. record u {
+          condition = at_key ◌==◌ i
+              (sys.Working (ao.there G lv c s u l i d at_i z ch kd cg todo o m x t y))
+              (at_key ◌==◌ zi (sys.received plain (run_is G) (cells_in gives.1) (sys.Waits b d2)) u.condition);
+          pending = at_key ◌==◌ j None u.pending;
+          entries = u.entries + 1;
+        }) takes.2
 
     event_is : event_of G.g.limits u tn ≡ event.Send j
-    event_is = ap (λ b. if b then event.Laid else event_or (fault_of G.g.limits u tn) tn) quiet ∙ ap (λ f. event_or f tn) no_fault
+    event_is = ap (λ b. if b then event.Laid else event_or (fault_of G.g.limits u tn) tn) quiet
+        ∙ ap (λ f. event_or f tn) no_fault
 
     pub sending_meets : Entry_of G c s u i d
-    sending_meets = entry_by a (Tree value) same_kind msg zn alone_z (inr refl) may_z (ao.there G lv c s u l i d at_i z ch kd cg todo o m x t y) (on_store (put_cells plain takes.1 (cells_in gives.1)) d2) sender receiver
+    sending_meets = entry_by a (Tree value) same_kind msg zn alone_z (inr refl) may_z
+        (ao.there G lv c s u l i d at_i z ch kd cg todo o m x t y)
+        (on_store (put_cells plain takes.1 (cells_in gives.1)) d2) sender receiver
         (ap (λ st. after plain (run_is G) i (Stopped st (At t.0 t.1 t.2)) u) stop_is ∙ after_is)
-        (ap (λ st. happening u.births (event_of G.g.limits u (Stopped st (At t.0 t.1 t.2)))) stop_is ∙ ap (λ f. happening u.births f) event_is ∙ ap (λ k. Is_offered way.Send k) name_of ∙ ap (λ b. Is_offered (way_of b) ch) (sym cg_is))
-        (subst (λ st. IsOpen u.births (event_of G.g.limits u (Stopped st (At t.0 t.1 t.2)))) (sym stop_is) (subst (λ f. IsOpen u.births f) (sym event_is) is_open))
+        (ap (λ st. happening u.births (event_of G.g.limits u (Stopped st (At t.0 t.1 t.2)))) stop_is
+        ∙ ap (λ f. happening u.births f) event_is ∙ ap (λ k. Is_offered way.Send k) name_of
+        ∙ ap (λ b. Is_offered (way_of b) ch) (sym cg_is))
+        (subst (λ st. IsOpen u.births (event_of G.g.limits u (Stopped st (At t.0 t.1 t.2)))) (sym stop_is)
+        (subst (λ f. IsOpen u.births f) (sym event_is) is_open))
 
   -- ---- this one receives
 
-  module _ (value : Value) (a : Address) (cg_is : cg ≡ Takes a) (cargo2 : off2.cargo ≡ Message (Tree value)) (same_kind : kd == off2.kind ≡ true) where
+  module _ (value : Value) (a : Address) (cg_is : cg ≡ Takes a) (cargo2 : off2.cargo ≡ Message (Tree value))
+      (same_kind : kd == off2.kind ≡ true) where
     msg_r : message cg off2.cargo ≡ Some (a, Tree value)
     msg_r = ap (λ b. message b off2.cargo) cg_is ∙ ap (λ b. message (Takes a) b) cargo2
 
@@ -380,7 +522,8 @@ module _ (G : Ground) (lv : Lives G) (c : Course) (s : StateOf G.g) (u : System 
     alone_v = inl (x.left, x.runs)
 
     may_v : All (W_of G lv) v a.spot
-    may_v = subst (λ b. Rattle.sp_meaning.specs.Owning.MayTake G.g.program (λ k. All (W_of G lv) v k) (λ k. All (R_of G lv) v k) b) cg_is (ao.holds G lv c s u l i d at_i z ch kd cg todo o m x t y).1
+    may_v = subst (λ b. Rattle.sp_meaning.specs.Owning.MayTake G.g.program (λ k. All (W_of G lv) v k)
+        (λ k. All (R_of G lv) v k) b) cg_is (ao.holds G lv c s u l i d at_i z ch kd cg todo o m x t y).1
 
     abbrev t1r : StateOf G.g
     t1r = t1 a (Tree value) same_kind msg_r v alone_v (inl refl) may_v
@@ -391,22 +534,34 @@ module _ (G : Ground) (lv : Lives G) (c : Course) (s : StateOf G.g) (u : System 
     since_r : c1r.since v ≡ (t.2).ticks
     since_r = since_here a (Tree value) same_kind msg_r v alone_v (inl refl) may_v
 
-    takes_v : Ca G (lv v) (λ a b. lv ((a, b) ∷ v)) v z.fresh x.left.who x.good.named (c1r.since v) t.3 ch kd (Takes a) t.5
-    takes_v = subst (λ b. Ca G (lv v) (λ a b. lv ((a, b) ∷ v)) v z.fresh x.left.who x.good.named (c1r.since v) t.3 ch kd b t.5) cg_is (ao.cargo G lv c s u l i d at_i z ch kd cg todo o m x t y (c1r.since v) since_r)
+    takes_v : Ca G (lv v) (λ a b. lv ((a, b) ∷ v)) v z.fresh x.left.who x.good.named (c1r.since v) t.3 ch kd (Takes a)
+        t.5
+    takes_v = subst (λ b. Ca G (lv v) (λ a b. lv ((a, b) ∷ v)) v z.fresh x.left.who x.good.named (c1r.since v) t.3 ch kd
+        b t.5) cg_is (ao.cargo G lv c s u l i d at_i z ch kd cg todo o m x t y (c1r.since v) since_r)
 
-    gives_z : Ca G (lv zn) (λ a b. lv ((a, b) ∷ zn)) zn t2.fresh off2.next.who t2.named (c.since zn) t2.js off2.channel off2.kind (Message (Tree value)) st2
-    gives_z = subst (λ b. Ca G (lv zn) (λ a b. lv ((a, b) ∷ zn)) zn t2.fresh off2.next.who t2.named (c.since zn) t2.js off2.channel off2.kind b st2) cargo2 ca2
+    gives_z : Ca G (lv zn) (λ a b. lv ((a, b) ∷ zn)) zn t2.fresh off2.next.who t2.named (c.since zn) t2.js off2.channel
+        off2.kind (Message (Tree value)) st2
+    gives_z = subst (λ b. Ca G (lv zn) (λ a b. lv ((a, b) ∷ zn)) zn t2.fresh off2.next.who t2.named (c.since zn) t2.js
+        off2.channel off2.kind b st2) cargo2 ca2
 
     flat_r : Rattle.sp_codegen.specs.Shapes.Flat G.g.program (Named G) kd value (cells_in gives_z.1)
-    flat_r = subst (λ k. Rattle.sp_codegen.specs.Shapes.Flat G.g.program (Named G) k value (cells_in gives_z.1)) (sym (eqb-true kd off2.kind same_kind))
-        (sent_flat G (lv zn) (λ a b. lv ((a, b) ∷ zn)) zn off2.next.who (c.since zn) off2.kind (sort G.g.program off2.kind) refl value gives_z.1 gives_z.4)
+    flat_r = subst (λ k. Rattle.sp_codegen.specs.Shapes.Flat G.g.program (Named G) k value (cells_in gives_z.1))
+        (sym (eqb-true kd off2.kind same_kind))
+        (sent_flat G (lv zn) (λ a b. lv ((a, b) ∷ zn)) zn off2.next.who (c.since zn) off2.kind
+        (sort G.g.program off2.kind) refl value gives_z.1 gives_z.4)
 
     sender_z : Stands G (lv zn) (λ a b. lv ((a, b) ∷ zn)) zn (c.since zn) off2.next t1r.store d2
-    sender_z = stands_stay G lv x.at (with_message a (Tree value) same_kind msg_r v alone_v (inl refl) may_v) known_then.sound rights_then.fair v alone_v (stays a (Tree value) same_kind msg_r v alone_v (inl refl) may_v) zn apart refl (λ k n. refl) (λ k n h. h)
+    sender_z = stands_stay G lv x.at (with_message a (Tree value) same_kind msg_r v alone_v (inl refl) may_v)
+        known_then.sound rights_then.fair v alone_v (stays a (Tree value) same_kind msg_r v alone_v (inl refl) may_v) zn
+        apart refl (λ k n. refl) (λ k n h. h)
         (c.since zn) off2.next d2 (inr (ch, subst (λ b. WaitsOn ch b) (sym waits) on)) t2
 
-    receiver_v : Stands G (lv v) (λ a b. lv ((a, b) ∷ v)) v (c1r.since v) off.next t1r.store (on_store (put_cells plain takes_v.1 (cells_in gives_z.1)) (ao.there G lv c s u l i d at_i z ch kd cg todo o m x t y))
-    receiver_v = receiver_stands G (lv v) (λ a b. lv ((a, b) ∷ v)) v (ao.stands G lv c s u l i d at_i z ch kd cg todo o m x t y (c1r.since v) since_r) ch kd a t.5 takes_v value (cells_in gives_z.1) flat_r
+    receiver_v : Stands G (lv v) (λ a b. lv ((a, b) ∷ v)) v (c1r.since v) off.next t1r.store
+        (on_store (put_cells plain takes_v.1 (cells_in gives_z.1))
+        (ao.there G lv c s u l i d at_i z ch kd cg todo o m x t y))
+    receiver_v = receiver_stands G (lv v) (λ a b. lv ((a, b) ∷ v)) v
+        (ao.stands G lv c s u l i d at_i z ch kd cg todo o m x t y (c1r.since v) since_r) ch kd a t.5 takes_v value
+        (cells_in gives_z.1) flat_r
 
     jj_r : takes_v.0 ≡ j
     jj_r = G.one_channel takes_v.0 j takes_v.3.1 named.1 (takes_v.3.2 ∙ sym named.2)
@@ -421,79 +576,136 @@ module _ (G : Ground) (lv : Lives G) (c : Course) (s : StateOf G.g) (u : System 
     kinds_back_r = eq-eqb off2.kind kd (sym (eqb-true kd off2.kind same_kind))
 
     no_fault_r : fault_of G.g.limits u tr ≡ None
-    no_fault_r = ap (λ b. sys.first_fault (if b then Some fault.F15 else None) (sys.clash_by way.Receive kd (sys.pending_stop u (u.pending j)))) enough
-        ∙ ap (λ b. sys.clash_by way.Receive kd (sys.pending_stop u b)) pending_is ∙ ap (λ b. sys.clash_by way.Receive kd (sys.stop_of {S = Plain} b)) at_z ∙ ap (λ b. sys.clash_by way.Receive kd (Some b)) gives_z.2
+    no_fault_r = ap (λ b. sys.first_fault (if b then Some fault.F15 else None)
+        (sys.clash_by way.Receive kd (sys.pending_stop u (u.pending j)))) enough
+        ∙ ap (λ b. sys.clash_by way.Receive kd (sys.pending_stop u b)) pending_is
+        ∙ ap (λ b. sys.clash_by way.Receive kd (sys.stop_of {S = Plain} b)) at_z
+        ∙ ap (λ b. sys.clash_by way.Receive kd (Some b)) gives_z.2
         ∙ ap (λ b. if b then None else Some fault.F7) kinds_back_r
 
     abbrev u1r : System Plain
-    u1r = u1 a (Tree value) same_kind msg_r v alone_v (inl refl) may_v (on_store (put_cells plain takes_v.1 (cells_in gives_z.1)) (ao.there G lv c s u l i d at_i z ch kd cg todo o m x t y)) d2 receiver_v sender_z
+    u1r = u1 a (Tree value) same_kind msg_r v alone_v (inl refl) may_v
+        (on_store (put_cells plain takes_v.1 (cells_in gives_z.1))
+        (ao.there G lv c s u l i d at_i z ch kd cg todo o m x t y)) d2 receiver_v sender_z
 
     after_is_r : after plain (run_is G) i tr u ≡ u1r
-    after_is_r = after_quiet G i tr u quiet ∙ ap (λ f. record (unless_fault plain (run_is G) f i tr u) { births = after_event u.births i (event_or f tr) }) no_fault_r
-        ∙ ap (λ b. record (sys.counted plain (run_is G) (sys.taken plain (run_is G) i (Receives j kd takes_v.1) j takes_v.1 (ao.there G lv c s u l i d at_i z ch kd cg todo o m x t y) b u)) { births = u.births }) pending_is
-        ∙ ap (λ b. record u { condition = at_key ◌==◌ i (sys.Working (on_store (put_cells plain takes_v.1 (sys.message_of plain (run_is G) (sys.stop_of {S = Plain} b))) (ao.there G lv c s u l i d at_i z ch kd cg todo o m x t y))) (at_key ◌==◌ zi (sys.received plain (run_is G) [] b) u.condition); pending = at_key ◌==◌ j None u.pending; entries = u.entries + 1 }) at_z
-        ∙ ap (λ b. record u { condition = at_key ◌==◌ i (sys.Working (on_store (put_cells plain takes_v.1 (sys.message_of plain (run_is G) (Some b))) (ao.there G lv c s u l i d at_i z ch kd cg todo o m x t y))) (at_key ◌==◌ zi (sys.received plain (run_is G) [] (sys.Waits b d2)) u.condition); pending = at_key ◌==◌ j None u.pending; entries = u.entries + 1 }) gives_z.2
+    after_is_r = after_quiet G i tr u quiet ∙ ap
+        (λ f. record (unless_fault plain (run_is G) f i tr u) { births = after_event u.births i (event_or f tr) })
+        no_fault_r
+        ∙ ap (λ b. record (sys.counted plain (run_is G)
+        (sys.taken plain (run_is G) i (Receives j kd takes_v.1) j takes_v.1
+        (ao.there G lv c s u l i d at_i z ch kd cg todo o m x t y) b u)) { births = u.births }) pending_is
+        ∙ ap (λ b. record u {
+          condition = at_key ◌==◌ i
+              (sys.Working (on_store (put_cells plain takes_v.1
+              (sys.message_of plain (run_is G) (sys.stop_of {S = Plain} b)))
+              (ao.there G lv c s u l i d at_i z ch kd cg todo o m x t y)))
+              (at_key ◌==◌ zi (sys.received plain (run_is G) [] b) u.condition);
+          pending = at_key ◌==◌ j None u.pending;
+          entries = u.entries + 1;
+        }) at_z
+        ∙ ap (λ b. record u {
+          condition = at_key ◌==◌ i
+              (sys.Working (on_store (put_cells plain takes_v.1 (sys.message_of plain (run_is G) (Some b)))
+              (ao.there G lv c s u l i d at_i z ch kd cg todo o m x t y)))
+              (at_key ◌==◌ zi (sys.received plain (run_is G) [] (sys.Waits b d2)) u.condition);
+          pending = at_key ◌==◌ j None u.pending;
+          entries = u.entries + 1;
+        }) gives_z.2
 
     event_is_r : event_of G.g.limits u tr ≡ event.Receive j
-    event_is_r = ap (λ b. if b then event.Laid else event_or (fault_of G.g.limits u tr) tr) quiet ∙ ap (λ f. event_or f tr) no_fault_r
+    event_is_r = ap (λ b. if b then event.Laid else event_or (fault_of G.g.limits u tr) tr) quiet
+        ∙ ap (λ f. event_or f tr) no_fault_r
 
     pub receiving_meets : Entry_of G c s u i d
-    receiving_meets = entry_by a (Tree value) same_kind msg_r v alone_v (inl refl) may_v (on_store (put_cells plain takes_v.1 (cells_in gives_z.1)) (ao.there G lv c s u l i d at_i z ch kd cg todo o m x t y)) d2 receiver_v sender_z
+    receiving_meets = entry_by a (Tree value) same_kind msg_r v alone_v (inl refl) may_v
+        (on_store (put_cells plain takes_v.1 (cells_in gives_z.1))
+        (ao.there G lv c s u l i d at_i z ch kd cg todo o m x t y)) d2 receiver_v sender_z
         (ap (λ st. after plain (run_is G) i (Stopped st (At t.0 t.1 t.2)) u) stop_is_r ∙ after_is_r)
-        (ap (λ st. happening u.births (event_of G.g.limits u (Stopped st (At t.0 t.1 t.2)))) stop_is_r ∙ ap (λ f. happening u.births f) event_is_r ∙ ap (λ k. Is_offered way.Receive k) name_of ∙ ap (λ b. Is_offered (way_of b) ch) (sym cg_is))
-        (subst (λ st. IsOpen u.births (event_of G.g.limits u (Stopped st (At t.0 t.1 t.2)))) (sym stop_is_r) (subst (λ f. IsOpen u.births f) (sym event_is_r) is_open))
+        (ap (λ st. happening u.births (event_of G.g.limits u (Stopped st (At t.0 t.1 t.2)))) stop_is_r
+        ∙ ap (λ f. happening u.births f) event_is_r ∙ ap (λ k. Is_offered way.Receive k) name_of
+        ∙ ap (λ b. Is_offered (way_of b) ch) (sym cg_is))
+        (subst (λ st. IsOpen u.births (event_of G.g.limits u (Stopped st (At t.0 t.1 t.2)))) (sym stop_is_r)
+        (subst (λ f. IsOpen u.births f) (sym event_is_r) is_open))
 
   -- ---- the two do not go together
 
-  module _ (f : Fault) (faults : outcome {L = superpascal G.g} (most G.g) x.at v (Offering off) ≡ Faulty f) (fault_is : fault_of G.g.limits u (Stopped t.5 (At t.0 t.1 t.2)) ≡ Some f) where
+  module _ (f : Fault) (faults : outcome {L = superpascal G.g} (most G.g) x.at v (Offering off) ≡ Faulty f)
+      (fault_is : fault_of G.g.limits u (Stopped t.5 (At t.0 t.1 t.2)) ≡ Some f) where
     clash_entry : Entry_of G c s u i d
     clash_entry = failed_entry G lv c s u l i d at_i (offered_halt G lv c s u l i d at_i z ch kd cg todo o m x t) refl f
-        (kernel_says G.g v x.at x.left x.runs r x.does ∙ ap (λ b. said_of {L = superpascal G.g} (Offering off) b) faults)
-        (kernel_next G.g v x.at x.left x.runs r x.does ∙ ap (λ b. Some (result_of {L = superpascal G.g} x.at v b)) faults) fault_is quiet
+        (kernel_says G.g v x.at x.left x.runs r x.does
+        ∙ ap (λ b. said_of {L = superpascal G.g} (Offering off) b) faults)
+        (kernel_next G.g v x.at x.left x.runs r x.does
+        ∙ ap (λ b. Some (result_of {L = superpascal G.g} x.at v b)) faults) fault_is quiet
 
   -- what the machine finds at this stop against the other one
-  found : (st : Stop) (w1 : Way) → t.5 ≡ st → ((e1 : Option Fault) → Rattle.sp_code.specs.System.fault_of G.g.limits u (Stopped st (At t.0 t.1 t.2)) ≡ sys.first_fault (if nat_lt G.g.limits.entries (u.entries + 1) then Some fault.F15 else None) (sys.clash_by w1 kd (sys.pending_stop u (u.pending j))))
+  found : (st : Stop) (w1 : Way) → t.5 ≡ st → ((e1 : Option Fault)
+      → Rattle.sp_code.specs.System.fault_of G.g.limits u (Stopped st (At t.0 t.1 t.2))
+      ≡ sys.first_fault (if nat_lt G.g.limits.entries (u.entries + 1) then Some fault.F15 else None)
+      (sys.clash_by w1 kd (sys.pending_stop u (u.pending j))))
       → fault_of G.g.limits u (Stopped t.5 (At t.0 t.1 t.2)) ≡ sys.clash_by w1 kd (Some st2)
-  found st w1 e h = ap (λ b. fault_of G.g.limits u (Stopped b (At t.0 t.1 t.2))) e ∙ h None ∙ ap (λ b. sys.first_fault (if b then Some fault.F15 else None) (sys.clash_by w1 kd (sys.pending_stop u (u.pending j)))) enough
-      ∙ ap (λ b. sys.clash_by w1 kd (sys.pending_stop u b)) pending_is ∙ ap (λ b. sys.clash_by w1 kd (sys.stop_of {S = Plain} b)) at_z
+  found st w1 e h = ap (λ b. fault_of G.g.limits u (Stopped b (At t.0 t.1 t.2))) e ∙ h None
+      ∙ ap (λ b. sys.first_fault (if b then Some fault.F15 else None)
+      (sys.clash_by w1 kd (sys.pending_stop u (u.pending j)))) enough
+      ∙ ap (λ b. sys.clash_by w1 kd (sys.pending_stop u b)) pending_is
+      ∙ ap (λ b. sys.clash_by w1 kd (sys.stop_of {S = Plain} b)) at_z
 
-  sends_found : (cs : List OneCell) (k : ℕ) → Named G ch k → t.5 ≡ Sends k kd cs → fault_of G.g.limits u (Stopped t.5 (At t.0 t.1 t.2)) ≡ sys.clash_by way.Send kd (Some st2)
-  sends_found cs k n e = found (Sends j kd cs) way.Send (e ∙ ap (λ b. Sends b kd cs) (G.one_channel k j n.1 named.1 (n.2 ∙ sym named.2))) (λ e1. refl)
+  sends_found : (cs : List OneCell) (k : ℕ) → Named G ch k → t.5 ≡ Sends k kd cs
+      → fault_of G.g.limits u (Stopped t.5 (At t.0 t.1 t.2)) ≡ sys.clash_by way.Send kd (Some st2)
+  sends_found cs k n e = found (Sends j kd cs) way.Send
+      (e ∙ ap (λ b. Sends b kd cs) (G.one_channel k j n.1 named.1 (n.2 ∙ sym named.2))) (λ e1. refl)
 
-  takes_found : (a : Ptr) (k : ℕ) → Named G ch k → t.5 ≡ Receives k kd a → fault_of G.g.limits u (Stopped t.5 (At t.0 t.1 t.2)) ≡ sys.clash_by way.Receive kd (Some st2)
-  takes_found a k n e = found (Receives j kd a) way.Receive (e ∙ ap (λ b. Receives b kd a) (G.one_channel k j n.1 named.1 (n.2 ∙ sym named.2))) (λ e1. refl)
+  takes_found : (a : Ptr) (k : ℕ) → Named G ch k → t.5 ≡ Receives k kd a
+      → fault_of G.g.limits u (Stopped t.5 (At t.0 t.1 t.2)) ≡ sys.clash_by way.Receive kd (Some st2)
+  takes_found a k n e = found (Receives j kd a) way.Receive
+      (e ∙ ap (λ b. Receives b kd a) (G.one_channel k j n.1 named.1 (n.2 ∙ sym named.2))) (λ e1. refl)
 
   -- ---- the entry, by the two cargos
 
   abbrev Mine : Cargo Held Address → Type 0
-  Mine g1 = Ca G (lv v) (λ a b. lv ((a, b) ∷ v)) v z.fresh (p1 G lv c s u l i d at_i).who z.named (c.since v) t.3 ch kd g1 t.5
+  Mine g1 = Ca G (lv v) (λ a b. lv ((a, b) ∷ v)) v z.fresh (p1 G lv c s u l i d at_i).who z.named (c.since v) t.3 ch kd
+      g1 t.5
 
   abbrev Other : Cargo Held Address → Type 0
-  Other g2 = Ca G (lv zn) (λ a b. lv ((a, b) ∷ zn)) zn t2.fresh off2.next.who t2.named (c.since zn) t2.js off2.channel off2.kind g2 st2
+  Other g2 = Ca G (lv zn) (λ a b. lv ((a, b) ∷ zn)) zn t2.fresh off2.next.who t2.named (c.since zn) t2.js off2.channel
+      off2.kind g2 st2
 
   other_kind : (b : Bool) → kd == off2.kind ≡ b → off2.kind == kd ≡ b
   other_kind true e = eq-eqb off2.kind kd (sym (eqb-true kd off2.kind e))
-  other_kind false e = ne_eqb off2.kind kd (λ f. let g : true ≡ false = sym (eq-eqb kd off2.kind (sym f)) ∙ e in absurd (cc g))
+  other_kind false e = ne_eqb off2.kind kd (λ f. let g : true ≡ false = sym (eq-eqb kd off2.kind (sym f)) ∙ e in
+      absurd (cc g))
 
-  send_take : (value : Value) (a : Address) → cg ≡ Message (Tree value) → off2.cargo ≡ Takes a → Mine (Message (Tree value)) → Other (Takes a) → (b : Bool) → kd == off2.kind ≡ b → Entry_of G c s u i d
+  send_take : (value : Value) (a : Address) → cg ≡ Message (Tree value) → off2.cargo ≡ Takes a
+      → Mine (Message (Tree value)) → Other (Takes a) → (b : Bool) → kd == off2.kind ≡ b → Entry_of G c s u i d
   send_take value a e f h k true q = sending_meets value e a f q
   send_take value a e f h k false q = clash_entry fault.F7
-      (outcome_is (Some (a, Tree value)) (ap (λ b. message b off2.cargo) e ∙ ap (λ b. message (Message (Tree value)) b) f) ∙ ap (λ b. if b then Advances (meeting {L = superpascal G.g} x.at v off zn off2 (a, Tree value)) else Faulty fault.F7) q)
-      (sends_found (cells_in h.1) h.0 h.3 h.2 ∙ ap (λ b. sys.clash_by way.Send kd (Some b)) k.2 ∙ ap (λ b. if b then None else Some fault.F7) (other_kind false q))
+      (outcome_is (Some (a, Tree value)) (ap (λ b. message b off2.cargo) e
+      ∙ ap (λ b. message (Message (Tree value)) b) f)
+      ∙ ap (λ b. if b then Advances (meeting {L = superpascal G.g} x.at v off zn off2 (a, Tree value)) else
+      Faulty fault.F7) q)
+      (sends_found (cells_in h.1) h.0 h.3 h.2 ∙ ap (λ b. sys.clash_by way.Send kd (Some b)) k.2
+      ∙ ap (λ b. if b then None else Some fault.F7) (other_kind false q))
 
-  take_send : (value : Value) (a : Address) → cg ≡ Takes a → off2.cargo ≡ Message (Tree value) → Mine (Takes a) → Other (Message (Tree value)) → (b : Bool) → kd == off2.kind ≡ b → Entry_of G c s u i d
+  take_send : (value : Value) (a : Address) → cg ≡ Takes a → off2.cargo ≡ Message (Tree value) → Mine (Takes a)
+      → Other (Message (Tree value)) → (b : Bool) → kd == off2.kind ≡ b → Entry_of G c s u i d
   take_send value a e f h k true q = receiving_meets value a e f q
   take_send value a e f h k false q = clash_entry fault.F7
-      (outcome_is (Some (a, Tree value)) (ap (λ b. message b off2.cargo) e ∙ ap (λ b. message (Takes a) b) f) ∙ ap (λ b. if b then Advances (meeting {L = superpascal G.g} x.at v off zn off2 (a, Tree value)) else Faulty fault.F7) q)
-      (takes_found h.1 h.0 h.3 h.2 ∙ ap (λ b. sys.clash_by way.Receive kd (Some b)) k.2 ∙ ap (λ b. if b then None else Some fault.F7) (other_kind false q))
+      (outcome_is (Some (a, Tree value)) (ap (λ b. message b off2.cargo) e ∙ ap (λ b. message (Takes a) b) f)
+      ∙ ap (λ b. if b then Advances (meeting {L = superpascal G.g} x.at v off zn off2 (a, Tree value)) else
+      Faulty fault.F7) q)
+      (takes_found h.1 h.0 h.3 h.2 ∙ ap (λ b. sys.clash_by way.Receive kd (Some b)) k.2
+      ∙ ap (λ b. if b then None else Some fault.F7) (other_kind false q))
 
   both : (g1 g2 : Cargo Held Address) → cg ≡ g1 → off2.cargo ≡ g2 → Mine g1 → Other g2 → Entry_of G c s u i d
   both (Message (Tree value)) (Takes a) e f h k = send_take value a e f h k (kd == off2.kind) refl
   both (Takes a) (Message (Tree value)) e f h k = take_send value a e f h k (kd == off2.kind) refl
   both (Message (Tree value)) (Message (Tree other)) e f h k = clash_entry fault.F6
-      (outcome_is None (ap (λ b. message b off2.cargo) e ∙ ap (λ b. message (Message (Tree value)) b) f)) (sends_found (cells_in h.1) h.0 h.3 h.2 ∙ ap (λ b. sys.clash_by way.Send kd (Some b)) k.2)
+      (outcome_is None (ap (λ b. message b off2.cargo) e ∙ ap (λ b. message (Message (Tree value)) b) f))
+      (sends_found (cells_in h.1) h.0 h.3 h.2 ∙ ap (λ b. sys.clash_by way.Send kd (Some b)) k.2)
   both (Takes a) (Takes b) e f h k = clash_entry fault.F6
-      (outcome_is None (ap (λ b. message b off2.cargo) e ∙ ap (λ b. message (Takes a) b) f)) (takes_found h.1 h.0 h.3 h.2 ∙ ap (λ b. sys.clash_by way.Receive kd (Some b)) k.2)
+      (outcome_is None (ap (λ b. message b off2.cargo) e ∙ ap (λ b. message (Takes a) b) f))
+      (takes_found h.1 h.0 h.3 h.2 ∙ ap (λ b. sys.clash_by way.Receive kd (Some b)) k.2)
   both (Message (Position n)) g2 e f h k = absurd h
   both (Message (Written bs)) g2 e f h k = absurd h
   both (Message (Tree value)) (Message (Position n)) e f h k = absurd k

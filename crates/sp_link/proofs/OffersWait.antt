@@ -1,6 +1,8 @@
 -- The entry `Send` or `Receive` on both sides where nothing is pending on the channel: the offer waits
 -- (`waiting_entry`).
-use Rattle.std.proofs.Common.{◌≡◌, ◌⊎◌, inl, ⊎_elim, ℕ, suc, ◌+◌, ◌<◌, ◌==◌, List, ◌∷◌, length, Option, Some, None, Bool, true, false, cond, if◌then◌else◌, eqb-true, eq-eqb, refl, sym, ap, ◌∙◌, subst, arith}
+use Rattle.std.proofs.Common.{◌≡◌, ◌⊎◌, inl, ⊎_elim, ℕ, suc, ◌+◌, ◌<◌, ◌==◌, List, ◌∷◌, length, Option, Some, None}
+use Rattle.std.proofs.Common.{Bool, true, false, cond, if◌then◌else◌, eqb-true, eq-eqb, refl, sym, ap, ◌∙◌, subst}
+use Rattle.std.proofs.Common.{arith}
 use Rattle.std.proofs.Common.{one-add}
 use Rattle.std.specs.Prelude.{◌≢◌, nat_lt}
 use Rattle.std.proofs.lemmas.Bool.{ne_eqb}
@@ -15,10 +17,13 @@ use Rattle.sp_journal.specs.declared.entry.Event.TheVariants as event
 use Rattle.sp_journal.specs.Births.{happening}
 use Rattle.sp_journal.specs.Maps.{at_key}
 use Rattle.sp_cell.specs.Map.{Plain}
-use Rattle.sp_meaning.specs.Model.{Name, same_name, Condition, Absent, Works, Waits, Joins, Ended, Becomes, changed, after as After, same_channel, Channel, Cargo, Message, Takes, Offer, Totals, add}
-use Rattle.sp_meaning.specs.Steps.{has_ended, working_in, JoinsAt, Lives as IsLive, OfferOf, waiting, an_entry, way_of, Outcome, Advances, outcome, passed, unless, offered, acts}
+use Rattle.sp_meaning.specs.Model.{Name, same_name, Condition, Absent, Works, Waits, Joins, Ended, Becomes, changed}
+use Rattle.sp_meaning.specs.Model.{after as After, same_channel, Channel, Cargo, Message, Takes, Offer, Totals, add}
+use Rattle.sp_meaning.specs.Steps.{has_ended, working_in, JoinsAt, Lives as IsLive, OfferOf, waiting, an_entry, way_of}
+use Rattle.sp_meaning.specs.Steps.{Outcome, Advances, outcome, passed, unless, offered, acts}
 use Rattle.sp_meaning.specs.Entries.{Happening, Offered as Is_offered}
-use Rattle.sp_meaning.specs.Own.{Setting, Loc, Output, Held, Address, Own, Process, Came, Got, Written, Item, Tree, Position}
+use Rattle.sp_meaning.specs.Own.{Setting, Loc, Output, Held, Address, Own, Process, Came, Got, Written, Item, Tree}
+use Rattle.sp_meaning.specs.Own.{Position}
 use Rattle.sp_meaning.specs.Deeds.{Deed, Offered}
 use Rattle.sp_meaning.specs.SuperPascal.{with_todo}
 use Rattle.sp_meaning.specs.SuperPascal.{superpascal}
@@ -44,15 +49,22 @@ use Rattle.sp_link.proofs.Journal.{Way_on, IsOpen, now_by}
 use Rattle.sp_link.proofs.KernelSteps.{kernel_next, kernel_says, stand_dead}
 use Rattle.sp_link.proofs.OneChanges.{its, here, number_or, inv_local}
 use Rattle.sp_link.proofs.Pauses.{Entry_of, Meant, Machined, Kept_to, kids, turn_is, after_quiet}
-use Rattle.sp_link.proofs.Relation.{Ground, Life, Lives, W_of, R_of, St, Stands, Joined, Performs_all, Told, Ca, IsPending, Linked, Began, run_is, ops, left_of}
+use Rattle.sp_link.proofs.Relation.{Ground, Life, Lives, W_of, R_of, St, Stands, Joined, Performs_all, Told, Ca}
+use Rattle.sp_link.proofs.Relation.{IsPending, Linked, Began, run_is, ops, left_of}
 use Rattle.sp_link.proofs.OthersStay.{does_stay}
 use Rattle.sp_meaning.proofs.QuietDeeds.{IsDead}
-use Rattle.sp_link.proofs.AtStop.{same_but_dead, w, p1, kt, alone_at, known_at, rights_at, ended_at, other_name, does_at}
+use Rattle.sp_link.proofs.AtStop.{same_but_dead, w, p1, kt, alone_at, known_at, rights_at, ended_at, other_name}
+use Rattle.sp_link.proofs.AtStop.{does_at}
 
-module _ (G : Ground) (lv : Lives G) (c : Course) (s : StateOf G.g) (u : System Plain) (l : Linked G lv c s u) (i : ℕ) (d : Config (Memory Plain)) (at_i : u.condition i ≡ sys.Working d)
-    (z : Stands G (lv (w G lv c s u l i d at_i)) (kids G lv c s u l i d at_i) (w G lv c s u l i d at_i) (c.since (w G lv c s u l i d at_i)) (p1 G lv c s u l i d at_i) s.store d)
-    (ch : Channel) (kd : ℕ) (cg : Cargo Held Address) (todo : List Item) (o : Own) (m : Store) (x : Meant G lv c s u l i d at_i z (Got (source.Stops (Offered ch kd cg todo)) o, m)) (t : Machined G lv c s u l i d at_i z (Got (source.Stops (Offered ch kd cg todo)) o, m))
-    (y : Kept_to G lv c s u l i d at_i z (Got (source.Stops (Offered ch kd cg todo)) o, m)) (quiet : u.faulted ≡ false) (alone_there : s.pending ch ≡ None) (enough : nat_lt G.g.limits.entries (u.entries + 1) ≡ false) where
+module _ (G : Ground) (lv : Lives G) (c : Course) (s : StateOf G.g) (u : System Plain) (l : Linked G lv c s u) (i : ℕ)
+    (d : Config (Memory Plain)) (at_i : u.condition i ≡ sys.Working d)
+    (z : Stands G (lv (w G lv c s u l i d at_i)) (kids G lv c s u l i d at_i) (w G lv c s u l i d at_i)
+    (c.since (w G lv c s u l i d at_i)) (p1 G lv c s u l i d at_i) s.store d)
+    (ch : Channel) (kd : ℕ) (cg : Cargo Held Address) (todo : List Item) (o : Own) (m : Store)
+    (x : Meant G lv c s u l i d at_i z (Got (source.Stops (Offered ch kd cg todo)) o, m))
+    (t : Machined G lv c s u l i d at_i z (Got (source.Stops (Offered ch kd cg todo)) o, m))
+    (y : Kept_to G lv c s u l i d at_i z (Got (source.Stops (Offered ch kd cg todo)) o, m)) (quiet : u.faulted ≡ false)
+    (alone_there : s.pending ch ≡ None) (enough : nat_lt G.g.limits.entries (u.entries + 1) ≡ false) where
   abbrev v : Name
   v = w G lv c s u l i d at_i
 
@@ -68,23 +80,29 @@ module _ (G : Ground) (lv : Lives G) (c : Course) (s : StateOf G.g) (u : System 
   passes : passed (most G.g) x.at.totals (Some an_entry) ≡ None
   passes =
       ap (λ (a : Totals). passed (most G.g) a (Some an_entry)) totals_are
-      ∙ ap (λ n. if nat_lt G.g.limits.entries (n + 1) then Some Rattle.sp_base.specs.declared.fault.Fault.TheVariants.F15 else None) l.entries
+      ∙ ap (λ n. if nat_lt G.g.limits.entries (n + 1) then
+      Some Rattle.sp_base.specs.declared.fault.Fault.TheVariants.F15 else None) l.entries
       ∙ ap (λ b. if b then Some Rattle.sp_base.specs.declared.fault.Fault.TheVariants.F15 else None) enough
 
   none_there : x.at.pending ch ≡ None
   none_there = ap (λ a. a ch) x.elsewhere.pending ∙ alone_there
 
-  outcome_is : outcome {L = superpascal G.g} (most G.g) x.at v (Rattle.sp_meaning.specs.Model.Offering off) ≡ Advances (waiting {L = superpascal G.g} x.at v off)
-  outcome_is = ap (λ a. unless a (offered {L = superpascal G.g} x.at v off (x.at.pending ch))) passes ∙ ap (λ a. offered {L = superpascal G.g} x.at v off a) none_there
+  outcome_is : outcome {L = superpascal G.g} (most G.g) x.at v (Rattle.sp_meaning.specs.Model.Offering off)
+      ≡ Advances (waiting {L = superpascal G.g} x.at v off)
+  outcome_is = ap (λ a. unless a (offered {L = superpascal G.g} x.at v off (x.at.pending ch))) passes
+      ∙ ap (λ a. offered {L = superpascal G.g} x.at v off a) none_there
 
   abbrev t1 : StateOf G.g
   t1 = After {L = superpascal G.g} (waiting {L = superpascal G.g} x.at v off) x.at
 
   said : says G.g x.at v x.left ≡ Some (Is_offered (way_of cg) ch)
-  said = kernel_says G.g v x.at x.left x.runs r x.does ∙ ap (λ a. Rattle.sp_meaning.specs.Runs.said_of {L = superpascal G.g} (Rattle.sp_meaning.specs.Model.Offering off) a) outcome_is
+  said = kernel_says G.g v x.at x.left x.runs r x.does
+      ∙ ap (λ a. Rattle.sp_meaning.specs.Runs.said_of {L = superpascal G.g} (Rattle.sp_meaning.specs.Model.Offering off)
+      a) outcome_is
 
   goes_next : next G.g x.at v ≡ Some t1
-  goes_next = kernel_next G.g v x.at x.left x.runs r x.does ∙ ap (λ a. Some (Rattle.sp_meaning.specs.Steps.result_of {L = superpascal G.g} x.at v a)) outcome_is
+  goes_next = kernel_next G.g v x.at x.left x.runs r x.does
+      ∙ ap (λ a. Some (Rattle.sp_meaning.specs.Steps.result_of {L = superpascal G.g} x.at v a)) outcome_is
 
   abbrev what : Happening
   what = Is_offered (way_of cg) ch
@@ -105,29 +123,51 @@ module _ (G : Ground) (lv : Lives G) (c : Course) (s : StateOf G.g) (u : System 
   known_then = known_at G lv c s u l i d at_i z r x what said
 
   known_now : Known G.g t1
-  known_now = record { sound = step_sound (most G.g) x.at v t1 known_then.sound goes_next; well = lowered G.g (λ a. ticks_in (x.at.condition a)) t1 (step_well G.g x.at known_then.sound v (raised G.g x.at known_then.well) t1 goes_next) }
+  known_now = record {
+    sound = step_sound (most G.g) x.at v t1 known_then.sound goes_next;
+    well = lowered G.g (λ a. ticks_in (x.at.condition a)) t1
+        (step_well G.g x.at known_then.sound v (raised G.g x.at known_then.well) t1 goes_next);
+  }
 
   rights_then : Inv G.g.program (W_of G lv) (R_of G lv) x.at.condition x.at.forks
   rights_then = rights_at G lv c s u l i d at_i z r x what said
 
   holds : Holds G.g.program (W_of G lv) (R_of G lv) x.at.forks v (Waits off)
-  holds = (record { named = x.good.named; forked = ap (λ (a : Rattle.sp_meaning.specs.Own.Who). a.forks) x.who_is ∙ (kt G lv c s u l i d at_i).forked ∙ ap (λ a. a v) (sym x.elsewhere.forks); last = (kt G lv c s u l i d at_i).last; fit = y.final.1 }, y.final.0)
+  holds = (
+    record {
+      named = x.good.named;
+      forked = ap (λ (a : Rattle.sp_meaning.specs.Own.Who). a.forks) x.who_is
+          ∙ (kt G lv c s u l i d at_i).forked ∙ ap (λ a. a v) (sym x.elsewhere.forks);
+      last = (kt G lv c s u l i d at_i).last;
+      fit = y.final.1;
+    },
+    y.final.0,
+  )
 
   rights_now : Inv G.g.program (W_of G lv) (R_of G lv) t1.condition t1.forks
   rights_now = inv_local G (W_of G lv) (R_of G lv) x.at.condition t1.condition x.at.forks t1.forks v rights_then refl
-      (λ e. subst (λ a. IsLive a) e (working_lives x.at.condition v (x.at.condition v) x.left x.runs)) same (subst (λ a. Holds G.g.program (W_of G lv) (R_of G lv) x.at.forks v a) (sym waits) holds)
+      (λ e. subst (λ a. IsLive a) e (working_lives x.at.condition v (x.at.condition v) x.left x.runs)) same
+      (subst (λ a. Holds G.g.program (W_of G lv) (R_of G lv) x.at.forks v a) (sym waits) holds)
 
   ended_same : (a : Name) → has_ended (t1.condition a) ≡ has_ended (x.at.condition a)
-  ended_same a = ⊎_elim (λ (e : a ≡ v). ap (λ b. has_ended (t1.condition b)) e ∙ ap (λ b. has_ended b) waits ∙ sym (ended_at G lv c s u l i d at_i z r x what said) ∙ ap (λ b. has_ended (x.at.condition b)) (sym e)) (λ (e : a ≢ v). ap (λ b. has_ended b) (same a e)) (same_or_not name_test a v)
+  ended_same a = ⊎_elim (λ (e : a ≡ v). ap (λ b. has_ended (t1.condition b)) e ∙ ap (λ b. has_ended b) waits
+      ∙ sym (ended_at G lv c s u l i d at_i z r x what said) ∙ ap (λ b. has_ended (x.at.condition b)) (sym e))
+      (λ (e : a ≢ v). ap (λ b. has_ended b) (same a e)) (same_or_not name_test a v)
 
   present_same : (a : Name) → x.at.condition a ≢ Absent → t1.condition a ≢ Absent
-  present_same a h e = ⊎_elim (λ (f : a ≡ v). subst (λ b. IsLive b) (sym waits ∙ subst (λ b. t1.condition b ≡ Absent) f e) tt) (λ (f : a ≢ v). h (sym (same a f) ∙ e)) (same_or_not name_test a v)
+  present_same a h e = ⊎_elim (λ (f : a ≡ v). subst (λ b. IsLive b)
+      (sym waits ∙ subst (λ b. t1.condition b ≡ Absent) f e) tt) (λ (f : a ≢ v). h (sym (same a f) ∙ e))
+      (same_or_not name_test a v)
 
-  does_other : (j : ℕ) → j < u.births.processes → i ≢ j → Performs_all G lv (G.births.name j) c1 t1 (u.births.opens j) (u.condition j)
+  does_other : (j : ℕ) → j < u.births.processes → i ≢ j
+      → Performs_all G lv (G.births.name j) c1 t1 (u.births.opens j) (u.condition j)
   does_other j lt e =
       let apart = other_name G lv c s u l i d at_i z r x what said j lt e in
-      does_stay G lv x.at t1 known_then.sound rights_then.fair v (alone_at G lv c s u l i d at_i z r x what said) (λ a. inl refl) (G.births.name j) apart (same (G.births.name j) apart)
-      (λ k n. ended_same ((k, n) ∷ G.births.name j)) (λ k n. present_same ((k, n) ∷ G.births.name j)) c c1 (since_other (G.births.name j) apart) refl (λ h. h) (u.births.opens j) (u.condition j) (does_at G lv c s u l i d at_i z r x what said j lt e)
+      does_stay G lv x.at t1 known_then.sound rights_then.fair v (alone_at G lv c s u l i d at_i z r x what said)
+      (λ a. inl refl) (G.births.name j) apart (same (G.births.name j) apart)
+      (λ k n. ended_same ((k, n) ∷ G.births.name j)) (λ k n. present_same ((k, n) ∷ G.births.name j)) c c1
+      (since_other (G.births.name j) apart) refl (λ h. h) (u.births.opens j) (u.condition j)
+      (does_at G lv c s u l i d at_i z r x what said j lt e)
 
   -- it stands where it waits
   abbrev n1 : Memory Plain
@@ -143,7 +183,8 @@ module _ (G : Ground) (lv : Lives G) (c : Course) (s : StateOf G.g) (u : System 
   name_is = x.good.named
 
   since_here : c1.since v ≡ (t.2).ticks
-  since_here = ap (λ b. cond b (ticks_of G.g t1 v) (c.since v)) (Rattle.sp_meaning.proofs.Maps.itself name_test v) ∙ ap ticks_in waits ∙ (t.8).ticks
+  since_here = ap (λ b. cond b (ticks_of G.g t1 v) (c.since v)) (Rattle.sp_meaning.proofs.Maps.itself name_test v)
+      ∙ ap ticks_in waits ∙ (t.8).ticks
 
   abbrev stands : Stands G (lv v) (λ a b. lv ((a, b) ∷ v)) v (c1.since v) off.next t1.store there
   stands = record {
@@ -154,16 +195,32 @@ module _ (G : Ground) (lv : Lives G) (c : Course) (s : StateOf G.g) (u : System 
     stack = t.1;
     memory = n1;
     is = refl;
-    stand = stand_again G (lv v) (λ a b. lv ((a, b) ∷ v)) v {w = (p1 G lv c s u l i d at_i).who} {w1 = x.left.who} {since = c.since v} {since1 = c1.since v} (ap (λ (a : Rattle.sp_meaning.specs.Own.Who). a.name) x.who_is) since_here
-        (stand_dead G (lv v) (λ a b. lv ((a, b) ∷ v)) v t.8 x.at.store (λ a. subst (λ b. (x.at.store a ≡ m a) ⊎ IsDead b a) (ap (λ b. length b) (t.8).frames ∙ Rattle.sp_codegen.proofs.Joints.sources_length t.3) (same_but_dead G lv c s u l i d at_i z (Offered ch kd cg todo) o m x tt a)));
-    follows = follows_again G (lv v) (λ a b. lv ((a, b) ∷ v)) v z.fresh z.fresh (p1 G lv c s u l i d at_i).who x.left.who z.named name_is (c.since v) (c1.since v) t.0 t.1 t.3 todo t.10;
+    stand = stand_again G (lv v) (λ a b. lv ((a, b) ∷ v)) v {w = (p1 G lv c s u l i d at_i).who} {w1 = x.left.who}
+        {since = c.since v} {since1 = c1.since v} (ap (λ (a : Rattle.sp_meaning.specs.Own.Who). a.name) x.who_is)
+        since_here
+        (stand_dead G (lv v) (λ a b. lv ((a, b) ∷ v)) v t.8 x.at.store
+        (λ a. subst (λ b. (x.at.store a ≡ m a) ⊎ IsDead b a)
+        (ap (λ b. length b) (t.8).frames ∙ Rattle.sp_codegen.proofs.Joints.sources_length t.3)
+        (same_but_dead G lv c s u l i d at_i z (Offered ch kd cg todo) o m x tt a)));
+    follows = follows_again G (lv v) (λ a b. lv ((a, b) ∷ v)) v z.fresh z.fresh (p1 G lv c s u l i d at_i).who
+        x.left.who z.named name_is (c.since v) (c1.since v) t.0 t.1 t.3 todo t.10;
   }
 
   cargo : Ca G (lv v) (λ a b. lv ((a, b) ∷ v)) v z.fresh x.left.who name_is (c1.since v) t.3 ch kd cg t.5
-  cargo = cargo_again G (lv v) (λ a b. lv ((a, b) ∷ v)) v z.fresh z.fresh (p1 G lv c s u l i d at_i).who x.left.who z.named name_is (c.since v) (c1.since v) t.3 ch kd cg t.5 t.9
+  cargo = cargo_again G (lv v) (λ a b. lv ((a, b) ∷ v)) v z.fresh z.fresh (p1 G lv c s u l i d at_i).who x.left.who
+      z.named name_is (c.since v) (c1.since v) t.3 ch kd cg t.5 t.9
 
   its_does : Performs_all G lv v c1 t1 (u.births.opens i) (sys.Waits t.5 there)
-  its_does = (off, waits, stands, cargo, ap (λ (a : Rattle.sp_meaning.specs.Own.Who). a.opens) x.who_is ∙ (its G lv c s u l i d at_i).3, (its G lv c s u l i d at_i).4, owned_ready G t.5 t.0 t.1 t.2 t.12)
+  its_does = (
+    off,
+    waits,
+    stands,
+    cargo,
+    ap (λ (a : Rattle.sp_meaning.specs.Own.Who). a.opens) x.who_is
+        ∙ (its G lv c s u l i d at_i).3,
+    (its G lv c s u l i d at_i).4,
+    owned_ready G t.5 t.0 t.1 t.2 t.12,
+  )
 
   -- ---- the machine
 
@@ -172,7 +229,8 @@ module _ (G : Ground) (lv : Lives G) (c : Course) (s : StateOf G.g) (u : System 
     is_open = subst (λ n. j < n) l.open_is named.0
 
     nothing_pends : u.pending j ≡ None
-    nothing_pends = by (s.pending (channel G.births j)) (u.pending j) (ap (λ a. s.pending a) named.2 ∙ alone_there) (l.pending j is_open)
+    nothing_pends = by (s.pending (channel G.births j)) (u.pending j) (ap (λ a. s.pending a) named.2 ∙ alone_there)
+        (l.pending j is_open)
       where
         by : (a : Option Name) (b : Option ℕ) → a ≡ None → IsPending G a b → b ≡ None
         by None None e h = refl
@@ -181,7 +239,11 @@ module _ (G : Ground) (lv : Lives G) (c : Course) (s : StateOf G.g) (u : System 
         by (Some a) (Some b) e h = absurd (cc e)
 
     abbrev u1 : System Plain
-    u1 = record u { condition = at_key ◌==◌ i (sys.Waits t.5 there) u.condition; pending = at_key ◌==◌ j (Some i) u.pending; entries = u.entries + 1 }
+    u1 = record u {
+      condition = at_key ◌==◌ i (sys.Waits t.5 there) u.condition;
+      pending = at_key ◌==◌ j (Some i) u.pending;
+      entries = u.entries + 1;
+    }
 
     at_other_number : (a : ℕ) → i ≢ a → u1.condition a ≡ u.condition a
     at_other_number a e = ap (λ b. cond b (sys.Waits t.5 there) (u.condition a)) (ne_eqb i a e)
@@ -189,17 +251,22 @@ module _ (G : Ground) (lv : Lives G) (c : Course) (s : StateOf G.g) (u : System 
     pends_now : (a : ℕ) → a < u.births.channels → IsPending G (t1.pending (channel G.births a)) (u1.pending a)
     pends_now a lt = ⊎_elim
         (λ (e : j ≡ a). subst (λ b. IsPending G (t1.pending (channel G.births b)) (u1.pending b)) e
-        (subst (λ b. IsPending G (cond b (Some v) (x.at.pending (channel G.births j))) (u1.pending j)) (sym ((channel_test ch (channel G.births j)).1 (sym named.2)))
+        (subst (λ b. IsPending G (cond b (Some v) (x.at.pending (channel G.births j))) (u1.pending j))
+        (sym ((channel_test ch (channel G.births j)).1 (sym named.2)))
         (subst (λ b. IsPending G (Some v) (cond b (Some i) (u.pending j))) (sym (eq-eqb j j refl)) (few, refl))))
-        (λ (e : j ≢ a). subst (λ b. IsPending G (cond b (Some v) (x.at.pending (channel G.births a))) (u1.pending a)) (sym (apart e))
-        (subst (λ b. IsPending G (x.at.pending (channel G.births a)) (cond b (Some i) (u.pending a))) (sym (ne_eqb j a e)) (subst (λ b. IsPending G (b (channel G.births a)) (u.pending a)) (sym x.elsewhere.pending) (l.pending a lt))))
+        (λ (e : j ≢ a). subst (λ b. IsPending G (cond b (Some v) (x.at.pending (channel G.births a))) (u1.pending a))
+        (sym (apart e))
+        (subst (λ b. IsPending G (x.at.pending (channel G.births a)) (cond b (Some i) (u.pending a)))
+        (sym (ne_eqb j a e)) (subst (λ b. IsPending G (b (channel G.births a)) (u.pending a))
+        (sym x.elsewhere.pending) (l.pending a lt))))
         (number_or G lv c s u l i d at_i j a)
       where
         few : i < G.births.processes
         few = let a = here G lv c s u l i d at_i in let b = l.began.processes in omega (arith, a, b)
 
         apart : j ≢ a → same_channel ch (channel G.births a) ≡ false
-        apart e = differs channel_test ch (channel G.births a) (λ h. e (G.one_channel j a named.1 (let b = l.began.channels in omega (arith, lt, b)) (named.2 ∙ h)))
+        apart e = differs channel_test ch (channel G.births a)
+            (λ h. e (G.one_channel j a named.1 (let b = l.began.channels in omega (arith, lt, b)) (named.2 ∙ h)))
 
     linked : Linked G lv c1 t1 u1
     linked = record {
@@ -212,19 +279,28 @@ module _ (G : Ground) (lv : Lives G) (c : Course) (s : StateOf G.g) (u : System 
       processes = (let a = ap (λ (b : Totals). b.processes) totals_are in let b = l.processes in omega (arith, a, b));
       channels = (let a = ap (λ (b : Totals). b.channels) totals_are in let b = l.channels in omega (arith, a, b));
       entries = (let a = ap (λ (b : Totals). b.entries) totals_are in let b = l.entries in omega (arith, a, b));
-      fresh_since = λ a e. ⊎_elim (λ (b : a ≡ v). absurd (no_absent (sym waits ∙ subst (λ k. t1.condition k ≡ Absent) b e))) (λ (b : a ≢ v). since_other a b ∙ l.fresh_since a (sym (x.elsewhere.condition a b) ∙ sym (same a b) ∙ e)) (same_or_not name_test a v);
+      fresh_since = λ a e. ⊎_elim (λ (b : a ≡ v). absurd
+          (no_absent (sym waits ∙ subst (λ k. t1.condition k ≡ Absent) b e)))
+          (λ (b : a ≢ v). since_other a b ∙ l.fresh_since a (sym (x.elsewhere.condition a b) ∙ sym (same a b) ∙ e))
+          (same_or_not name_test a v);
       pending = pends_now;
-      none_pending = λ a le. ap (λ b. cond b (Some i) (u.pending a)) (ne_eqb j a (λ e. let b = is_open in omega (arith, b, le, e))) ∙ l.none_pending a le;
+      none_pending = λ a le. ap (λ b. cond b (Some i) (u.pending a))
+          (ne_eqb j a (λ e. let b = is_open in omega (arith, b, le, e))) ∙ l.none_pending a le;
       faulted = l.faulted;
       quiet = λ e. x.elsewhere.fault ∙ l.quiet e;
       unlaid = l.unlaid;
       does = λ a lt. ⊎_elim
-          (λ (e : i ≡ a). subst (λ b. Performs_all G lv (G.births.name b) c1 t1 (u.births.opens b) (u1.condition b)) e (subst (λ b. Performs_all G lv v c1 t1 (u.births.opens i) b) (sym (ap (λ b. cond b (sys.Waits t.5 there) (u.condition i)) (eq-eqb i i refl))) its_does))
-          (λ (e : i ≢ a). subst (λ b. Performs_all G lv (G.births.name a) c1 t1 (u.births.opens a) b) (sym (at_other_number a e)) (does_other a lt e))
+          (λ (e : i ≡ a). subst (λ b. Performs_all G lv (G.births.name b) c1 t1 (u.births.opens b) (u1.condition b)) e
+          (subst (λ b. Performs_all G lv v c1 t1 (u.births.opens i) b)
+          (sym (ap (λ b. cond b (sys.Waits t.5 there) (u.condition i)) (eq-eqb i i refl))) its_does))
+          (λ (e : i ≢ a). subst (λ b. Performs_all G lv (G.births.name a) c1 t1 (u.births.opens a) b)
+          (sym (at_other_number a e)) (does_other a lt e))
           (number_or G lv c s u l i d at_i i a);
-      unborn = λ a le. at_other_number a (λ e. let b = here G lv c s u l i d at_i in omega (arith, b, le, e)) ∙ l.unborn a le;
+      unborn = λ a le. at_other_number a (λ e. let b = here G lv c s u l i d at_i in omega (arith, b, le, e))
+          ∙ l.unborn a le;
       unmade = l.unmade;
-      numbered = λ a h. ⊎_elim (λ (e : a ≡ v). (i, here G lv c s u l i d at_i, sym e)) (λ (e : a ≢ v). l.numbered a (λ f. h (same a e ∙ x.elsewhere.condition a e ∙ f))) (same_or_not name_test a v);
+      numbered = λ a h. ⊎_elim (λ (e : a ≡ v). (i, here G lv c s u l i d at_i, sym e))
+          (λ (e : a ≢ v). l.numbered a (λ f. h (same a e ∙ x.elsewhere.condition a e ∙ f))) (same_or_not name_test a v);
     }
       where
         no_absent : ◌≡◌ {A = Condition Process Held Address} (Waits off) Absent → ⊥
@@ -232,44 +308,77 @@ module _ (G : Ground) (lv : Lives G) (c : Course) (s : StateOf G.g) (u : System 
 
     -- what the machine's turn makes of its system, for either way
     abbrev u1_of : machine.Stop → System Plain
-    u1_of st = record u { condition = at_key ◌==◌ i (sys.Waits st there) u.condition; pending = at_key ◌==◌ j (Some i) u.pending; entries = u.entries + 1 }
+    u1_of st = record u {
+      condition = at_key ◌==◌ i (sys.Waits st there) u.condition;
+      pending = at_key ◌==◌ j (Some i) u.pending;
+      entries = u.entries + 1;
+    }
 
     abbrev turn_of : machine.Stop → Turn (Memory Plain)
     turn_of st = Stopped st (At t.0 t.1 t.2)
 
     abbrev or_f15 : Option Fault
-    or_f15 = if nat_lt G.g.limits.entries (u.entries + 1) then Some Rattle.sp_base.specs.declared.fault.Fault.TheVariants.F15 else None
+    or_f15 = if nat_lt G.g.limits.entries (u.entries + 1) then
+        Some Rattle.sp_base.specs.declared.fault.Fault.TheVariants.F15 else None
 
     abbrev made : Option Fault → machine.Stop → System Plain
-    made f st = record (sys.unless_fault plain (run_is G) f i (turn_of st) u) { births = Rattle.sp_journal.specs.Births.after_event u.births i (sys.event_or f (turn_of st)) }
+    made f st = record (sys.unless_fault plain (run_is G) f i (turn_of st) u)
+        { births = Rattle.sp_journal.specs.Births.after_event u.births i (sys.event_or f (turn_of st)) }
 
-    none_fault : (w1 : Way) → Rattle.sp_code.specs.System.first_fault or_f15 (sys.clash_by w1 kd (sys.pending_stop u (u.pending j))) ≡ None
-    none_fault w1 = ap (λ a. sys.first_fault (if a then Some Rattle.sp_base.specs.declared.fault.Fault.TheVariants.F15 else None) (sys.clash_by w1 kd (sys.pending_stop u (u.pending j)))) enough ∙ ap (λ a. sys.clash_by w1 kd (sys.pending_stop u a)) nothing_pends ∙ by w1
+    none_fault : (w1 : Way) → Rattle.sp_code.specs.System.first_fault or_f15
+        (sys.clash_by w1 kd (sys.pending_stop u (u.pending j))) ≡ None
+    none_fault w1 = ap (λ a. sys.first_fault
+        (if a then Some Rattle.sp_base.specs.declared.fault.Fault.TheVariants.F15 else None)
+        (sys.clash_by w1 kd (sys.pending_stop u (u.pending j)))) enough
+        ∙ ap (λ a. sys.clash_by w1 kd (sys.pending_stop u a)) nothing_pends ∙ by w1
       where
         by : (w1 : Way) → sys.clash_by w1 kd None ≡ None
         by way.Send = refl
         by way.Receive = refl
 
-    sends : (cs : List Rattle.sp_cell.specs.declared.cell.Cell.Cell) → after plain (run_is G) i (turn_of (machine.Sends j kd cs)) u ≡ u1_of (machine.Sends j kd cs)
-    sends cs = after_quiet G i (turn_of (machine.Sends j kd cs)) u quiet ∙ ap (λ f. made f (machine.Sends j kd cs)) (none_fault way.Send)
-        ∙ ap (λ a. record (sys.counted plain (run_is G) (sys.sent plain (run_is G) i (machine.Sends j kd cs) j cs there a u)) { births = u.births }) nothing_pends
+    sends : (cs : List Rattle.sp_cell.specs.declared.cell.Cell.Cell)
+        → after plain (run_is G) i (turn_of (machine.Sends j kd cs)) u ≡ u1_of (machine.Sends j kd cs)
+    sends cs = after_quiet G i (turn_of (machine.Sends j kd cs)) u quiet
+        ∙ ap (λ f. made f (machine.Sends j kd cs)) (none_fault way.Send)
+        ∙ ap (λ a. record (sys.counted plain (run_is G)
+        (sys.sent plain (run_is G) i (machine.Sends j kd cs) j cs there a u)) { births = u.births }) nothing_pends
 
-    takes : (a : Rattle.sp_cell.specs.declared.spot.Address.Address) → after plain (run_is G) i (turn_of (machine.Receives j kd a)) u ≡ u1_of (machine.Receives j kd a)
-    takes a = after_quiet G i (turn_of (machine.Receives j kd a)) u quiet ∙ ap (λ f. made f (machine.Receives j kd a)) (none_fault way.Receive)
-        ∙ ap (λ b. record (sys.counted plain (run_is G) (sys.taken plain (run_is G) i (machine.Receives j kd a) j a there b u)) { births = u.births }) nothing_pends
+    takes : (a : Rattle.sp_cell.specs.declared.spot.Address.Address)
+        → after plain (run_is G) i (turn_of (machine.Receives j kd a)) u ≡ u1_of (machine.Receives j kd a)
+    takes a = after_quiet G i (turn_of (machine.Receives j kd a)) u quiet
+        ∙ ap (λ f. made f (machine.Receives j kd a)) (none_fault way.Receive)
+        ∙ ap (λ b. record (sys.counted plain (run_is G)
+        (sys.taken plain (run_is G) i (machine.Receives j kd a) j a there b u)) { births = u.births }) nothing_pends
 
-    event_sends : (cs : List Rattle.sp_cell.specs.declared.cell.Cell.Cell) → event_of G.g.limits u (turn_of (machine.Sends j kd cs)) ≡ event.Send j
-    event_sends cs = ap (λ b. if b then event.Laid else sys.event_or (sys.fault_of G.g.limits u (turn_of (machine.Sends j kd cs))) (turn_of (machine.Sends j kd cs))) quiet ∙ ap (λ f. sys.event_or f (turn_of (machine.Sends j kd cs))) (none_fault way.Send)
+    event_sends : (cs : List Rattle.sp_cell.specs.declared.cell.Cell.Cell)
+        → event_of G.g.limits u (turn_of (machine.Sends j kd cs)) ≡ event.Send j
+    event_sends cs = ap (λ b. if b then event.Laid else
+        sys.event_or (sys.fault_of G.g.limits u (turn_of (machine.Sends j kd cs))) (turn_of (machine.Sends j kd cs)))
+        quiet ∙ ap (λ f. sys.event_or f (turn_of (machine.Sends j kd cs))) (none_fault way.Send)
 
-    event_takes : (a : Rattle.sp_cell.specs.declared.spot.Address.Address) → event_of G.g.limits u (turn_of (machine.Receives j kd a)) ≡ event.Receive j
-    event_takes a = ap (λ b. if b then event.Laid else sys.event_or (sys.fault_of G.g.limits u (turn_of (machine.Receives j kd a))) (turn_of (machine.Receives j kd a))) quiet ∙ ap (λ f. sys.event_or f (turn_of (machine.Receives j kd a))) (none_fault way.Receive)
+    event_takes : (a : Rattle.sp_cell.specs.declared.spot.Address.Address)
+        → event_of G.g.limits u (turn_of (machine.Receives j kd a)) ≡ event.Receive j
+    event_takes a = ap (λ b. if b then event.Laid else
+        sys.event_or (sys.fault_of G.g.limits u (turn_of (machine.Receives j kd a)))
+        (turn_of (machine.Receives j kd a))) quiet
+        ∙ ap (λ f. sys.event_or f (turn_of (machine.Receives j kd a))) (none_fault way.Receive)
 
     name_of : channel u.births j ≡ ch
     name_of = l.began.openings j is_open ∙ named.2
 
     -- the entry, once it is known what the machine's turn makes
-    entry_by : after plain (run_is G) i (turn_of t.5) u ≡ u1 → happening u.births (event_of G.g.limits u (turn_of t.5)) ≡ what → IsOpen u.births (event_of G.g.limits u (turn_of t.5)) → Entry_of G c s u i d
-    entry_by is told speaks = record { turn = turn_of t.5; is = tn_is; way = way_by _ (sym told); speaks = speaks; lives = lv; linked = λ began. now_by G lv c1 t1 (after plain (run_is G) i (turn_of t.5) u) (subst (λ a. Linked G lv c1 t1 a) (sym is) linked) }
+    entry_by : after plain (run_is G) i (turn_of t.5) u ≡ u1
+        → happening u.births (event_of G.g.limits u (turn_of t.5)) ≡ what
+        → IsOpen u.births (event_of G.g.limits u (turn_of t.5)) → Entry_of G c s u i d
+    entry_by is told speaks = record {
+      turn = turn_of t.5;
+      is = tn_is;
+      way = way_by _ (sym told);
+      speaks = speaks;
+      lives = lv;
+      linked = λ began. now_by G lv c1 t1 (after plain (run_is G) i (turn_of t.5) u)
+          (subst (λ a. Linked G lv c1 t1 a) (sym is) linked);
+    }
       where
         way_by : (e : Happening) → what ≡ e → Way_on G c s v e
         way_by e h = record {
@@ -281,21 +390,32 @@ module _ (G : Ground) (lv : Lives G) (c : Course) (s : StateOf G.g) (u : System 
           cost = 1;
           course = c1;
           state = t1;
-          enters = λ left n k. subst (λ f. Entered G.g left c x.at false v f (1 + n)) h (l.faulted ∙ quiet, refl, t1, n, one-add n, (x.left, x.runs, said, goes_next), k);
+          enters = λ left n k. subst (λ f. Entered G.g left c x.at false v f (1 + n)) h
+              (l.faulted ∙ quiet, refl, t1, n, one-add n, (x.left, x.runs, said, goes_next), k);
         }
 
   -- of both ways
-  waiting_by : (g1 : Cargo Held Address) → cg ≡ g1 → Ca G (lv v) (λ a b. lv ((a, b) ∷ v)) v z.fresh x.left.who name_is (c1.since v) t.3 ch kd g1 t.5 → Entry_of G c s u i d
+  waiting_by : (g1 : Cargo Held Address) → cg ≡ g1
+      → Ca G (lv v) (λ a b. lv ((a, b) ∷ v)) v z.fresh x.left.who name_is (c1.since v) t.3 ch kd g1 t.5
+      → Entry_of G c s u i d
   waiting_by (Message (Tree a)) e h = entry_by h.0 h.3
-      (ap (λ st. after plain (run_is G) i (Stopped st (At t.0 t.1 t.2)) u) h.2 ∙ sends h.0 h.3 _ ∙ ap (λ st. u1_of h.0 h.3 st) (sym h.2))
-      (ap (λ st. happening u.births (event_of G.g.limits u (Stopped st (At t.0 t.1 t.2)))) h.2 ∙ ap (λ f. happening u.births f) (event_sends h.0 h.3 _) ∙ ap (λ a. Is_offered way.Send a) (name_of h.0 h.3) ∙ ap (λ a. Is_offered (way_of a) ch) (sym e))
-      (subst (λ st. IsOpen u.births (event_of G.g.limits u (Stopped st (At t.0 t.1 t.2)))) (sym h.2) (subst (λ f. IsOpen u.births f) (sym (event_sends h.0 h.3 _)) (is_open h.0 h.3)))
+      (ap (λ st. after plain (run_is G) i (Stopped st (At t.0 t.1 t.2)) u) h.2 ∙ sends h.0 h.3 _
+      ∙ ap (λ st. u1_of h.0 h.3 st) (sym h.2))
+      (ap (λ st. happening u.births (event_of G.g.limits u (Stopped st (At t.0 t.1 t.2)))) h.2
+      ∙ ap (λ f. happening u.births f) (event_sends h.0 h.3 _) ∙ ap (λ a. Is_offered way.Send a) (name_of h.0 h.3)
+      ∙ ap (λ a. Is_offered (way_of a) ch) (sym e))
+      (subst (λ st. IsOpen u.births (event_of G.g.limits u (Stopped st (At t.0 t.1 t.2)))) (sym h.2)
+      (subst (λ f. IsOpen u.births f) (sym (event_sends h.0 h.3 _)) (is_open h.0 h.3)))
   waiting_by (Message (Position n)) e h = absurd h
   waiting_by (Message (Written bs)) e h = absurd h
   waiting_by (Takes a) e h = entry_by h.0 h.3
-      (ap (λ st. after plain (run_is G) i (Stopped st (At t.0 t.1 t.2)) u) h.2 ∙ takes h.0 h.3 h.1 ∙ ap (λ st. u1_of h.0 h.3 st) (sym h.2))
-      (ap (λ st. happening u.births (event_of G.g.limits u (Stopped st (At t.0 t.1 t.2)))) h.2 ∙ ap (λ f. happening u.births f) (event_takes h.0 h.3 h.1) ∙ ap (λ a. Is_offered way.Receive a) (name_of h.0 h.3) ∙ ap (λ a. Is_offered (way_of a) ch) (sym e))
-      (subst (λ st. IsOpen u.births (event_of G.g.limits u (Stopped st (At t.0 t.1 t.2)))) (sym h.2) (subst (λ f. IsOpen u.births f) (sym (event_takes h.0 h.3 h.1)) (is_open h.0 h.3)))
+      (ap (λ st. after plain (run_is G) i (Stopped st (At t.0 t.1 t.2)) u) h.2 ∙ takes h.0 h.3 h.1
+      ∙ ap (λ st. u1_of h.0 h.3 st) (sym h.2))
+      (ap (λ st. happening u.births (event_of G.g.limits u (Stopped st (At t.0 t.1 t.2)))) h.2
+      ∙ ap (λ f. happening u.births f) (event_takes h.0 h.3 h.1)
+      ∙ ap (λ a. Is_offered way.Receive a) (name_of h.0 h.3) ∙ ap (λ a. Is_offered (way_of a) ch) (sym e))
+      (subst (λ st. IsOpen u.births (event_of G.g.limits u (Stopped st (At t.0 t.1 t.2)))) (sym h.2)
+      (subst (λ f. IsOpen u.births f) (sym (event_takes h.0 h.3 h.1)) (is_open h.0 h.3)))
 
   pub waiting_entry : Entry_of G c s u i d
   waiting_entry = waiting_by cg refl cargo

@@ -1,6 +1,7 @@
 -- An entry that changes one process alone and what it may write keeps the relation (`linked_local`). Here are also the
 -- facts of the process that makes an entry: its name, that it runs, its rights, and that it is alone.
-use Rattle.std.proofs.Common.{◌≡◌, ◌⊎◌, inl, inr, ⊎_elim, ℕ, ◌<◌, ◌==◌, ◌∷◌, Some, None, Bool, true, false, cond, if◌then◌else◌, eqb-true, eq-eqb, refl, sym, ap, ◌∙◌, subst, arith}
+use Rattle.std.proofs.Common.{◌≡◌, ◌⊎◌, inl, inr, ⊎_elim, ℕ, ◌<◌, ◌==◌, ◌∷◌, Some, None, Bool, true, false, cond}
+use Rattle.std.proofs.Common.{if◌then◌else◌, eqb-true, eq-eqb, refl, sym, ap, ◌∙◌, subst, arith}
 use Rattle.std.specs.Prelude.{◌≢◌}
 use Rattle.sp_journal.specs.Maps.{at_key}
 use Rattle.sp_cell.specs.Map.{Plain}
@@ -27,7 +28,9 @@ use Rattle.sp_link.proofs.Relation.{Ground, Lives, W_of, R_of, Performs_all, Lin
 use Rattle.sp_link.proofs.OthersStay.{does_stay}
 
 -- a working process, whatever condition it has, keeps to its rights
-pub holds_by : (G : Ground) (W R : Name → Loc → Type 0) (m : Name → Condition Process Held Address) (f : Name → ℕ) (q : Name) (x : Condition Process Held Address) (pr : Process) → working_in m q x ≡ Some pr → Keeps_to G.g.program W R f q pr → Holds G.g.program W R f q x
+pub holds_by : (G : Ground) (W R : Name → Loc → Type 0) (m : Name → Condition Process Held Address) (f : Name → ℕ)
+    (q : Name) (x : Condition Process Held Address) (pr : Process) → working_in m q x ≡ Some pr
+    → Keeps_to G.g.program W R f q pr → Holds G.g.program W R f q x
 holds_by G W R m f q Absent pr e k = absurd (cc e)
 holds_by G W R m f q (Works o) pr e k = let x : pr ≡ o = cc e in subst (λ z. Keeps_to G.g.program W R f q z) x k
 holds_by G W R m f q (Waits o) pr e k = absurd (cc e)
@@ -39,15 +42,21 @@ holds_by G W R m f q (Joins a b o) pr e k = go (all_ended m q a b) e
 holds_by G W R m f q Ended pr e k = absurd (cc e)
 
 -- the invariant of rights, where only one has changed
-pub inv_local : (G : Ground) (W R : Name → Loc → Type 0) (m m1 : Name → Condition Process Held Address) (f f1 : Name → ℕ) (q : Name) → Inv G.g.program W R m f → f1 ≡ f → (m q ≢ Absent) → ((r : Name) → r ≢ q → m1 r ≡ m r) → Holds G.g.program W R f q (m1 q) → Inv G.g.program W R m1 f1
+pub inv_local : (G : Ground) (W R : Name → Loc → Type 0) (m m1 : Name → Condition Process Held Address)
+    (f f1 : Name → ℕ) (q : Name) → Inv G.g.program W R m f → f1 ≡ f → (m q ≢ Absent) → ((r : Name) → r ≢ q → m1 r ≡ m r)
+    → Holds G.g.program W R f q (m1 q) → Inv G.g.program W R m1 f1
 inv_local G W R m m1 f f1 q i e here other h = subst (λ z. Inv G.g.program W R m1 z) (sym e) (record {
-  holds = λ r. ⊎_elim (λ (x : r ≡ q). subst (λ z. Holds G.g.program W R f z (m1 z)) (sym x) h) (λ (x : r ≢ q). subst (λ z. Holds G.g.program W R f r z) (sym (other r x)) (i.holds r)) (same_or_not name_test r q);
-  unborn = λ r k n le. ⊎_elim (λ (x : (k, n) ∷ r ≡ q). absurd (here (ap m (sym x) ∙ i.unborn r k n le))) (λ (x : (k, n) ∷ r ≢ q). other ((k, n) ∷ r) x ∙ i.unborn r k n le) (same_or_not name_test ((k, n) ∷ r) q);
+  holds = λ r. ⊎_elim (λ (x : r ≡ q). subst (λ z. Holds G.g.program W R f z (m1 z)) (sym x) h)
+      (λ (x : r ≢ q). subst (λ z. Holds G.g.program W R f r z) (sym (other r x)) (i.holds r))
+      (same_or_not name_test r q);
+  unborn = λ r k n le. ⊎_elim (λ (x : (k, n) ∷ r ≡ q). absurd (here (ap m (sym x) ∙ i.unborn r k n le)))
+      (λ (x : (k, n) ∷ r ≢ q). other ((k, n) ∷ r) x ∙ i.unborn r k n le) (same_or_not name_test ((k, n) ∷ r) q);
   fair = i.fair;
   unknown = i.unknown;
 })
 
-module _ (G : Ground) (lv : Lives G) (c : Course) (s : StateOf G.g) (u : System Plain) (l : Linked G lv c s u) (i : ℕ) (d : Config (Memory Plain)) (at_i : u.condition i ≡ sys.Working d) where
+module _ (G : Ground) (lv : Lives G) (c : Course) (s : StateOf G.g) (u : System Plain) (l : Linked G lv c s u) (i : ℕ)
+    (d : Config (Memory Plain)) (at_i : u.condition i ≡ sys.Working d) where
   abbrev pub q : Name
   q = G.births.name i
 
@@ -91,9 +100,14 @@ module _ (G : Ground) (lv : Lives G) (c : Course) (s : StateOf G.g) (u : System 
       go false e = inr (λ f. let x : false ≡ true = sym e ∙ eq-eqb a b f in absurd (cc x))
 
   module _ (t : StateOf G.g) (c1 : Course) (x : sys.Condition Plain) (f : Bool)
-      (other : (r : Name) → r ≢ q → t.condition r ≡ s.condition r) (forks : t.forks ≡ s.forks) (pending : t.pending ≡ s.pending) (totals : t.totals ≡ s.totals)
-      (stays : (a : Loc) → (t.store a ≡ s.store a) ⊎ All (W_of G lv) q a) (known : Known G.g t) (left : Process) (works : working_in t.condition q (t.condition q) ≡ Some left) (rights : Keeps_to G.g.program (W_of G lv) (R_of G lv) s.forks q left)
-      (since : (r : Name) → r ≢ q → c1.since r ≡ c.since r) (laid : (r : Name) → r ≢ q → c1.laid r ≡ c.laid r) (more : c.faulted ≡ true → c1.faulted ≡ true) (faulted : c1.faulted ≡ f) (quiet : f ≡ false → t.fault ≡ None) (unlaid : f ≡ false → (r : Name) → c1.laid r ≡ false)
+      (other : (r : Name) → r ≢ q → t.condition r ≡ s.condition r) (forks : t.forks ≡ s.forks)
+      (pending : t.pending ≡ s.pending) (totals : t.totals ≡ s.totals)
+      (stays : (a : Loc) → (t.store a ≡ s.store a) ⊎ All (W_of G lv) q a) (known : Known G.g t) (left : Process)
+      (works : working_in t.condition q (t.condition q) ≡ Some left)
+      (rights : Keeps_to G.g.program (W_of G lv) (R_of G lv) s.forks q left)
+      (since : (r : Name) → r ≢ q → c1.since r ≡ c.since r) (laid : (r : Name) → r ≢ q → c1.laid r ≡ c.laid r)
+      (more : c.faulted ≡ true → c1.faulted ≡ true) (faulted : c1.faulted ≡ f) (quiet : f ≡ false → t.fault ≡ None)
+      (unlaid : f ≡ false → (r : Name) → c1.laid r ≡ false)
       (does : Performs_all G lv q c1 t (u.births.opens i) x) (known_x : x ≢ sys.Absent) where
     ended_now : has_ended (t.condition q) ≡ false
     ended_now = go (has_ended (t.condition q)) refl
@@ -106,10 +120,13 @@ module _ (G : Ground) (lv : Lives G) (c : Course) (s : StateOf G.g) (u : System 
     absent_not_ended y e = subst (λ a. IsLive a) e (working_lives t.condition q (t.condition q) left works)
 
     ended_same : (r : Name) → has_ended (t.condition r) ≡ has_ended (s.condition r)
-    ended_same r = ⊎_elim (λ (e : r ≡ q). ap (λ y. has_ended (t.condition y)) e ∙ ended_now ∙ sym not_ended ∙ ap (λ y. has_ended (s.condition y)) (sym e)) (λ (e : r ≢ q). ap (λ y. has_ended y) (other r e)) (same_or_not name_test r q)
+    ended_same r = ⊎_elim (λ (e : r ≡ q). ap (λ y. has_ended (t.condition y)) e ∙ ended_now ∙ sym not_ended
+        ∙ ap (λ y. has_ended (s.condition y)) (sym e)) (λ (e : r ≢ q). ap (λ y. has_ended y) (other r e))
+        (same_or_not name_test r q)
 
     present_same : (r : Name) → s.condition r ≢ Absent → t.condition r ≢ Absent
-    present_same r h e = ⊎_elim (λ (f : r ≡ q). absent_not_ended (t.condition q) (subst (λ a. t.condition a ≡ Absent) f e)) (λ (f : r ≢ q). h (sym (other r f) ∙ e)) (same_or_not name_test r q)
+    present_same r h e = ⊎_elim (λ (f : r ≡ q). absent_not_ended (t.condition q)
+        (subst (λ a. t.condition a ≡ Absent) f e)) (λ (f : r ≢ q). h (sym (other r f) ∙ e)) (same_or_not name_test r q)
 
     abbrev pub u1 : System Plain
     u1 = record u { condition = at_key ◌==◌ i x u.condition; faulted = f }
@@ -124,12 +141,17 @@ module _ (G : Ground) (lv : Lives G) (c : Course) (s : StateOf G.g) (u : System 
         go true h = absurd (e (eqb-true i j h))
         go false h = refl
 
-    all_do : (j : ℕ) → j < u.births.processes → Performs_all G lv (G.births.name j) c1 t (u.births.opens j) (u1.condition j)
+    all_do : (j : ℕ) → j < u.births.processes
+        → Performs_all G lv (G.births.name j) c1 t (u.births.opens j) (u1.condition j)
     all_do j lt = ⊎_elim
-        (λ (e : i ≡ j). subst (λ y. Performs_all G lv (G.births.name y) c1 t (u.births.opens y) (u1.condition y)) e (subst (λ y. Performs_all G lv q c1 t (u.births.opens i) y) (sym at_this) does))
+        (λ (e : i ≡ j). subst (λ y. Performs_all G lv (G.births.name y) c1 t (u.births.opens y) (u1.condition y)) e
+        (subst (λ y. Performs_all G lv q c1 t (u.births.opens i) y) (sym at_this) does))
         (λ (e : i ≢ j). (let apart : G.births.name j ≢ q = λ h. e (G.one_name i j (few i here) (few j lt) (sym h)) in
         subst (λ y. Performs_all G lv (G.births.name j) c1 t (u.births.opens j) y) (sym (at_other j e))
-        (does_stay G lv s t l.known.sound l.rights.fair q alone stays (G.births.name j) apart (other (G.births.name j) apart) (λ k n. ended_same ((k, n) ∷ G.births.name j)) (λ k n. present_same ((k, n) ∷ G.births.name j)) c c1 (since (G.births.name j) apart) (laid (G.births.name j) apart) more (u.births.opens j) (u.condition j) (l.does j lt))))
+        (does_stay G lv s t l.known.sound l.rights.fair q alone stays (G.births.name j) apart
+        (other (G.births.name j) apart) (λ k n. ended_same ((k, n) ∷ G.births.name j))
+        (λ k n. present_same ((k, n) ∷ G.births.name j)) c c1 (since (G.births.name j) apart)
+        (laid (G.births.name j) apart) more (u.births.opens j) (u.condition j) (l.does j lt))))
         (number_or i j)
       where
         few : (j : ℕ) → j < u.births.processes → j < G.births.processes
@@ -137,7 +159,8 @@ module _ (G : Ground) (lv : Lives G) (c : Course) (s : StateOf G.g) (u : System 
 
     pub linked_local : Linked G lv c1 t u1
     linked_local = record {
-      rights = inv_local G (W_of G lv) (R_of G lv) s.condition t.condition s.forks t.forks q l.rights forks present other (holds_by G (W_of G lv) (R_of G lv) t.condition s.forks q (t.condition q) left works rights);
+      rights = inv_local G (W_of G lv) (R_of G lv) s.condition t.condition s.forks t.forks q l.rights forks present
+          other (holds_by G (W_of G lv) (R_of G lv) t.condition s.forks q (t.condition q) left works rights);
       known = known;
       reads_output = l.reads_output;
       began = l.began;
@@ -146,14 +169,18 @@ module _ (G : Ground) (lv : Lives G) (c : Course) (s : StateOf G.g) (u : System 
       processes = ap (λ (y : Rattle.sp_meaning.specs.Model.Totals). y.processes) totals ∙ l.processes;
       channels = ap (λ (y : Rattle.sp_meaning.specs.Model.Totals). y.channels) totals ∙ l.channels;
       entries = ap (λ (y : Rattle.sp_meaning.specs.Model.Totals). y.entries) totals ∙ l.entries;
-      pending = λ j lt. subst (λ y. IsPending G (y (Rattle.sp_journal.specs.Births.channel G.births j)) (u.pending j)) (sym pending) (l.pending j lt);
+      pending = λ j lt. subst (λ y. IsPending G (y (Rattle.sp_journal.specs.Births.channel G.births j)) (u.pending j))
+          (sym pending) (l.pending j lt);
       none_pending = l.none_pending;
-      fresh_since = λ r e. ⊎_elim (λ (y : r ≡ q). absurd (absent_not_ended (t.condition q) (subst (λ a. t.condition a ≡ Absent) y e))) (λ (y : r ≢ q). since r y ∙ l.fresh_since r (sym (other r y) ∙ e)) (same_or_not name_test r q);
+      fresh_since = λ r e. ⊎_elim (λ (y : r ≡ q). absurd
+          (absent_not_ended (t.condition q) (subst (λ a. t.condition a ≡ Absent) y e)))
+          (λ (y : r ≢ q). since r y ∙ l.fresh_since r (sym (other r y) ∙ e)) (same_or_not name_test r q);
       faulted = faulted;
       quiet = quiet;
       unlaid = unlaid;
       does = all_do;
       unborn = λ j le. at_other j (λ e. let a = here in omega (arith, a, le, e)) ∙ l.unborn j le;
       unmade = l.unmade;
-      numbered = λ r h. ⊎_elim (λ (e : r ≡ q). (i, here, sym e)) (λ (e : r ≢ q). l.numbered r (λ a. h (other r e ∙ a))) (same_or_not name_test r q);
+      numbered = λ r h. ⊎_elim (λ (e : r ≡ q). (i, here, sym e)) (λ (e : r ≢ q). l.numbered r (λ a. h (other r e ∙ a)))
+          (same_or_not name_test r q);
     }

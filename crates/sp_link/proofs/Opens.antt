@@ -1,6 +1,8 @@
 -- The entry `Open` on both sides: the new channel has the next number and its name, and stands in the target
 -- (`opening_entry`); or the entries or the channels are at their limit: F15, F14.
-use Rattle.std.proofs.Common.{◌≡◌, ◌⊎◌, inl, ⊎_elim, ℕ, suc, ◌+◌, ◌<◌, ◌==◌, List, ◌∷◌, length, Option, Some, None, Bool, true, false, cond, if◌then◌else◌, eqb-true, eq-eqb, refl, sym, ap, ◌∙◌, subst, arith}
+use Rattle.std.proofs.Common.{◌≡◌, ◌⊎◌, inl, ⊎_elim, ℕ, suc, ◌+◌, ◌<◌, ◌==◌, List, ◌∷◌, length, Option, Some, None}
+use Rattle.std.proofs.Common.{Bool, true, false, cond, if◌then◌else◌, eqb-true, eq-eqb, refl, sym, ap, ◌∙◌, subst}
+use Rattle.std.proofs.Common.{arith}
 use Rattle.std.proofs.Common.{one-add}
 use Rattle.std.specs.Prelude.{◌≢◌, nat_lt}
 use Rattle.std.proofs.lemmas.Bool.{ne_eqb}
@@ -13,11 +15,14 @@ use Rattle.sp_journal.specs.Maps.{at_key}
 use Rattle.sp_cell.specs.declared.cell.Cell.TheVariants as cell
 use Rattle.sp_cell.specs.Map.{Plain}
 use Rattle.sp_meaning.specs.Maps.{at_key as put_at}
-use Rattle.sp_meaning.specs.Model.{Name, same_name, Channel, Cargo, Message, Takes, Condition, Absent, Works, Waits, Joins, Ended, Becomes, Adds, Opens, changed, add, Totals}
+use Rattle.sp_meaning.specs.Model.{Name, same_name, Channel, Cargo, Message, Takes, Condition, Absent, Works, Waits}
+use Rattle.sp_meaning.specs.Model.{Joins, Ended, Becomes, Adds, Opens, changed, add, Totals}
 use Rattle.sp_meaning.specs.Asking.{put_by}
-use Rattle.sp_meaning.specs.Steps.{ActOf, has_ended, working_in, Lives as IsLive, WaitsOn, Advances, Faulty, outcome, passed, unless, acts, puts, result_of}
+use Rattle.sp_meaning.specs.Steps.{ActOf, has_ended, working_in, Lives as IsLive, WaitsOn, Advances, Faulty, outcome}
+use Rattle.sp_meaning.specs.Steps.{passed, unless, acts, puts, result_of}
 use Rattle.sp_meaning.specs.Entries.{Happening, Opened as Is_opened}
-use Rattle.sp_meaning.specs.Own.{Loc, Held, Address, Own, Who, Process, Came, Got, Item, Tree, Position, Written, same_loc}
+use Rattle.sp_meaning.specs.Own.{Loc, Held, Address, Own, Who, Process, Came, Got, Item, Tree, Position, Written}
+use Rattle.sp_meaning.specs.Own.{same_loc}
 use Rattle.sp_meaning.specs.Values.{Chan}
 use Rattle.sp_meaning.specs.Deeds.{Deed, Opened}
 use Rattle.sp_meaning.specs.SuperPascal.{superpascal, asks, with_todo}
@@ -51,12 +56,14 @@ use Rattle.sp_link.proofs.MoreChannels.{one_more, stands_more, does_more}
 use Rattle.sp_link.proofs.OneChanges.{q, pr, its, alone, here, present, not_ended, keeps_to, number_or, inv_local}
 use Rattle.sp_link.proofs.OthersStay.{does_stay}
 use Rattle.sp_link.proofs.Pauses.{Entry_of, Meant, Machined, Kept_to, kids, turn_is, after_quiet}
-use Rattle.sp_link.proofs.Relation.{Ground, Life, Lives, W_of, R_of, Called, Named, Stands, Ca, Rel, St, Performs_all, IsPending, Linked, Began, at_open, run_is, ops}
+use Rattle.sp_link.proofs.Relation.{Ground, Life, Lives, W_of, R_of, Called, Named, Stands, Ca, Rel, St, Performs_all}
+use Rattle.sp_link.proofs.Relation.{IsPending, Linked, Began, at_open, run_is, ops}
 
 module _ (G : Ground) (lv : Lives G) (c : Course) (s : StateOf G.g) (u : System Plain) (l : Linked G lv c s u) where
   -- a pending offer is on a channel that is open
   pending_open : (ch : Channel) (zn : Name) → s.pending ch ≡ Some zn → (j : ℕ) × Named G ch j
-  pending_open ch zn e = by (u.condition k) (subst (λ y. Performs_all G lv y c s (u.births.opens k) (u.condition k)) name_is (l.does k lt))
+  pending_open ch zn e = by (u.condition k) (subst (λ y. Performs_all G lv y c s (u.births.opens k) (u.condition k))
+      name_is (l.does k lt))
     where
       waits : WaitsOn ch (s.condition zn)
       waits = l.known.sound.waits ch zn e
@@ -73,14 +80,18 @@ module _ (G : Ground) (lv : Lives G) (c : Course) (s : StateOf G.g) (u : System 
       name_is : G.births.name k ≡ zn
       name_is = n.2
 
-      idle : (x : Condition Process Held Address) (own : Process) → WaitsOn ch x → working_in s.condition zn x ≡ Some own → ⊥
+      idle : (x : Condition Process Held Address) (own : Process) → WaitsOn ch x
+          → working_in s.condition zn x ≡ Some own → ⊥
       idle Absent own h f = h
       idle (Works pr) own h f = h
       idle (Waits w) own h f = absurd (cc f)
       idle (Joins a b pr) own h f = h
       idle Ended own h f = h
 
-      cargo : (lf : Life) (more : ℕ → ℕ → Life) (f : Rattle.sp_link.proofs.Relation.Fresh G lf more zn) (w : Who) (nm : w.name ≡ zn) (since : ℕ) (js : List Rattle.sp_codegen.specs.Joints.Joint) (c1 : Channel) (kd : ℕ) (g : Cargo Held Address) (z : machine.Stop) → Ca G lf more zn f w nm since js c1 kd g z → (j : ℕ) × Named G c1 j
+      cargo : (lf : Life) (more : ℕ → ℕ → Life) (f : Rattle.sp_link.proofs.Relation.Fresh G lf more zn) (w : Who)
+          (nm : w.name ≡ zn) (since : ℕ) (js : List Rattle.sp_codegen.specs.Joints.Joint) (c1 : Channel) (kd : ℕ)
+          (g : Cargo Held Address) (z : machine.Stop) → Ca G lf more zn f w nm since js c1 kd g z → (j : ℕ)
+          × Named G c1 j
       cargo lf more f w nm since js c1 kd (Message (Tree a)) z h = (h.0, h.3)
       cargo lf more f w nm since js c1 kd (Message (Position m)) z h = absurd h
       cargo lf more f w nm since js c1 kd (Message (Written bs)) z h = absurd h
@@ -91,16 +102,20 @@ module _ (G : Ground) (lv : Lives G) (c : Course) (s : StateOf G.g) (u : System 
       by (sys.Working a) h = absurd (idle (s.condition zn) h.0 waits h.1)
       by (sys.Waits z a) h =
           let on : (h.0).channel ≡ ch = subst (λ b. WaitsOn ch b) h.1 waits in
-          let y = cargo (lv zn) (λ a b. lv ((a, b) ∷ zn)) (h.2).fresh (h.0).next.who (h.2).named (c.since zn) (h.2).js (h.0).channel (h.0).kind (h.0).cargo z h.3 in
+          let y = cargo (lv zn) (λ a b. lv ((a, b) ∷ zn)) (h.2).fresh (h.0).next.who (h.2).named (c.since zn) (h.2).js
+          (h.0).channel (h.0).kind (h.0).cargo z h.3 in
           (y.0, subst (λ b. Named G b y.0) on y.1)
       by (sys.Joins left a) h = absurd (subst (λ b. WaitsOn ch b) h.3 waits)
       by (sys.Laid a) h = absurd (idle (s.condition zn) h.2.0 waits h.2.1)
       by sys.Gone h = absurd (subst (λ b. WaitsOn ch b) h.0 waits)
       by (sys.Over a) h = absurd (subst (λ b. WaitsOn ch b) h.0 waits)
 
-module _ (G : Ground) (lv : Lives G) (c : Course) (s : StateOf G.g) (u : System Plain) (l : Linked G lv c s u) (i : ℕ) (d : Config (Memory Plain)) (at_i : u.condition i ≡ sys.Working d)
-    (z : Stands G (lv (q G lv c s u l i d at_i)) (kids G lv c s u l i d at_i) (q G lv c s u l i d at_i) (c.since (q G lv c s u l i d at_i)) (pr G lv c s u l i d at_i) s.store d)
-    (todo : List Item) (o : Own) (m : Store) (x : Meant G lv c s u l i d at_i z (Got (source.Stops (Opened todo)) o, m)) (t : Machined G lv c s u l i d at_i z (Got (source.Stops (Opened todo)) o, m))
+module _ (G : Ground) (lv : Lives G) (c : Course) (s : StateOf G.g) (u : System Plain) (l : Linked G lv c s u) (i : ℕ)
+    (d : Config (Memory Plain)) (at_i : u.condition i ≡ sys.Working d)
+    (z : Stands G (lv (q G lv c s u l i d at_i)) (kids G lv c s u l i d at_i) (q G lv c s u l i d at_i)
+    (c.since (q G lv c s u l i d at_i)) (pr G lv c s u l i d at_i) s.store d)
+    (todo : List Item) (o : Own) (m : Store) (x : Meant G lv c s u l i d at_i z (Got (source.Stops (Opened todo)) o, m))
+    (t : Machined G lv c s u l i d at_i z (Got (source.Stops (Opened todo)) o, m))
     (y : Kept_to G lv c s u l i d at_i z (Got (source.Stops (Opened todo)) o, m)) (quiet : u.faulted ≡ false) where
   abbrev v : Name
   v = q G lv c s u l i d at_i
@@ -126,43 +141,71 @@ module _ (G : Ground) (lv : Lives G) (c : Course) (s : StateOf G.g) (u : System 
   tn_is : IsTurn (ops G) G.code d (Stopped (machine.Opens t.6) (At t.0 t.1 t.2))
   tn_is = turn_is G lv c s u l i d at_i z (Stopped (machine.Opens t.6) (At t.0 t.1 t.2)) (t.4, t.8, t.9)
 
-  passes : (e1 e2 : Bool) → nat_lt G.g.limits.entries (u.entries + 1) ≡ e1 → nat_lt G.g.limits.channels (u.births.channels + 1) ≡ e2 → passed (most G.g) x.at.totals (Some a_channel) ≡ (if e1 then Some fault.F15 else (if e2 then Some fault.F14 else None))
+  passes : (e1 e2 : Bool) → nat_lt G.g.limits.entries (u.entries + 1) ≡ e1
+      → nat_lt G.g.limits.channels (u.births.channels + 1) ≡ e2
+      → passed (most G.g) x.at.totals (Some a_channel)
+      ≡ (if e1 then Some fault.F15 else (if e2 then Some fault.F14 else None))
   passes e1 e2 h1 h2 =
       ap (λ (a : Totals). passed (most G.g) a (Some a_channel)) x.elsewhere.totals
-      ∙ ap (λ n. if nat_lt G.g.limits.entries (n + 1) then Some fault.F15 else (if nat_lt G.g.limits.channels (s.totals.channels + 1) then Some fault.F14 else None)) l.entries
-      ∙ ap (λ n. if nat_lt G.g.limits.entries (u.entries + 1) then Some fault.F15 else (if nat_lt G.g.limits.channels (n + 1) then Some fault.F14 else None)) l.channels
-      ∙ ap (λ b. if b then Some fault.F15 else (if nat_lt G.g.limits.channels (u.births.channels + 1) then Some fault.F14 else None)) h1
+      ∙ ap (λ n. if nat_lt G.g.limits.entries (n + 1) then Some fault.F15 else
+      (if nat_lt G.g.limits.channels (s.totals.channels + 1) then Some fault.F14 else None)) l.entries
+      ∙ ap (λ n. if nat_lt G.g.limits.entries (u.entries + 1) then Some fault.F15 else
+      (if nat_lt G.g.limits.channels (n + 1) then Some fault.F14 else None)) l.channels
+      ∙ ap (λ b. if b then Some fault.F15 else
+      (if nat_lt G.g.limits.channels (u.births.channels + 1) then Some fault.F14 else None)) h1
       ∙ ap (λ b. if e1 then Some fault.F15 else (if b then Some fault.F14 else None)) h2
 
-  found : (e1 e2 : Bool) → nat_lt G.g.limits.entries (u.entries + 1) ≡ e1 → nat_lt G.g.limits.channels (u.births.channels + 1) ≡ e2 → fault_of G.g.limits u tn ≡ sys.first_fault (if e1 then Some fault.F15 else (if e2 then Some fault.F14 else None)) None
+  found : (e1 e2 : Bool) → nat_lt G.g.limits.entries (u.entries + 1) ≡ e1
+      → nat_lt G.g.limits.channels (u.births.channels + 1) ≡ e2
+      → fault_of G.g.limits u tn ≡ sys.first_fault
+      (if e1 then Some fault.F15 else (if e2 then Some fault.F14 else None)) None
   found e1 e2 h1 h2 =
-      ap (λ b. sys.first_fault (if b then Some fault.F15 else (if nat_lt G.g.limits.channels (u.births.channels + 1) then Some fault.F14 else None)) None) h1
+      ap (λ b. sys.first_fault (if b then Some fault.F15 else
+      (if nat_lt G.g.limits.channels (u.births.channels + 1) then Some fault.F14 else None)) None) h1
       ∙ ap (λ b. sys.first_fault (if e1 then Some fault.F15 else (if b then Some fault.F14 else None)) None) h2
 
-  comes_to : (f : Option Fault) → passed (most G.g) x.at.totals (Some a_channel) ≡ f → outcome {L = superpascal G.g} (most G.g) x.at v (Opens goes_on ws) ≡ unless f (acts {L = superpascal G.g} x.at v (Opens goes_on ws))
+  comes_to : (f : Option Fault) → passed (most G.g) x.at.totals (Some a_channel) ≡ f
+      → outcome {L = superpascal G.g} (most G.g) x.at v (Opens goes_on ws)
+      ≡ unless f (acts {L = superpascal G.g} x.at v (Opens goes_on ws))
   comes_to f e = ap (λ a. unless a (acts {L = superpascal G.g} x.at v (Opens goes_on ws))) e
 
-  fails : (f : Fault) → outcome {L = superpascal G.g} (most G.g) x.at v (Opens goes_on ws) ≡ Faulty f → fault_of G.g.limits u tn ≡ Some f → Entry_of G c s u i d
+  fails : (f : Fault) → outcome {L = superpascal G.g} (most G.g) x.at v (Opens goes_on ws) ≡ Faulty f
+      → fault_of G.g.limits u tn ≡ Some f → Entry_of G c s u i d
   fails f e h = failed_entry G lv c s u l i d at_i (opened_halt G lv c s u l i d at_i z todo o m x t) refl f
       (kernel_says G.g v x.at x.left x.runs r x.does ∙ ap (λ b. said_of {L = superpascal G.g} (Opens goes_on ws) b) e)
-      (kernel_next G.g v x.at x.left x.runs r x.does ∙ ap (λ b. Some (result_of {L = superpascal G.g} x.at v b)) e) h quiet
+      (kernel_next G.g v x.at x.left x.runs r x.does ∙ ap (λ b. Some (result_of {L = superpascal G.g} x.at v b)) e) h
+      quiet
 
   -- ---- it opens
 
-  module _ (room1 : nat_lt G.g.limits.entries (u.entries + 1) ≡ false) (room2 : nat_lt G.g.limits.channels (u.births.channels + 1) ≡ false) where
-    does_it : outcome {L = superpascal G.g} (most G.g) x.at v (Opens goes_on ws) ≡ Advances (Becomes v (Works goes_on) ∷ Adds a_channel ∷ puts {L = superpascal G.g} ws)
+  module _ (room1 : nat_lt G.g.limits.entries (u.entries + 1) ≡ false)
+      (room2 : nat_lt G.g.limits.channels (u.births.channels + 1) ≡ false) where
+    does_it : outcome {L = superpascal G.g} (most G.g) x.at v (Opens goes_on ws)
+        ≡ Advances (Becomes v (Works goes_on) ∷ Adds a_channel ∷ puts {L = superpascal G.g} ws)
     does_it = comes_to None (passes false false room1 room2)
 
     abbrev t1 : StateOf G.g
-    t1 = record (x.at) { condition = put_at same_name v (Works goes_on) x.at.condition; totals = add x.at.totals a_channel; store = m }
+    t1 = record (x.at) {
+      condition = put_at same_name v (Works goes_on) x.at.condition;
+      totals = add x.at.totals a_channel;
+      store = m;
+    }
 
     said_now : says G.g x.at v x.left ≡ Some Is_opened
-    said_now = kernel_says G.g v x.at x.left x.runs r x.does ∙ ap (λ b. said_of {L = superpascal G.g} (Opens goes_on ws) b) does_it
+    said_now = kernel_says G.g v x.at x.left x.runs r x.does
+        ∙ ap (λ b. said_of {L = superpascal G.g} (Opens goes_on ws) b) does_it
 
     goes_next : next G.g x.at v ≡ Some t1
-    goes_next = kernel_next G.g v x.at x.left x.runs r x.does ∙ ap (λ b. Some (result_of {L = superpascal G.g} x.at v b)) does_it
-        ∙ ap (λ b. Some b) (stored (superpascal G.g) (asks G.g x.left) (changed {L = superpascal G.g} (Adds a_channel) (changed {L = superpascal G.g} (Becomes v (Works goes_on)) x.at))
-        ∙ ap (λ (b : (List (Loc × Held) → ActOf (superpascal G.g)) × Store). record (x.at) { condition = put_at same_name v (Works goes_on) x.at.condition; totals = add x.at.totals a_channel; store = b.1 }) (answered G.g x.at x.left (Got (Opened todo) o) m x.does))
+    goes_next = kernel_next G.g v x.at x.left x.runs r x.does
+        ∙ ap (λ b. Some (result_of {L = superpascal G.g} x.at v b)) does_it
+        ∙ ap (λ b. Some b) (stored (superpascal G.g) (asks G.g x.left)
+        (changed {L = superpascal G.g} (Adds a_channel)
+        (changed {L = superpascal G.g} (Becomes v (Works goes_on)) x.at))
+        ∙ ap (λ (b : (List (Loc × Held) → ActOf (superpascal G.g)) × Store). record (x.at) {
+          condition = put_at same_name v (Works goes_on) x.at.condition;
+          totals = add x.at.totals a_channel;
+          store = b.1;
+        }) (answered G.g x.at x.left (Got (Opened todo) o) m x.does))
 
     cond_v : t1.condition v ≡ Works goes_on
     cond_v = at_same name_test x.at.condition v (Works goes_on)
@@ -174,17 +217,33 @@ module _ (G : Ground) (lv : Lives G) (c : Course) (s : StateOf G.g) (u : System 
     known_then = known_at G lv c s u l i d at_i z r x Is_opened said_now
 
     known_now : Known G.g t1
-    known_now = record { sound = step_sound (most G.g) x.at v t1 known_then.sound goes_next; well = lowered G.g (λ b. ticks_in (x.at.condition b)) t1 (step_well G.g x.at known_then.sound v (raised G.g x.at known_then.well) t1 goes_next) }
+    known_now = record {
+      sound = step_sound (most G.g) x.at v t1 known_then.sound goes_next;
+      well = lowered G.g (λ b. ticks_in (x.at.condition b)) t1
+          (step_well G.g x.at known_then.sound v (raised G.g x.at known_then.well) t1 goes_next);
+    }
 
     rights_now : Inv G.g.program (W_of G lv) (R_of G lv) t1.condition t1.forks
-    rights_now = inv_local G (W_of G lv) (R_of G lv) s.condition t1.condition s.forks t1.forks v l.rights x.elsewhere.forks (present G lv c s u l i d at_i) cond_r
-        (subst (λ b. Holds G.g.program (W_of G lv) (R_of G lv) s.forks v b) (sym cond_v) (record { named = x.good.named; forked = ap (λ (a : Who). a.forks) x.who_is ∙ (keeps_to G lv c s u l i d at_i).forked; last = (keeps_to G lv c s u l i d at_i).last; fit = y.final }))
+    rights_now = inv_local G (W_of G lv) (R_of G lv) s.condition t1.condition s.forks t1.forks v l.rights
+        x.elsewhere.forks (present G lv c s u l i d at_i) cond_r
+        (subst (λ b. Holds G.g.program (W_of G lv) (R_of G lv) s.forks v b) (sym cond_v)
+        (record {
+          named = x.good.named;
+          forked = ap (λ (a : Who). a.forks) x.who_is
+              ∙ (keeps_to G lv c s u l i d at_i).forked;
+          last = (keeps_to G lv c s u l i d at_i).last;
+          fit = y.final;
+        }))
 
     ended_same : (b : Name) → has_ended (t1.condition b) ≡ has_ended (s.condition b)
-    ended_same b = ⊎_elim (λ (e : b ≡ v). ap (λ k. has_ended (t1.condition k)) e ∙ ap (λ k. has_ended k) cond_v ∙ sym (not_ended G lv c s u l i d at_i) ∙ ap (λ k. has_ended (s.condition k)) (sym e)) (λ (e : b ≢ v). ap (λ k. has_ended k) (cond_r b e)) (same_or_not name_test b v)
+    ended_same b = ⊎_elim (λ (e : b ≡ v). ap (λ k. has_ended (t1.condition k)) e ∙ ap (λ k. has_ended k) cond_v
+        ∙ sym (not_ended G lv c s u l i d at_i) ∙ ap (λ k. has_ended (s.condition k)) (sym e))
+        (λ (e : b ≢ v). ap (λ k. has_ended k) (cond_r b e)) (same_or_not name_test b v)
 
     present_same : (b : Name) → s.condition b ≢ Absent → t1.condition b ≢ Absent
-    present_same b h e = ⊎_elim (λ (f : b ≡ v). subst (λ k. IsLive k) (sym cond_v ∙ subst (λ k. t1.condition k ≡ Absent) f e) tt) (λ (f : b ≢ v). h (sym (cond_r b f) ∙ e)) (same_or_not name_test b v)
+    present_same b h e = ⊎_elim (λ (f : b ≡ v). subst (λ k. IsLive k)
+        (sym cond_v ∙ subst (λ k. t1.condition k ≡ Absent) f e) tt) (λ (f : b ≢ v). h (sym (cond_r b f) ∙ e))
+        (same_or_not name_test b v)
 
     abbrev c1 : Course
     c1 = noted v (ticks_of G.g t1 v) c
@@ -193,16 +252,23 @@ module _ (G : Ground) (lv : Lives G) (c : Course) (s : StateOf G.g) (u : System 
     since_other b e = ap (λ f. cond f (ticks_of G.g t1 v) (c.since b)) (differs name_test v b (λ h. e (sym h)))
 
     since_here : c1.since v ≡ (t.2).ticks
-    since_here = ap (λ b. cond b (ticks_of G.g t1 v) (c.since v)) (itself name_test v) ∙ ap ticks_in cond_v ∙ (t.10).ticks
+    since_here = ap (λ b. cond b (ticks_of G.g t1 v) (c.since v)) (itself name_test v) ∙ ap ticks_in cond_v
+        ∙ (t.10).ticks
 
     few : (k : ℕ) → k < u.births.processes → k < G.births.processes
     few k lt = let b = l.began.processes in omega (arith, lt, b)
 
-    does_other : (k : ℕ) → k < u.births.processes → i ≢ k → Performs_all (one_more G) lv (G.births.name k) c1 t1 (u.births.opens k) (u.condition k)
+    does_other : (k : ℕ) → k < u.births.processes → i ≢ k
+        → Performs_all (one_more G) lv (G.births.name k) c1 t1 (u.births.opens k) (u.condition k)
     does_other k lt e =
-        let apart : G.births.name k ≢ v = λ h. e (G.one_name i k (few i (here G lv c s u l i d at_i)) (few k lt) (sym h)) in
-        does_more G (lv (G.births.name k)) (λ a b. lv ((a, b) ∷ G.births.name k)) (G.births.name k) c1 t1 (u.births.opens k) (u.condition k)
-        (does_stay G lv s t1 l.known.sound l.rights.fair v (alone G lv c s u l i d at_i) y.stays (G.births.name k) apart (cond_r (G.births.name k) apart) (λ a b. ended_same ((a, b) ∷ G.births.name k)) (λ a b. present_same ((a, b) ∷ G.births.name k)) c c1 (since_other (G.births.name k) apart) refl (λ h. h) (u.births.opens k) (u.condition k) (l.does k lt))
+        let apart : G.births.name k ≢ v = λ h. e
+        (G.one_name i k (few i (here G lv c s u l i d at_i)) (few k lt) (sym h)) in
+        does_more G (lv (G.births.name k)) (λ a b. lv ((a, b) ∷ G.births.name k)) (G.births.name k) c1 t1
+        (u.births.opens k) (u.condition k)
+        (does_stay G lv s t1 l.known.sound l.rights.fair v (alone G lv c s u l i d at_i) y.stays (G.births.name k) apart
+        (cond_r (G.births.name k) apart) (λ a b. ended_same ((a, b) ∷ G.births.name k))
+        (λ a b. present_same ((a, b) ∷ G.births.name k)) c c1 (since_other (G.births.name k) apart) refl (λ h. h)
+        (u.births.opens k) (u.condition k) (l.does k lt))
 
     -- ---- the machine
 
@@ -219,10 +285,13 @@ module _ (G : Ground) (lv : Lives G) (c : Course) (s : StateOf G.g) (u : System 
     u1 = record u { condition = at_key ◌==◌ i (sys.Working there) u.condition; entries = u.entries + 1; births = b1 }
 
     after_is : after plain (run_is G) i tn u ≡ u1
-    after_is = after_quiet G i tn u quiet ∙ ap (λ f. record (unless_fault plain (run_is G) f i tn u) { births = after_event u.births i (event_or f tn) }) (found false false room1 room2)
+    after_is = after_quiet G i tn u quiet ∙ ap
+        (λ f. record (unless_fault plain (run_is G) f i tn u) { births = after_event u.births i (event_or f tn) })
+        (found false false room1 room2)
 
     event_is : event_of G.g.limits u tn ≡ event.Open
-    event_is = ap (λ b. if b then event.Laid else event_or (fault_of G.g.limits u tn) tn) quiet ∙ ap (λ f. event_or f tn) (found false false room1 room2)
+    event_is = ap (λ b. if b then event.Laid else event_or (fault_of G.g.limits u tn) tn) quiet
+        ∙ ap (λ f. event_or f tn) (found false false room1 room2)
 
     module _ (began : Began G b1) where
       abbrev k : ℕ
@@ -236,8 +305,12 @@ module _ (G : Ground) (lv : Lives G) (c : Course) (s : StateOf G.g) (u : System 
 
       -- the name of the new channel
       channel_is : channel G.births k ≡ nm
-      channel_is = sym (began.openings k (omega arith)) ∙ ap (λ (a : Opening). record { owner = u.births.name a.owner; nth = a.nth }) (ap (λ b. cond b (record { owner = i; nth = u.births.opens i }) (u.births.opening k)) (eq-eqb k k refl))
-          ∙ ap (λ a. record { owner = a; nth = u.births.opens i }) (l.began.names i (here G lv c s u l i d at_i) ∙ sym z.named) ∙ ap (λ a. record { owner = p1.who.name; nth = a }) (sym (its G lv c s u l i d at_i).3)
+      channel_is = sym (began.openings k (omega arith))
+          ∙ ap (λ (a : Opening). record { owner = u.births.name a.owner; nth = a.nth })
+          (ap (λ b. cond b (record { owner = i; nth = u.births.opens i }) (u.births.opening k)) (eq-eqb k k refl))
+          ∙ ap (λ a. record { owner = a; nth = u.births.opens i })
+          (l.began.names i (here G lv c s u l i d at_i) ∙ sym z.named)
+          ∙ ap (λ a. record { owner = p1.who.name; nth = a }) (sym (its G lv c s u l i d at_i).3)
 
       named : Named (one_more G) nm k
       named = ((let a = l.open_is in omega (arith, a)), below, channel_is)
@@ -264,16 +337,25 @@ module _ (G : Ground) (lv : Lives G) (c : Course) (s : StateOf G.g) (u : System 
         stack = t.1;
         memory = n1;
         is = refl;
-        stand = stand_again G (lv v) (λ a b. lv ((a, b) ∷ v)) v {w = p1.who} {w1 = goes_on.who} {since = c.since v} {since1 = c1.since v} (ap (λ (a : Who). a.name) x.who_is) since_here t.10;
-        follows = follows_again G (lv v) (λ a b. lv ((a, b) ∷ v)) v z.fresh z.fresh p1.who goes_on.who z.named x.good.named (c.since v) (c1.since v) t.0 t.1 t.3 todo t.14;
+        stand = stand_again G (lv v) (λ a b. lv ((a, b) ∷ v)) v {w = p1.who} {w1 = goes_on.who} {since = c.since v}
+            {since1 = c1.since v} (ap (λ (a : Who). a.name) x.who_is) since_here t.10;
+        follows = follows_again G (lv v) (λ a b. lv ((a, b) ∷ v)) v z.fresh z.fresh p1.who goes_on.who z.named
+            x.good.named (c.since v) (c1.since v) t.0 t.1 t.3 todo t.14;
       })
 
-      stood : Stood (Rel (one_more G) (lv v) (λ a b. lv ((a, b) ∷ v)) v goes_on.who (c1.since v)) G.g.program (sort G.g.program (t.5).kind) (t.5).kind (Chan nm) (machine.Chan k)
-      stood = subst (λ b. Stood (Rel (one_more G) (lv v) (λ a b. lv ((a, b) ∷ v)) v goes_on.who (c1.since v)) G.g.program b (t.5).kind (Chan nm) (machine.Chan k)) (sym t.16) (nm, k, refl, refl, named)
+      stood : Stood (Rel (one_more G) (lv v) (λ a b. lv ((a, b) ∷ v)) v goes_on.who (c1.since v)) G.g.program
+          (sort G.g.program (t.5).kind) (t.5).kind (Chan nm) (machine.Chan k)
+      stood = subst (λ b. Stood (Rel (one_more G) (lv v) (λ a b. lv ((a, b) ∷ v)) v goes_on.who (c1.since v))
+          G.g.program b (t.5).kind (Chan nm) (machine.Chan k)) (sym t.16) (nm, k, refl, refl, named)
 
-      stand_now : St (one_more G) (lv v) (λ a b. lv ((a, b) ∷ v)) v goes_on.who (c1.since v) t.3 o m (record n1 { store = put_cell plain t.6 (cell.Channel k) n1.store })
-      stand_now = subst (λ b. St (one_more G) (lv v) (λ a b. lv ((a, b) ∷ v)) v goes_on.who (c1.since v) t.3 o b (record n1 { store = put_cell plain t.6 (cell.Channel k) n1.store })) (sym t.13)
-          (store_law G.g G.code goes_on.who (Named (one_more G)) (Called G) (λ a. Mine v a ⊎ (lv v).W a) (λ a. Mine v a ⊎ (lv v).R a) (lv v).J (lv v).low (length (lv v).below) (lv v).born (c1.since v) G.pause (lv v).moved G.formed before.stand t.5 t.6 t.11 t.12 (subst OneCell (sym t.16) tt) (Chan nm) (machine.Chan k) stood)
+      stand_now : St (one_more G) (lv v) (λ a b. lv ((a, b) ∷ v)) v goes_on.who (c1.since v) t.3 o m
+          (record n1 { store = put_cell plain t.6 (cell.Channel k) n1.store })
+      stand_now = subst (λ b. St (one_more G) (lv v) (λ a b. lv ((a, b) ∷ v)) v goes_on.who (c1.since v) t.3 o b
+          (record n1 { store = put_cell plain t.6 (cell.Channel k) n1.store })) (sym t.13)
+          (store_law G.g G.code goes_on.who (Named (one_more G)) (Called G) (λ a. Mine v a ⊎ (lv v).W a)
+          (λ a. Mine v a ⊎ (lv v).R a) (lv v).J (lv v).low (length (lv v).below) (lv v).born (c1.since v) G.pause
+          (lv v).moved G.formed before.stand t.5 t.6 t.11 t.12 (subst OneCell (sym t.16) tt) (Chan nm)
+          (machine.Chan k) stood)
 
       stands_now : Stands (one_more G) (lv v) (λ a b. lv ((a, b) ∷ v)) v (c1.since v) goes_on m there
       stands_now = record {
@@ -292,7 +374,13 @@ module _ (G : Ground) (lv : Lives G) (c : Course) (s : StateOf G.g) (u : System 
       opens_here = ap (λ b. cond b (u.births.opens i + 1) (u.births.opens i)) (eq-eqb i i refl)
 
       its_does : Performs_all (one_more G) lv v c1 t1 (b1.opens i) (sys.Working there)
-      its_does = (goes_on, ap (working_in t1.condition v) cond_v, inl stands_now, ap (λ a. a + 1) (ap (λ (a : Who). a.opens) x.who_is ∙ (its G lv c s u l i d at_i).3) ∙ sym opens_here, (its G lv c s u l i d at_i).4)
+      its_does = (
+        goes_on,
+        ap (working_in t1.condition v) cond_v,
+        inl stands_now,
+        ap (λ a. a + 1) (ap (λ (a : Who). a.opens) x.who_is ∙ (its G lv c s u l i d at_i).3) ∙ sym opens_here,
+        (its G lv c s u l i d at_i).4,
+      )
 
       linked : Linked (one_more G) lv c1 t1 u1
       linked = record {
@@ -302,27 +390,45 @@ module _ (G : Ground) (lv : Lives G) (c : Course) (s : StateOf G.g) (u : System 
         began = began;
         open_is = ap (λ a. a + 1) l.open_is;
         forks = λ a lt. ap (λ b. b (G.births.name a)) x.elsewhere.forks ∙ l.forks a lt;
-        processes = (let a = ap (λ (b : Totals). b.processes) x.elsewhere.totals in let b = l.processes in omega (arith, a, b));
-        channels = (let a = ap (λ (b : Totals). b.channels) x.elsewhere.totals in let b = l.channels in omega (arith, a, b));
-        entries = (let a = ap (λ (b : Totals). b.entries) x.elsewhere.totals in let b = l.entries in omega (arith, a, b));
-        fresh_since = λ a e. ⊎_elim (λ (b : a ≡ v). absurd (no_absent (sym cond_v ∙ subst (λ k. t1.condition k ≡ Absent) b e))) (λ (b : a ≢ v). since_other a b ∙ l.fresh_since a (sym (cond_r a b) ∙ e)) (same_or_not name_test a v);
+        processes = (let a = ap (λ (b : Totals). b.processes) x.elsewhere.totals in let b = l.processes in
+            omega (arith, a, b));
+        channels = (let a = ap (λ (b : Totals). b.channels) x.elsewhere.totals in let b = l.channels in
+            omega (arith, a, b));
+        entries = (let a = ap (λ (b : Totals). b.entries) x.elsewhere.totals in let b = l.entries in
+            omega (arith, a, b));
+        fresh_since = λ a e. ⊎_elim (λ (b : a ≡ v). absurd
+            (no_absent (sym cond_v ∙ subst (λ k. t1.condition k ≡ Absent) b e)))
+            (λ (b : a ≢ v). since_other a b ∙ l.fresh_since a (sym (cond_r a b) ∙ e)) (same_or_not name_test a v);
         pending = λ a lt. ⊎_elim
             (λ (e : k ≡ a). subst (λ b. IsPending G (t1.pending (channel G.births b)) (u.pending b)) e
-            (subst (λ b. IsPending G b (u.pending k)) (sym (ap (λ b. b (channel G.births k)) x.elsewhere.pending ∙ none_there)) (subst (λ b. IsPending G None b) (sym (l.none_pending k (omega arith))) tt)))
-            (λ (e : k ≢ a). subst (λ b. IsPending G (b (channel G.births a)) (u.pending a)) (sym x.elsewhere.pending) (l.pending a (omega (arith, lt, e))))
+            (subst (λ b. IsPending G b (u.pending k))
+            (sym (ap (λ b. b (channel G.births k)) x.elsewhere.pending ∙ none_there))
+            (subst (λ b. IsPending G None b) (sym (l.none_pending k (omega arith))) tt)))
+            (λ (e : k ≢ a). subst (λ b. IsPending G (b (channel G.births a)) (u.pending a)) (sym x.elsewhere.pending)
+            (l.pending a (omega (arith, lt, e))))
             (number_or G lv c s u l i d at_i k a);
         none_pending = λ a le. l.none_pending a (omega (arith, le));
         faulted = l.faulted;
         quiet = λ e. x.elsewhere.fault ∙ l.quiet e;
         unlaid = l.unlaid;
         does = λ a lt. ⊎_elim
-            (λ (e : i ≡ a). subst (λ b. Performs_all (one_more G) lv (G.births.name b) c1 t1 (b1.opens b) (u1.condition b)) e (subst (λ b. Performs_all (one_more G) lv v c1 t1 (b1.opens i) b) (sym (ap (λ b. cond b (sys.Working there) (u.condition i)) (eq-eqb i i refl))) its_does))
-            (λ (e : i ≢ a). subst (λ b. Performs_all (one_more G) lv (G.births.name a) c1 t1 b (u1.condition a)) (sym (ap (λ b. cond b (u.births.opens i + 1) (u.births.opens a)) (ne_eqb i a e)))
-            (subst (λ b. Performs_all (one_more G) lv (G.births.name a) c1 t1 (u.births.opens a) b) (sym (ap (λ b. cond b (sys.Working there) (u.condition a)) (ne_eqb i a e))) (does_other a lt e)))
+            (λ (e : i ≡ a). subst (λ b. Performs_all (one_more G) lv (G.births.name b) c1 t1 (b1.opens b)
+            (u1.condition b)) e (subst (λ b. Performs_all (one_more G) lv v c1 t1 (b1.opens i) b)
+            (sym (ap (λ b. cond b (sys.Working there) (u.condition i)) (eq-eqb i i refl))) its_does))
+            (λ (e : i ≢ a). subst (λ b. Performs_all (one_more G) lv (G.births.name a) c1 t1 b (u1.condition a))
+            (sym (ap (λ b. cond b (u.births.opens i + 1) (u.births.opens a)) (ne_eqb i a e)))
+            (subst (λ b. Performs_all (one_more G) lv (G.births.name a) c1 t1 (u.births.opens a) b)
+            (sym (ap (λ b. cond b (sys.Working there) (u.condition a)) (ne_eqb i a e))) (does_other a lt e)))
             (number_or G lv c s u l i d at_i i a);
-        unborn = λ a le. ap (λ b. cond b (sys.Working there) (u.condition a)) (ne_eqb i a (λ e. let b = here G lv c s u l i d at_i in omega (arith, b, le, e))) ∙ l.unborn a le;
-        unmade = λ a le. ((l.unmade a le).0, ap (λ b. cond b (u.births.opens i + 1) (u.births.opens a)) (ne_eqb i a (λ e. let b = here G lv c s u l i d at_i in omega (arith, b, le, e))) ∙ (l.unmade a le).1);
-        numbered = λ a h. ⊎_elim (λ (e : a ≡ v). (i, here G lv c s u l i d at_i, sym e)) (λ (e : a ≢ v). l.numbered a (λ f. h (cond_r a e ∙ f))) (same_or_not name_test a v);
+        unborn = λ a le. ap (λ b. cond b (sys.Working there) (u.condition a))
+            (ne_eqb i a (λ e. let b = here G lv c s u l i d at_i in omega (arith, b, le, e))) ∙ l.unborn a le;
+        unmade = λ a le. (
+          (l.unmade a le).0,
+          ap (λ b. cond b (u.births.opens i + 1) (u.births.opens a))
+              (ne_eqb i a (λ e. let b = here G lv c s u l i d at_i in omega (arith, b, le, e))) ∙ (l.unmade a le).1,
+        );
+        numbered = λ a h. ⊎_elim (λ (e : a ≡ v). (i, here G lv c s u l i d at_i, sym e))
+            (λ (e : a ≢ v). l.numbered a (λ f. h (cond_r a e ∙ f))) (same_or_not name_test a v);
       }
         where
           no_absent : ◌≡◌ {A = Condition Process Held Address} (Works goes_on) Absent → ⊥
@@ -338,7 +444,8 @@ module _ (G : Ground) (lv : Lives G) (c : Course) (s : StateOf G.g) (u : System 
       way = way_by _ (sym told);
       speaks = subst (λ f. IsOpen u.births f) (sym event_is) tt;
       lives = lv;
-      linked = λ began. subst (λ a. Now G lv c1 t1 a) (sym after_is) (now (subst (λ (a : System Plain). Began G a.births) after_is began));
+      linked = λ began. subst (λ a. Now G lv c1 t1 a) (sym after_is)
+          (now (subst (λ (a : System Plain). Began G a.births) after_is began));
     }
       where
         told : happening u.births (event_of G.g.limits u tn) ≡ Is_opened
@@ -354,13 +461,17 @@ module _ (G : Ground) (lv : Lives G) (c : Course) (s : StateOf G.g) (u : System 
           cost = 1;
           course = c1;
           state = t1;
-          enters = λ left n a. subst (λ f. Entered G.g left c x.at false v f (1 + n)) h (l.faulted ∙ quiet, refl, t1, n, one-add n, (x.left, x.runs, said_now, goes_next), a);
+          enters = λ left n a. subst (λ f. Entered G.g left c x.at false v f (1 + n)) h
+              (l.faulted ∙ quiet, refl, t1, n, one-add n, (x.left, x.runs, said_now, goes_next), a);
         }
 
   pub opening_entry : Entry_of G c s u i d
-  opening_entry = by (nat_lt G.g.limits.entries (u.entries + 1)) (nat_lt G.g.limits.channels (u.births.channels + 1)) refl refl
+  opening_entry = by (nat_lt G.g.limits.entries (u.entries + 1)) (nat_lt G.g.limits.channels (u.births.channels + 1))
+      refl refl
     where
-      by : (e1 e2 : Bool) → nat_lt G.g.limits.entries (u.entries + 1) ≡ e1 → nat_lt G.g.limits.channels (u.births.channels + 1) ≡ e2 → Entry_of G c s u i d
+      by : (e1 e2 : Bool) → nat_lt G.g.limits.entries (u.entries + 1) ≡ e1
+          → nat_lt G.g.limits.channels (u.births.channels + 1) ≡ e2 → Entry_of G c s u i d
       by true e2 h1 h2 = fails fault.F15 (comes_to (Some fault.F15) (passes true e2 h1 h2)) (found true e2 h1 h2)
-      by false true h1 h2 = fails fault.F14 (comes_to (Some fault.F14) (passes false true h1 h2)) (found false true h1 h2)
+      by false true h1 h2 = fails fault.F14 (comes_to (Some fault.F14) (passes false true h1 h2))
+          (found false true h1 h2)
       by false false h1 h2 = opens_entry h1 h2

@@ -1,6 +1,7 @@
 -- All other processes stay as they are where one writes only what it may write (`does_stay`): who runs or waits reads
 -- nothing of it, since parallel processes are disjoint; who joins has it away with the child that is above the writer.
-use Rattle.std.proofs.Common.{◌≡◌, ◌⊎◌, inl, inr, ⊎_elim, ℕ, zero, suc, ◌+◌, ◌<◌, List, [], ◌∷◌, ◌++◌, Option, Some, None, Bool, true, false, ◌&&◌, if◌then◌else◌, refl, sym, ap, ◌∙◌, subst}
+use Rattle.std.proofs.Common.{◌≡◌, ◌⊎◌, inl, inr, ⊎_elim, ℕ, zero, suc, ◌+◌, ◌<◌, List, [], ◌∷◌, ◌++◌, Option, Some}
+use Rattle.std.proofs.Common.{None, Bool, true, false, ◌&&◌, if◌then◌else◌, refl, sym, ap, ◌∙◌, subst}
 use Rattle.std.specs.Prelude.{◌≢◌}
 use Rattle.sp_cell.specs.declared.spot.Spot.{Spot}
 use Rattle.sp_cell.specs.Map.{Map, Plain}
@@ -19,15 +20,20 @@ use Rattle.sp_code.specs.System as sys
 use Rattle.sp_codegen.specs.Joints.{Joint}
 use Rattle.sp_codegen.proofs.Joining.{Joining, stand_same, joining_same}
 use Rattle.sp_link.proofs.Stances.{Under, stance, child_writes}
-use Rattle.sp_link.proofs.Relation.{Ground, Life, Lives, W_of, R_of, Called, Named, Stands, Joined, Handed, Lives_yet, Away_yet, left_of, Told, Performs_all}
+use Rattle.sp_link.proofs.Relation.{Ground, Life, Lives, W_of, R_of, Called, Named, Stands, Joined, Handed, Lives_yet}
+use Rattle.sp_link.proofs.Relation.{Away_yet, left_of, Told, Performs_all}
 
 -- ---- what is away may be told otherwise
 
 module _ (G : Ground) (lf : Life) (kids : ℕ → ℕ → Life) (q : Name) where
-  abbrev pub Jo : Rattle.sp_meaning.specs.Own.Who → ℕ → (Spot → Type 0) → List Joint → Own → Store → Memory Plain → Map → Type 0
-  Jo w since A js o s n mp = Joining G.g G.code w (Named G) (Called G) (λ l. Mine q l ⊎ lf.W l) (λ l. Mine q l ⊎ lf.R l) lf.J lf.low (Rattle.std.specs.Prelude.length lf.below) lf.born since G.pause lf.moved A js o s n mp
+  abbrev pub Jo : Rattle.sp_meaning.specs.Own.Who → ℕ → (Spot → Type 0) → List Joint → Own → Store → Memory Plain → Map
+      → Type 0
+  Jo w since A js o s n mp = Joining G.g G.code w (Named G) (Called G) (λ l. Mine q l ⊎ lf.W l) (λ l. Mine q l ⊎ lf.R l)
+      lf.J lf.low (Rattle.std.specs.Prelude.length lf.below) lf.born since G.pause lf.moved A js o s n mp
 
-  pub joining_more : {w : Rattle.sp_meaning.specs.Own.Who} {since : ℕ} {A B : Spot → Type 0} {js : List Joint} {o : Own} {s : Store} {n : Memory Plain} {mp : Map} → ((a : Spot) → A a → B a) → Jo w since A js o s n mp → Jo w since B js o s n mp
+  pub joining_more : {w : Rattle.sp_meaning.specs.Own.Who} {since : ℕ} {A B : Spot → Type 0} {js : List Joint} {o : Own}
+      {s : Store} {n : Memory Plain} {mp : Map} → ((a : Spot) → A a → B a) → Jo w since A js o s n mp
+      → Jo w since B js o s n mp
   joining_more f t = record {
     store = t.store;
     before = t.before;
@@ -41,17 +47,22 @@ module _ (G : Ground) (lf : Life) (kids : ℕ → ℕ → Life) (q : Name) where
 
 -- ---- conditions
 
-waits_is : (c : Condition Process Held Address) (o : Rattle.sp_meaning.specs.Model.Offer Process Held Address) → c ≡ Waits o → Rattle.sp_meaning.specs.Steps.WaitsOn o.channel c
+waits_is : (c : Condition Process Held Address) (o : Rattle.sp_meaning.specs.Model.Offer Process Held Address)
+    → c ≡ Waits o → Rattle.sp_meaning.specs.Steps.WaitsOn o.channel c
 waits_is c o e = subst (λ z. Rattle.sp_meaning.specs.Steps.WaitsOn o.channel z) (sym e) refl
 
-module _ (G : Ground) (lv : Lives G) (s t : StateOf G.g) (sound : Sound s) (fair : Fair_rights (W_of G lv) (R_of G lv)) (w : Name) (alone : IsAlone s w) (stays : (l : Loc) → (t.store l ≡ s.store l) ⊎ All (W_of G lv) w l) where
-  module _ (r : Name) (apart : r ≢ w) (same : t.condition r ≡ s.condition r) (ended : (k i : ℕ) → has_ended (t.condition ((k, i) ∷ r)) ≡ has_ended (s.condition ((k, i) ∷ r))) (present : (k i : ℕ) → s.condition ((k, i) ∷ r) ≢ Absent → t.condition ((k, i) ∷ r) ≢ Absent) where
+module _ (G : Ground) (lv : Lives G) (s t : StateOf G.g) (sound : Sound s) (fair : Fair_rights (W_of G lv) (R_of G lv))
+    (w : Name) (alone : IsAlone s w) (stays : (l : Loc) → (t.store l ≡ s.store l) ⊎ All (W_of G lv) w l) where
+  module _ (r : Name) (apart : r ≢ w) (same : t.condition r ≡ s.condition r)
+      (ended : (k i : ℕ) → has_ended (t.condition ((k, i) ∷ r)) ≡ has_ended (s.condition ((k, i) ∷ r)))
+      (present : (k i : ℕ) → s.condition ((k, i) ∷ r) ≢ Absent → t.condition ((k, i) ∷ r) ≢ Absent) where
     abbrev pub kids : ℕ → ℕ → Life
     kids k i = lv ((k, i) ∷ r)
 
     all_same : (k n : ℕ) → all_ended t.condition r k n ≡ all_ended s.condition r k n
     all_same k zero = refl
-    all_same k (suc i) = ap (λ b. b && all_ended t.condition r k i) (ended k i) ∙ ap (λ b. has_ended (s.condition ((k, i) ∷ r)) && b) (all_same k i)
+    all_same k (suc i) = ap (λ b. b && all_ended t.condition r k i) (ended k i)
+        ∙ ap (λ b. has_ended (s.condition ((k, i) ∷ r)) && b) (all_same k i)
 
     works_same : (c : Condition Process Held Address) → working_in t.condition r c ≡ working_in s.condition r c
     works_same Absent = refl
@@ -60,12 +71,14 @@ module _ (G : Ground) (lv : Lives G) (s t : StateOf G.g) (sound : Sound s) (fair
     works_same (Joins k n o) = ap (λ b. if b then Some o else None) (all_same k n)
     works_same Ended = refl
 
-    pub working_same : (pr : Process) → working_in s.condition r (s.condition r) ≡ Some pr → working_in t.condition r (t.condition r) ≡ Some pr
+    pub working_same : (pr : Process) → working_in s.condition r (s.condition r) ≡ Some pr
+        → working_in t.condition r (t.condition r) ≡ Some pr
     working_same pr e = ap (working_in t.condition r) same ∙ works_same (s.condition r) ∙ e
 
     left_same : (k n : ℕ) → left_of G (lv r) kids r t.condition k n ≡ left_of G (lv r) kids r s.condition k n
     left_same k zero = refl
-    left_same k (suc i) = ap (λ b. (if b then 0 else 1) + left_of G (lv r) kids r t.condition k i) (ended k i) ∙ ap (λ n. (if has_ended (s.condition ((k, i) ∷ r)) then 0 else 1) + n) (left_same k i)
+    left_same k (suc i) = ap (λ b. (if b then 0 else 1) + left_of G (lv r) kids r t.condition k i) (ended k i)
+        ∙ ap (λ n. (if has_ended (s.condition ((k, i) ∷ r)) then 0 else 1) + n) (left_same k i)
 
     -- of one that runs or waits
     pub unread : IsAlone s r → (l : Loc) → All (R_of G lv) r l → t.store l ≡ s.store l
@@ -74,7 +87,8 @@ module _ (G : Ground) (lv : Lives G) (s t : StateOf G.g) (sound : Sound s) (fair
         (λ (u : Under s w r). Rattle.sp_meaning.proofs.Parallel.alone_childless s r u.fork u.child one u.lives u.joins)
         (stance s w r sound alone (alone_lives s r one) apart))) (stays l)
 
-    abbrev pub stands_stay : (since : ℕ) (pr : Process) (d : Config (Memory Plain)) → IsAlone s r → Stands G (lv r) kids r since pr s.store d → Stands G (lv r) kids r since pr t.store d
+    abbrev pub stands_stay : (since : ℕ) (pr : Process) (d : Config (Memory Plain)) → IsAlone s r
+        → Stands G (lv r) kids r since pr s.store d → Stands G (lv r) kids r since pr t.store d
     stands_stay since pr d one z = record {
       fresh = z.fresh;
       named = z.named;
@@ -83,22 +97,28 @@ module _ (G : Ground) (lv : Lives G) (s t : StateOf G.g) (sound : Sound s) (fair
       stack = z.stack;
       memory = z.memory;
       is = z.is;
-      stand = stand_same G.g G.code pr.who (Named G) (Called G) (λ l. Mine r l ⊎ (lv r).W l) (λ l. Mine r l ⊎ (lv r).R l) (lv r).J (lv r).low (Rattle.std.specs.Prelude.length (lv r).below) (lv r).born since G.pause (lv r).moved z.stand t.store (unread one);
+      stand = stand_same G.g G.code pr.who (Named G) (Called G) (λ l. Mine r l ⊎ (lv r).W l)
+          (λ l. Mine r l ⊎ (lv r).R l) (lv r).J (lv r).low (Rattle.std.specs.Prelude.length (lv r).below) (lv r).born
+          since G.pause (lv r).moved z.stand t.store (unread one);
       follows = z.follows;
     }
 
-    told_stay : (d : Config (Memory Plain)) → (All (R_of G lv) r Output → t.store Output ≡ s.store Output) → Told G (lv r) kids r s.store d → Told G (lv r) kids r t.store d
+    told_stay : (d : Config (Memory Plain)) → (All (R_of G lv) r Output → t.store Output ≡ s.store Output)
+        → Told G (lv r) kids r s.store d → Told G (lv r) kids r t.store d
     told_stay (At pc st n) e h = λ may. let z = h may in (z.0, e may ∙ z.1, z.2)
 
     -- of one that joins
-    module _ (since k n left : ℕ) (pr : Process) (d : Config (Memory Plain)) (at : s.condition r ≡ Joins k n pr) (z : Joined G (lv r) kids r since k n left pr s d) where
+    module _ (since k n left : ℕ) (pr : Process) (d : Config (Memory Plain)) (at : s.condition r ≡ Joins k n pr)
+        (z : Joined G (lv r) kids r since k n left pr s d) where
       abbrev Moves : Loc → Type 0
       Moves l = (i : ℕ) × Lives_yet G (lv r) kids r s k n i × (kids k i).W l
 
       moves_or_same : (l : Loc) → All (R_of G lv) r l → Moves l ⊎ (t.store l ≡ s.store l)
       moves_or_same l may = ⊎_elim (λ e. inr e) (λ (x : All (W_of G lv) w l). ⊎_elim
           (λ (p : AreParallel w r). absurd (parallel_apart (W_of G lv) (R_of G lv) fair w r p l x may))
-          (λ (u : Under s w r). inl (under u (child_writes (W_of G lv) (R_of G lv) fair u.front r u.fork u.child l (subst (λ y. All (W_of G lv) y l) u.is x) may)))
+          (λ (u : Under s w r). inl (under u
+          (child_writes (W_of G lv) (R_of G lv) fair u.front r u.fork u.child l
+          (subst (λ y. All (W_of G lv) y l) u.is x) may)))
           (stance s w r sound alone (subst (λ y. IsLive y) (sym at) tt) apart)) (stays l)
         where
           lives_not : (x : Condition Process Held Address) → IsLive x → has_ended x ≡ false
@@ -110,8 +130,16 @@ module _ (G : Ground) (lv : Lives G) (s t : StateOf G.g) (sound : Sound s) (fair
 
           under : (u : Under s w r) → W_of G lv ((u.fork, u.child) ∷ r) l → Moves l
           under u x =
-              let j : JoinsAt {O = Process} {V = Held} {T = Address} u.fork u.child (Joins k n pr) = subst (λ y. JoinsAt {O = Process} {V = Held} {T = Address} u.fork u.child y) at u.joins in
-              (u.child, (j.1, ap (λ y. has_ended (s.condition ((y, u.child) ∷ r))) j.0 ∙ lives_not (s.condition ((u.fork, u.child) ∷ r)) u.lives), subst (λ y. W_of G lv ((y, u.child) ∷ r) l) (sym j.0) x)
+              let j : JoinsAt {O = Process} {V = Held} {T = Address} u.fork u.child (Joins k n pr) =
+              subst (λ y. JoinsAt {O = Process} {V = Held} {T = Address} u.fork u.child y) at u.joins in (
+                u.child,
+                (
+                  j.1,
+                  ap (λ y. has_ended (s.condition ((y, u.child) ∷ r))) j.0
+                      ∙ lives_not (s.condition ((u.fork, u.child) ∷ r)) u.lives,
+                ),
+                subst (λ y. W_of G lv ((y, u.child) ∷ r) l) (sym j.0) x,
+              )
 
       yet : (i : ℕ) → Lives_yet G (lv r) kids r s k n i → Lives_yet G (lv r) kids r t k n i
       yet i h = (h.0, ended k i ∙ h.1)
@@ -130,10 +158,15 @@ module _ (G : Ground) (lv : Lives G) (s t : StateOf G.g) (sound : Sound s) (fair
         held = z.held;
         is = z.is;
         joining = joining_more G (lv r) kids r (λ a h. (h.0, yet h.0 h.1, h.2))
-            (joining_same G.g G.code pr.who (Named G) (Called G) (λ l. Mine r l ⊎ (lv r).W l) (λ l. Mine r l ⊎ (lv r).R l) (lv r).J (lv r).low (Rattle.std.specs.Prelude.length (lv r).below) (lv r).born since G.pause (lv r).moved z.joining t.store
-            (λ q h x l may. ⊎_elim (λ m. inl (m.0, m.1, (z.children m.0 m.1).aims q h x l m.2)) (λ e. inr e) (moves_or_same (Cell q h x) may))
-            (λ may. ⊎_elim (λ m. inl (m.0, m.1, (z.children m.0 m.1).input_aims m.2)) (λ e. inr e) (moves_or_same Input may))
-            (λ may. ⊎_elim (λ m. inl (m.0, m.1, (z.children m.0 m.1).output_aims m.2)) (λ e. inr e) (moves_or_same Output may)));
+            (joining_same G.g G.code pr.who (Named G) (Called G) (λ l. Mine r l ⊎ (lv r).W l)
+            (λ l. Mine r l ⊎ (lv r).R l) (lv r).J (lv r).low (Rattle.std.specs.Prelude.length (lv r).below)
+            (lv r).born since G.pause (lv r).moved z.joining t.store
+            (λ q h x l may. ⊎_elim (λ m. inl (m.0, m.1, (z.children m.0 m.1).aims q h x l m.2)) (λ e. inr e)
+            (moves_or_same (Cell q h x) may))
+            (λ may. ⊎_elim (λ m. inl (m.0, m.1, (z.children m.0 m.1).input_aims m.2)) (λ e. inr e)
+            (moves_or_same Input may))
+            (λ may. ⊎_elim (λ m. inl (m.0, m.1, (z.children m.0 m.1).output_aims m.2)) (λ e. inr e)
+            (moves_or_same Output may)));
         follows = z.follows;
         count = z.count ∙ sym (left_same k n);
         some = z.some;
@@ -144,25 +177,51 @@ module _ (G : Ground) (lv : Lives G) (s t : StateOf G.g) (sound : Sound s) (fair
       }
 
     -- whatever it does
-    pub does_stay : (c c1 : Course) → c1.since r ≡ c.since r → c1.laid r ≡ c.laid r → (c.faulted ≡ true → c1.faulted ≡ true) → (opens : ℕ) (x : sys.Condition Plain) → Performs_all G lv r c s opens x → Performs_all G lv r c1 t opens x
+    pub does_stay : (c c1 : Course) → c1.since r ≡ c.since r → c1.laid r ≡ c.laid r
+        → (c.faulted ≡ true → c1.faulted ≡ true) → (opens : ℕ) (x : sys.Condition Plain)
+        → Performs_all G lv r c s opens x → Performs_all G lv r c1 t opens x
     does_stay c c1 si la fa opens sys.Absent h = h
-    does_stay c c1 si la fa opens (sys.Working d) h =
-        (h.0, working_same h.0 h.1, ⊎_elim (λ z. inl (subst (λ y. Stands G (lv r) kids r y h.0 t.store d) (sym si) (stands_stay (c.since r) h.0 d (inl (h.0, h.1)) z))) (λ z. inr (z.0, z.1, z.2, z.3, z.4, told_stay d (unread (inl (h.0, h.1)) Output) z.5)) h.2, h.3, la ∙ h.4)
+    does_stay c c1 si la fa opens (sys.Working d) h = (
+      h.0,
+      working_same h.0 h.1,
+      ⊎_elim (λ z. inl
+          (subst (λ y. Stands G (lv r) kids r y h.0 t.store d) (sym si)
+          (stands_stay (c.since r) h.0 d (inl (h.0, h.1)) z)))
+          (λ z. inr (z.0, z.1, z.2, z.3, z.4, told_stay d (unread (inl (h.0, h.1)) Output) z.5)) h.2,
+      h.3,
+      la ∙ h.4,
+    )
     does_stay c c1 si la fa opens (sys.Waits y d) h =
         (h.0, same ∙ h.1, z.0, z.1, h.4, la ∙ h.5, h.6)
       where
-        both : (a : ℕ) → a ≡ c.since r → (b : Stands G (lv r) kids r a (h.0).next t.store d) × Rattle.sp_link.proofs.Relation.Ca G (lv r) kids r b.fresh (h.0).next.who b.named a b.js (h.0).channel (h.0).kind (h.0).cargo y
-        both a e = subst (λ a. (b : Stands G (lv r) kids r a (h.0).next t.store d) × Rattle.sp_link.proofs.Relation.Ca G (lv r) kids r b.fresh (h.0).next.who b.named a b.js (h.0).channel (h.0).kind (h.0).cargo y) (sym e)
+        both : (a : ℕ) → a ≡ c.since r → (b : Stands G (lv r) kids r a (h.0).next t.store d)
+            × Rattle.sp_link.proofs.Relation.Ca G (lv r) kids r b.fresh (h.0).next.who b.named a b.js (h.0).channel
+            (h.0).kind (h.0).cargo y
+        both a e = subst (λ a. (b : Stands G (lv r) kids r a (h.0).next t.store d)
+            × Rattle.sp_link.proofs.Relation.Ca G (lv r) kids r b.fresh (h.0).next.who b.named a b.js (h.0).channel
+            (h.0).kind (h.0).cargo y) (sym e)
             (stands_stay (c.since r) (h.0).next d (inr ((h.0).channel, waits_is (s.condition r) h.0 h.1)) h.2, h.3)
 
-        z : (b : Stands G (lv r) kids r (c1.since r) (h.0).next t.store d) × Rattle.sp_link.proofs.Relation.Ca G (lv r) kids r b.fresh (h.0).next.who b.named (c1.since r) b.js (h.0).channel (h.0).kind (h.0).cargo y
+        z : (b : Stands G (lv r) kids r (c1.since r) (h.0).next t.store d)
+            × Rattle.sp_link.proofs.Relation.Ca G (lv r) kids r b.fresh (h.0).next.who b.named (c1.since r) b.js
+            (h.0).channel (h.0).kind (h.0).cargo y
         z = both (c1.since r) si
-    does_stay c c1 si la fa opens (sys.Joins left d) h =
-        (h.0, h.1, h.2, same ∙ h.3, subst (λ y. Joined G (lv r) kids r y h.0 h.1 left h.2 t d) (sym si) (joined_stay (c.since r) h.0 h.1 left h.2 d h.3 h.4), h.5, la ∙ h.6)
+    does_stay c c1 si la fa opens (sys.Joins left d) h = (
+      h.0,
+      h.1,
+      h.2,
+      same ∙ h.3,
+      subst (λ y. Joined G (lv r) kids r y h.0 h.1 left h.2 t d) (sym si)
+          (joined_stay (c.since r) h.0 h.1 left h.2 d h.3 h.4),
+      h.5,
+      la ∙ h.6,
+    )
     does_stay c c1 si la fa opens (sys.Laid d) h =
         (la ∙ h.0, fa h.1, (h.2.0, working_same h.2.0 h.2.1), told_stay d (unread (inl h.2) Output) h.3)
     does_stay c c1 si la fa opens sys.Gone h = (same ∙ h.0, h.1)
-    does_stay c c1 si la fa opens (sys.Over d) h = absurd (subst (λ y. IsLive y) h.0 (subst (λ y. IsLive (s.condition y)) (sym h.1) root_lives))
+    does_stay c c1 si la fa opens (sys.Over d) h =
+        absurd (subst (λ y. IsLive y) h.0 (subst (λ y. IsLive (s.condition y)) (sym h.1) root_lives))
       where
         root_lives : IsLive (s.condition [])
-        root_lives = ancestors_live s sound w [] (subst (λ y. IsLive (s.condition y)) (sym (Rattle.std.proofs.Common.append-nil w)) (alone_lives s w alone))
+        root_lives = ancestors_live s sound w []
+            (subst (λ y. IsLive (s.condition y)) (sym (Rattle.std.proofs.Common.append-nil w)) (alone_lives s w alone))

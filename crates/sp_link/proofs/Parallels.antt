@@ -1,6 +1,7 @@
 -- A parallel statement forks: each child has a life by its statement and its place in the code, stands as it is born,
 -- and its parent keeps of it what the join will need (`parallel_entry`).
-use Rattle.std.proofs.Common.{◌≡◌, ◌⊎◌, inl, inr, ⊎_elim, ℕ, zero, suc, ◌+◌, ◌<◌, ◌≤◌, List, [], ◌∷◌, length, Option, Some, None, Bool, true, false, refl, sym, ap, ◌∙◌, subst, arith}
+use Rattle.std.proofs.Common.{◌≡◌, ◌⊎◌, inl, inr, ⊎_elim, ℕ, zero, suc, ◌+◌, ◌<◌, ◌≤◌, List, [], ◌∷◌, length, Option}
+use Rattle.std.proofs.Common.{Some, None, Bool, true, false, refl, sym, ap, ◌∙◌, subst, arith}
 use Rattle.std.specs.Prelude.{◌≢◌, nat_lt, pos, IsSome, slice_get}
 use Rattle.std.specs.FinMap as fin
 use Rattle.sp_base.proofs.Facts.{next_is_within}
@@ -48,7 +49,8 @@ use Rattle.sp_link.proofs.Pauses.{Entry_of, Meant, Machined, Kept_to, kids}
 use Rattle.sp_code.proofs.Plans.{moved_by, shared_by, moved_in}
 use Rattle.sp_link.proofs.Scoping.{IsScoped, is_scoped}
 use Rattle.sp_link.proofs.Splits.{piece_known, parallel_split, parts_differ}
-use Rattle.sp_link.proofs.Relation.{Ground, Life, Lives, W_of, R_of, Called, Named, Fresh, Stands, Handed, St, Linked, execution, run_is}
+use Rattle.sp_link.proofs.Relation.{Ground, Life, Lives, W_of, R_of, Called, Named, Fresh, Stands, Handed, St, Linked}
+use Rattle.sp_link.proofs.Relation.{execution, run_is}
 
 -- ---- the children of a parallel statement
 
@@ -66,14 +68,45 @@ module _ (G : Ground) (free : Bool) (sc : List Scope) where
     pub same : child.statement ≡ statement
     pub at : child.entry ≡ entry_at G.g.program ss q j
 
-  child_here : (ss : Stmts) (q j : ℕ) (b : Birth) → slice_get (children ss) j ≡ Some b → ChildrenAt G.g.program G.moves G.shares (StandsIn G.code) (HasFork G.code) (HasWords G.code) G.hush free sc q ss → Child ss q j b
+  child_here : (ss : Stmts) (q j : ℕ) (b : Birth) → slice_get (children ss) j ≡ Some b
+      → ChildrenAt G.g.program G.moves G.shares (StandsIn G.code) (HasFork G.code) (HasWords G.code) G.hush free sc q ss
+      → Child ss q j b
   child_here No q j b e h = absurd (cc e)
-  child_here (And st rest) q zero b e h = record { statement = st; is = refl; child = record { statement = st; entry = q; table = refl; birth = sym (cc e); body = h.0; end = h.1; inside = λ u. inl }; same = refl; at = refl }
+  child_here (And st rest) q zero b e h = record {
+    statement = st;
+    is = refl;
+    child = record {
+      statement = st;
+      entry = q;
+      table = refl;
+      birth = sym (cc e);
+      body = h.0;
+      end = h.1;
+      inside = λ u. inl;
+    };
+    same = refl;
+    at = refl;
+  }
   child_here (And st rest) q (suc j) b e h =
       let z = child_here rest (after G.g.program q st + 1) j b e h.2 in
-      record { statement = z.statement; is = z.is; child = record { statement = z.child.statement; entry = z.child.entry; table = z.child.table; birth = z.child.birth; body = z.child.body; end = z.child.end; inside = λ u a. inr (z.child.inside u a) }; same = z.same; at = z.at }
+      record {
+        statement = z.statement;
+        is = z.is;
+        child = record {
+          statement = z.child.statement;
+          entry = z.child.entry;
+          table = z.child.table;
+          birth = z.child.birth;
+          body = z.child.body;
+          end = z.child.end;
+          inside = λ u a. inr (z.child.inside u a);
+        };
+        same = z.same;
+        at = z.at;
+      }
 
-  tables_count : (ss : Stmts) (q : ℕ) → length (children ss) ≡ length (children_tables G.g.program G.moves G.shares q ss)
+  tables_count : (ss : Stmts) (q : ℕ) → length (children ss)
+      ≡ length (children_tables G.g.program G.moves G.shares q ss)
   tables_count No q = refl
   tables_count (And st rest) q = ap suc (tables_count rest (after G.g.program q st + 1))
 
@@ -84,11 +117,16 @@ some_part : (ss : Stmts) → ss ≢ No → 1 ≤ length (children ss)
 some_part No h = absurd (h refl)
 some_part (And st rest) h = omega arith
 
-module _ (G : Ground) (lv : Lives G) (c : Course) (s : StateOf G.g) (u : System Plain) (l : Linked G lv c s u) (i : ℕ) (d : Config (Memory Plain)) (at_i : u.condition i ≡ sys.Working d)
-    (z : Stands G (lv (q G lv c s u l i d at_i)) (kids G lv c s u l i d at_i) (q G lv c s u l i d at_i) (c.since (q G lv c s u l i d at_i)) (pr G lv c s u l i d at_i) s.store d)
-    (bs : List Birth) (todo : List Item) (o : Own) (m : Store) (x : Meant G lv c s u l i d at_i z (Got (source.Stops (Forked bs todo)) o, m)) (t : Machined G lv c s u l i d at_i z (Got (source.Stops (Forked bs todo)) o, m))
+module _ (G : Ground) (lv : Lives G) (c : Course) (s : StateOf G.g) (u : System Plain) (l : Linked G lv c s u) (i : ℕ)
+    (d : Config (Memory Plain)) (at_i : u.condition i ≡ sys.Working d)
+    (z : Stands G (lv (q G lv c s u l i d at_i)) (kids G lv c s u l i d at_i) (q G lv c s u l i d at_i)
+    (c.since (q G lv c s u l i d at_i)) (pr G lv c s u l i d at_i) s.store d)
+    (bs : List Birth) (todo : List Item) (o : Own) (m : Store)
+    (x : Meant G lv c s u l i d at_i z (Got (source.Stops (Forked bs todo)) o, m))
+    (t : Machined G lv c s u l i d at_i z (Got (source.Stops (Forked bs todo)) o, m))
     (y : Kept_to G lv c s u l i d at_i z (Got (source.Stops (Forked bs todo)) o, m)) (quiet : u.faulted ≡ false)
-    (h : ParallelIs (execution G (lv (q G lv c s u l i d at_i)) (kids G lv c s u l i d at_i) (q G lv c s u l i d at_i) z.fresh (pr G lv c s u l i d at_i).who z.named (c.since (q G lv c s u l i d at_i))) true t.3 bs t.5) where
+    (h : ParallelIs (execution G (lv (q G lv c s u l i d at_i)) (kids G lv c s u l i d at_i) (q G lv c s u l i d at_i)
+    z.fresh (pr G lv c s u l i d at_i).who z.named (c.since (q G lv c s u l i d at_i))) true t.3 bs t.5) where
   abbrev v : Name
   v = q G lv c s u l i d at_i
 
@@ -186,7 +224,8 @@ module _ (G : Ground) (lv : Lives G) (c : Course) (s : StateOf G.g) (u : System 
 
   -- its parent's memory
   stood : St G (lv v) (λ a b. lv ((a, b) ∷ v)) v w1 (t.2).ticks t.3 o x.at.store n1
-  stood = fk.parent_stand G lv c s u l i d at_i z bs todo o m x t y quiet h.1 (pos 0) (length (children_tables G.g.program G.moves G.shares h.2 h.0)) h.4 some (t.2).ticks refl
+  stood = fk.parent_stand G lv c s u l i d at_i z bs todo o m x t y quiet h.1 (pos 0)
+      (length (children_tables G.g.program G.moves G.shares h.2 h.0)) h.4 some (t.2).ticks refl
 
   longer : (j : ℕ) → suc (length w1.name) ≤ length ((k, j) ∷ v)
   longer j = let a = ap (λ (a : Name). length a) x.good.named in omega (arith, a)
@@ -204,42 +243,82 @@ module _ (G : Ground) (lv : Lives G) (c : Course) (s : StateOf G.g) (u : System 
 
       -- its life is that by its statement
       life_is : new_life j ≡ life_by (Some ch.statement) ch.entry j
-      life_is = ap (λ a. life_by a (entry_at p ss h.2 j) j) (here.is ∙ ap (λ a. Some a) (sym here.same)) ∙ ap (λ a. life_by (Some ch.statement) a j) (sym here.at)
+      life_is = ap (λ a. life_by a (entry_at p ss h.2 j) j) (here.is ∙ ap (λ a. Some a) (sym here.same))
+          ∙ ap (λ a. life_by (Some ch.statement) a j) (sym here.at)
 
-      table_is : child_or (child_at (table_or (slice_get G.code.forks h.1)) j) ≡ child_table p G.moves G.shares ch.entry None ch.statement
-      table_is = ap (λ a. child_or (child_at (table_or a) j)) h.5 ∙ ap (λ a. child_or a) (table_at p G.moves G.shares ss h.2 j ∙ ch.table)
+      table_is : child_or (child_at (table_or (slice_get G.code.forks h.1)) j)
+          ≡ child_table p G.moves G.shares ch.entry None ch.statement
+      table_is = ap (λ a. child_or (child_at (table_or a) j)) h.5
+          ∙ ap (λ a. child_or a) (table_at p G.moves G.shares ss h.2 j ∙ ch.table)
 
       in_scope : IsScoped p h.3 ch.statement
-      in_scope = is_scoped G true h.3 ch.entry ch.statement ch.body (λ u1 a1. h.8.formed u1 (inr (inl (ch.inside u1 a1))))
+      in_scope = is_scoped G true h.3 ch.entry ch.statement ch.body
+          (λ u1 a1. h.8.formed u1 (inr (inl (ch.inside u1 a1))))
 
       kept_of_it : Handed G (lv v) more v t.3 n1 (new_life j) ((k, j) ∷ v)
-      kept_of_it = subst (λ (lf : Life). Handed G (lv v) more v t.3 n1 lf ((k, j) ∷ v)) (sym life_is) (cs.handed_facts G (lv v) more v fresh stood may_fork ss h.3 h.8 h.2 j b ch ((k, j) ∷ v) (longer j) (pos 0))
+      kept_of_it = subst (λ (lf : Life). Handed G (lv v) more v t.3 n1 lf ((k, j) ∷ v)) (sym life_is)
+          (cs.handed_facts G (lv v) more v fresh stood may_fork ss h.3 h.8 h.2 j b ch ((k, j) ∷ v) (longer j) (pos 0))
 
       shares_piece : (a : Spot) → In a (handing_at ch.entry j ch.statement).shared → IsPiece (fin.get n1.store.map a)
-      shares_piece a f = shared_piece G.g G.code w1 (Named G) (Called G) Wr Rd (lv v).J (lv v).low (length (lv v).below) (lv v).born (t.2).ticks G.pause (lv v).moved G.formed G.laid G.free z.fresh.reads G.moves G.shares G.sets stood ch.statement (cs.sound G (lv v) more v fresh stood may_fork ss h.3 h.8 h.2 j b ch ((k, j) ∷ v) (longer j) (pos 0)) (cs.unread G (lv v) more v fresh stood may_fork ss h.3 h.8 h.2 j b ch ((k, j) ∷ v) (longer j) (pos 0)) ((k, j) ∷ v) (cs.new_name G (lv v) more v fresh stood may_fork ss h.3 h.8 h.2 j b ch ((k, j) ∷ v) (longer j) (pos 0)) (child_table p G.moves G.shares ch.entry None ch.statement) refl refl (pos 0) j (cs.consoles G (lv v) more v) h.3 h.8.chain (λ x1 up own1 a1. h.8.indexes x1 up (inr (inl (ch.inside (use_of.Seen x1) a1)))) (λ y1 used1 own1. in_scope y1 used1) a f
+      shares_piece a f = shared_piece G.g G.code w1 (Named G) (Called G) Wr Rd (lv v).J (lv v).low (length (lv v).below)
+          (lv v).born (t.2).ticks G.pause (lv v).moved G.formed G.laid G.free z.fresh.reads G.moves G.shares G.sets
+          stood ch.statement (cs.sound G (lv v) more v fresh stood may_fork ss h.3 h.8 h.2 j b ch ((k, j) ∷ v)
+          (longer j) (pos 0)) (cs.unread G (lv v) more v fresh stood may_fork ss h.3 h.8 h.2 j b ch ((k, j) ∷ v)
+          (longer j) (pos 0)) ((k, j) ∷ v) (cs.new_name G (lv v) more v fresh stood may_fork ss h.3 h.8 h.2 j b ch
+          ((k, j) ∷ v) (longer j) (pos 0)) (child_table p G.moves G.shares ch.entry None ch.statement) refl refl (pos 0)
+          j (cs.consoles G (lv v) more v) h.3 h.8.chain
+          (λ x1 up own1 a1. h.8.indexes x1 up (inr (inl (ch.inside (use_of.Seen x1) a1))))
+          (λ y1 used1 own1. in_scope y1 used1) a f
 
       shares_known : (a : Spot) → In a (handing_at ch.entry j ch.statement).shared → IsSome (fin.get n1.store.map a)
       shares_known a f = piece_known (fin.get n1.store.map a) (shares_piece a f)
 
       output_stays : Rd Output → In output_spot (handing_at ch.entry j ch.statement).shared → ⊥
-      output_stays may f = output_unshared G.g G.code w1 (Named G) (Called G) Wr Rd (lv v).J (lv v).low (length (lv v).below) (lv v).born (t.2).ticks G.pause (lv v).moved G.formed G.laid G.free z.fresh.reads G.moves G.shares G.sets stood ch.statement (cs.sound G (lv v) more v fresh stood may_fork ss h.3 h.8 h.2 j b ch ((k, j) ∷ v) (longer j) (pos 0)) (cs.unread G (lv v) more v fresh stood may_fork ss h.3 h.8 h.2 j b ch ((k, j) ∷ v) (longer j) (pos 0)) ((k, j) ∷ v) (cs.new_name G (lv v) more v fresh stood may_fork ss h.3 h.8 h.2 j b ch ((k, j) ∷ v) (longer j) (pos 0)) (child_table p G.moves G.shares ch.entry None ch.statement) refl refl (pos 0) j (cs.consoles G (lv v) more v) h.3 h.8.chain (λ x1 up own1 a1. h.8.indexes x1 up (inr (inl (ch.inside (use_of.Seen x1) a1)))) (λ y1 used1 own1. in_scope y1 used1) may f
+      output_stays may f = output_unshared G.g G.code w1 (Named G) (Called G) Wr Rd (lv v).J (lv v).low
+          (length (lv v).below) (lv v).born (t.2).ticks G.pause (lv v).moved G.formed G.laid G.free z.fresh.reads
+          G.moves G.shares G.sets stood ch.statement
+          (cs.sound G (lv v) more v fresh stood may_fork ss h.3 h.8 h.2 j b ch ((k, j) ∷ v) (longer j) (pos 0))
+          (cs.unread G (lv v) more v fresh stood may_fork ss h.3 h.8 h.2 j b ch ((k, j) ∷ v) (longer j) (pos 0))
+          ((k, j) ∷ v) (cs.new_name G (lv v) more v fresh stood may_fork ss h.3 h.8 h.2 j b ch ((k, j) ∷ v) (longer j)
+          (pos 0)) (child_table p G.moves G.shares ch.entry None ch.statement) refl refl (pos 0) j
+          (cs.consoles G (lv v) more v) h.3 h.8.chain
+          (λ x1 up own1 a1. h.8.indexes x1 up (inr (inl (ch.inside (use_of.Seen x1) a1))))
+          (λ y1 used1 own1. in_scope y1 used1) may f
 
       moves_known : (a : Spot) → In a (handing_at ch.entry j ch.statement).moved → IsSome (fin.get n1.store.map a)
-      moves_known a f = cs.all_moved_known G (lv v) more v fresh stood may_fork ss h.3 h.8 h.2 j b ch ((k, j) ∷ v) (longer j) (pos 0) a f
+      moves_known a f = cs.all_moved_known G (lv v) more v fresh stood may_fork ss h.3 h.8 h.2 j b ch ((k, j) ∷ v)
+          (longer j) (pos 0) a f
 
       -- and it stands as it is born
-      process_is : newborn x.left.who o j b ≡ cs.own G (lv v) more v fresh stood may_fork ss h.3 h.8 h.2 j b ch ((k, j) ∷ v) (longer j) (pos 0)
+      process_is : newborn x.left.who o j b ≡ cs.own G (lv v) more v fresh stood may_fork ss h.3 h.8 h.2 j b ch
+          ((k, j) ∷ v) (longer j) (pos 0)
       process_is = ap (λ a. newborn x.left.who o j a) ch.birth
-          ∙ ap (λ (a : Name). record { todo = push ch.statement []; who = record { name = a; forks = 0; opens = 0 }; own = record { frames = o.frames; depth = o.depth + 1; ticks = 0; cells = 0 } })
-          (ap (λ a. cons (a, j) x.left.who.name) (fk.counted G lv c s u l i d at_i z bs todo o m x t y quiet h.1 (pos 0) (length (children_tables G.g.program G.moves G.shares h.2 h.0)) h.4 some) ∙ ap (λ a. cons (k, j) a) x.good.named)
+          ∙ ap (λ (a : Name). record {
+            todo = push ch.statement [];
+            who = record { name = a; forks = 0; opens = 0 };
+            own = record { frames = o.frames; depth = o.depth + 1; ticks = 0; cells = 0 };
+          })
+          (ap (λ a. cons (a, j) x.left.who.name)
+          (fk.counted G lv c s u l i d at_i z bs todo o m x t y quiet h.1 (pos 0)
+          (length (children_tables G.g.program G.moves G.shares h.2 h.0)) h.4 some)
+          ∙ ap (λ a. cons (k, j) a) x.good.named)
 
       it_stands : (number : ℕ) → Called G ((k, j) ∷ v) number → (own_more : ℕ → ℕ → Life)
-          → Stands G (new_life j) own_more ((k, j) ∷ v) 0 (newborn x.left.who o j b) x.at.store (sys.newborn plain (run_is G) (At t.0 t.1 n1) (pos 0) number j (child_or (child_at (table_or (slice_get G.code.forks h.1)) j)))
+          → Stands G (new_life j) own_more ((k, j) ∷ v) 0 (newborn x.left.who o j b) x.at.store
+          (sys.newborn plain (run_is G) (At t.0 t.1 n1) (pos 0) number j
+          (child_or (child_at (table_or (slice_get G.code.forks h.1)) j)))
       it_stands number called own_more =
-          subst (λ (lf : Life). Stands G lf own_more ((k, j) ∷ v) 0 (newborn x.left.who o j b) x.at.store (sys.newborn plain (run_is G) (At t.0 t.1 n1) (pos 0) number j (child_or (child_at (table_or (slice_get G.code.forks h.1)) j)))) (sym life_is)
-          (subst (λ a. Stands G (life_by (Some ch.statement) ch.entry j) own_more ((k, j) ∷ v) 0 a x.at.store (sys.newborn plain (run_is G) (At t.0 t.1 n1) (pos 0) number j (child_or (child_at (table_or (slice_get G.code.forks h.1)) j)))) (sym process_is)
-          (subst (λ a. Stands G (life_by (Some ch.statement) ch.entry j) own_more ((k, j) ∷ v) 0 (cs.own G (lv v) more v fresh stood may_fork ss h.3 h.8 h.2 j b ch ((k, j) ∷ v) (longer j) (pos 0)) x.at.store (sys.newborn plain (run_is G) (At t.0 t.1 n1) (pos 0) number j a)) (sym table_is)
-          (cs.child_stands G (lv v) more v fresh stood may_fork ss h.3 h.8 h.2 j b ch ((k, j) ∷ v) (longer j) (pos 0) number called t.0 t.1 shares_known own_more)))
+          subst (λ (lf : Life). Stands G lf own_more ((k, j) ∷ v) 0 (newborn x.left.who o j b) x.at.store
+          (sys.newborn plain (run_is G) (At t.0 t.1 n1) (pos 0) number j
+          (child_or (child_at (table_or (slice_get G.code.forks h.1)) j)))) (sym life_is)
+          (subst (λ a. Stands G (life_by (Some ch.statement) ch.entry j) own_more ((k, j) ∷ v) 0 a x.at.store
+          (sys.newborn plain (run_is G) (At t.0 t.1 n1) (pos 0) number j
+          (child_or (child_at (table_or (slice_get G.code.forks h.1)) j)))) (sym process_is)
+          (subst (λ a. Stands G (life_by (Some ch.statement) ch.entry j) own_more ((k, j) ∷ v) 0
+          (cs.own G (lv v) more v fresh stood may_fork ss h.3 h.8 h.2 j b ch ((k, j) ∷ v) (longer j) (pos 0))
+          x.at.store (sys.newborn plain (run_is G) (At t.0 t.1 n1) (pos 0) number j a)) (sym table_is)
+          (cs.child_stands G (lv v) more v fresh stood may_fork ss h.3 h.8 h.2 j b ch ((k, j) ∷ v) (longer j) (pos 0)
+          number called t.0 t.1 shares_known own_more)))
 
   count_is : length bs ≡ n
   count_is = ap (λ b. length b) h.6 ∙ tables_count G true h.3 ss h.2
@@ -252,32 +331,52 @@ module _ (G : Ground) (lv : Lives G) (c : Course) (s : StateOf G.g) (u : System 
   none a b = lv ((a, b) ∷ v)
 
   abbrev one_of : ℕ → Handing
-  one_of j = handing_of G.code.layouts n1.frames (pos 0) j (child_or (child_at (table_or (slice_get G.code.forks h.1)) j))
+  one_of j = handing_of G.code.layouts n1.frames (pos 0) j
+      (child_or (child_at (table_or (slice_get G.code.forks h.1)) j))
 
-  known : (a : Spot) → In a (moved_of (fk.hs G lv c s u l i d at_i z bs todo o m x t y quiet h.1 (pos 0) (length (children_tables G.g.program G.moves G.shares h.2 h.0)) h.4 some)) ⊎ In a (shared_of (fk.hs G lv c s u l i d at_i z bs todo o m x t y quiet h.1 (pos 0) (length (children_tables G.g.program G.moves G.shares h.2 h.0)) h.4 some)) → IsSome (fin.get n1.store.map a)
+  known : (a : Spot) → In a (moved_of (fk.hs G lv c s u l i d at_i z bs todo o m x t y quiet h.1 (pos 0)
+      (length (children_tables G.g.program G.moves G.shares h.2 h.0)) h.4 some))
+      ⊎ In a (shared_of (fk.hs G lv c s u l i d at_i z bs todo o m x t y quiet h.1 (pos 0)
+      (length (children_tables G.g.program G.moves G.shares h.2 h.0)) h.4 some)) → IsSome (fin.get n1.store.map a)
   known a (inl g) =
       let w = moved_by G.code.layouts n1.frames (table_or (slice_get G.code.forks h.1)) (pos 0) n a g in
       let b = at_place w.0 w.1 in
-      moves_known none w.0 b.0 b.1 a (subst (λ tb. In a (handing_of G.code.layouts n1.frames (pos 0) w.0 tb).moved) (table_is none w.0 b.0 b.1) w.2)
+      moves_known none w.0 b.0 b.1 a (subst (λ tb. In a (handing_of G.code.layouts n1.frames (pos 0) w.0 tb).moved)
+      (table_is none w.0 b.0 b.1) w.2)
   known a (inr g) =
       let w = shared_by G.code.layouts n1.frames (table_or (slice_get G.code.forks h.1)) (pos 0) n a g in
       let b = at_place w.0 w.1 in
-      shares_known none w.0 b.0 b.1 a (subst (λ tb. In a (handing_of G.code.layouts n1.frames (pos 0) w.0 tb).shared) (table_is none w.0 b.0 b.1) w.2)
+      shares_known none w.0 b.0 b.1 a (subst (λ tb. In a (handing_of G.code.layouts n1.frames (pos 0) w.0 tb).shared)
+      (table_is none w.0 b.0 b.1) w.2)
 
-  dry : All (R_of G lv) v Output → NotIn output_spot (shared_of (fk.hs G lv c s u l i d at_i z bs todo o m x t y quiet h.1 (pos 0) (length (children_tables G.g.program G.moves G.shares h.2 h.0)) h.4 some))
-  dry may = ⊎_elim (λ g. absurd (wet g)) (λ g. g) (in_or output_spot (shared_of (fk.hs G lv c s u l i d at_i z bs todo o m x t y quiet h.1 (pos 0) (length (children_tables G.g.program G.moves G.shares h.2 h.0)) h.4 some)))
+  dry : All (R_of G lv) v Output → NotIn output_spot
+      (shared_of (fk.hs G lv c s u l i d at_i z bs todo o m x t y quiet h.1 (pos 0)
+      (length (children_tables G.g.program G.moves G.shares h.2 h.0)) h.4 some))
+  dry may = ⊎_elim (λ g. absurd (wet g)) (λ g. g)
+      (in_or output_spot (shared_of (fk.hs G lv c s u l i d at_i z bs todo o m x t y quiet h.1 (pos 0)
+      (length (children_tables G.g.program G.moves G.shares h.2 h.0)) h.4 some)))
     where
-      wet : In output_spot (shared_of (fk.hs G lv c s u l i d at_i z bs todo o m x t y quiet h.1 (pos 0) (length (children_tables G.g.program G.moves G.shares h.2 h.0)) h.4 some)) → ⊥
+      wet : In output_spot (shared_of (fk.hs G lv c s u l i d at_i z bs todo o m x t y quiet h.1 (pos 0)
+          (length (children_tables G.g.program G.moves G.shares h.2 h.0)) h.4 some)) → ⊥
       wet g =
           let w = shared_by G.code.layouts n1.frames (table_or (slice_get G.code.forks h.1)) (pos 0) n output_spot g in
           let b = at_place w.0 w.1 in
-          output_stays none w.0 b.0 b.1 may (subst (λ tb. In output_spot (handing_of G.code.layouts n1.frames (pos 0) w.0 tb).shared) (table_is none w.0 b.0 b.1) w.2)
+          output_stays none w.0 b.0 b.1 may (subst
+          (λ tb. In output_spot (handing_of G.code.layouts n1.frames (pos 0) w.0 tb).shared)
+          (table_is none w.0 b.0 b.1) w.2)
 
-  parts : (a : Spot) → In a (moved_of (fk.hs G lv c s u l i d at_i z bs todo o m x t y quiet h.1 (pos 0) (length (children_tables G.g.program G.moves G.shares h.2 h.0)) h.4 some)) → (j : ℕ) × (j < n) × In a (new_life j).moved
+  parts : (a : Spot) → In a (moved_of (fk.hs G lv c s u l i d at_i z bs todo o m x t y quiet h.1 (pos 0)
+      (length (children_tables G.g.program G.moves G.shares h.2 h.0)) h.4 some)) → (j : ℕ) × (j < n)
+      × In a (new_life j).moved
   parts a g =
       let w = moved_by G.code.layouts n1.frames (table_or (slice_get G.code.forks h.1)) (pos 0) n a g in
-      let b = at_place w.0 w.1 in
-      (w.0, w.1, subst (λ (lf : Life). In a lf.moved) (sym (life_is none w.0 b.0 b.1)) (subst (λ tb. In a (handing_of G.code.layouts n1.frames (pos 0) w.0 tb).moved) (table_is none w.0 b.0 b.1) w.2))
+      let b = at_place w.0 w.1 in (
+        w.0,
+        w.1,
+        subst (λ (lf : Life). In a lf.moved) (sym (life_is none w.0 b.0 b.1))
+            (subst (λ tb. In a (handing_of G.code.layouts n1.frames (pos 0) w.0 tb).moved) (table_is none w.0 b.0 b.1)
+            w.2),
+      )
 
   -- ---- what it hands over
 
@@ -287,37 +386,55 @@ module _ (G : Ground) (lv : Lives G) (c : Course) (s : StateOf G.g) (u : System 
   is_there : table_or (slice_get G.code.forks h.1) ≡ table_there
   is_there = ap (λ a. table_or a) h.5
 
-  pub can_split : CanSplit n1.store (fk.hs G lv c s u l i d at_i z bs todo o m x t y quiet h.1 (pos 0) (length (children_tables G.g.program G.moves G.shares h.2 h.0)) h.4 some)
+  pub can_split : CanSplit n1.store (fk.hs G lv c s u l i d at_i z bs todo o m x t y quiet h.1 (pos 0)
+      (length (children_tables G.g.program G.moves G.shares h.2 h.0)) h.4 some)
   can_split = subst (λ a. CanSplit n1.store (plan_from G.code.layouts n1.frames a (pos 0) 0 n)) (sym is_there)
       (parallel_split G (lv v) none v (fresh none) stood ss h.3 h.8 h.2 h.7 (pos 0) (λ a g.
       (let w = shared_by G.code.layouts n1.frames table_there (pos 0) n a g in
       let b = at_place w.0 w.1 in
-      shares_piece none w.0 b.0 b.1 a (subst (λ tb. In a (handing_of G.code.layouts n1.frames (pos 0) w.0 tb).shared) (table_is none w.0 b.0 b.1)
-      (subst (λ tb. In a (handing_of G.code.layouts n1.frames (pos 0) w.0 (child_or (child_at tb w.0))).shared) (sym is_there) w.2)))))
+      shares_piece none w.0 b.0 b.1 a (subst (λ tb. In a (handing_of G.code.layouts n1.frames (pos 0) w.0 tb).shared)
+      (table_is none w.0 b.0 b.1)
+      (subst (λ tb. In a (handing_of G.code.layouts n1.frames (pos 0) w.0 (child_or (child_at tb w.0))).shared)
+      (sym is_there) w.2)))))
 
   -- what moves to a child
   moved_one : (j : ℕ) → j < n → (a : Spot) → In a (new_life j).moved → In a (one_of j).moved
   moved_one j lt a g =
       let b = at_place j lt in
-      subst (λ tb. In a (handing_of G.code.layouts n1.frames (pos 0) j tb).moved) (sym (table_is none j b.0 b.1)) (subst (λ (lf : Life). In a lf.moved) (life_is none j b.0 b.1) g)
+      subst (λ tb. In a (handing_of G.code.layouts n1.frames (pos 0) j tb).moved) (sym (table_is none j b.0 b.1))
+      (subst (λ (lf : Life). In a lf.moved) (life_is none j b.0 b.1) g)
 
-  gives : (j : ℕ) → j < n → (a : Spot) → In a (new_life j).moved → In a (moved_of (fk.hs G lv c s u l i d at_i z bs todo o m x t y quiet h.1 (pos 0) (length (children_tables G.g.program G.moves G.shares h.2 h.0)) h.4 some))
-  gives j lt a g = moved_in G.code.layouts n1.frames (table_or (slice_get G.code.forks h.1)) (pos 0) n j a lt (moved_one j lt a g)
+  gives : (j : ℕ) → j < n → (a : Spot) → In a (new_life j).moved
+      → In a (moved_of (fk.hs G lv c s u l i d at_i z bs todo o m x t y quiet h.1 (pos 0)
+      (length (children_tables G.g.program G.moves G.shares h.2 h.0)) h.4 some))
+  gives j lt a g = moved_in G.code.layouts n1.frames (table_or (slice_get G.code.forks h.1)) (pos 0) n j a lt
+      (moved_one j lt a g)
 
   parted : (j k : ℕ) → j < n → k < n → j ≢ k → (a : Spot) → In a (new_life j).moved → In a (new_life k).moved → ⊥
-  parted j k lj lk ne a e g = parts_differ G (lv v) none v (fresh none) stood ss h.3 h.8 h.2 h.7 (pos 0) j k lj lk ne a (there j lj e) (there k lk g)
+  parted j k lj lk ne a e g = parts_differ G (lv v) none v (fresh none) stood ss h.3 h.8 h.2 h.7 (pos 0) j k lj lk ne a
+      (there j lj e) (there k lk g)
     where
-      there : (j : ℕ) → j < n → In a (new_life j).moved → In a (handing_of G.code.layouts n1.frames (pos 0) j (child_or (child_at table_there j))).moved
-      there j lt e = subst (λ tb. In a (handing_of G.code.layouts n1.frames (pos 0) j (child_or (child_at tb j))).moved) is_there (moved_one j lt a e)
+      there : (j : ℕ) → j < n → In a (new_life j).moved
+          → In a (handing_of G.code.layouts n1.frames (pos 0) j (child_or (child_at table_there j))).moved
+      there j lt e = subst (λ tb. In a (handing_of G.code.layouts n1.frames (pos 0) j (child_or (child_at tb j))).moved)
+          is_there (moved_one j lt a e)
 
   pub parallel_entry : Entry_of G c s u i d
-  parallel_entry = by (nat_lt G.g.limits.entries (u.entries + 1)) (nat_lt G.g.limits.processes (u.births.processes + n)) refl refl
+  parallel_entry = by (nat_lt G.g.limits.entries (u.entries + 1)) (nat_lt G.g.limits.processes (u.births.processes + n))
+      refl refl
     where
       os_are : length (Rattle.sp_meaning.specs.Deeds.newborns x.left.who o 0 bs) ≡ n
       os_are = fk.newborns_length x.left.who o 0 bs ∙ count_is
 
-      by : (e1 e2 : Bool) → nat_lt G.g.limits.entries (u.entries + 1) ≡ e1 → nat_lt G.g.limits.processes (u.births.processes + n) ≡ e2 → Entry_of G c s u i d
-      by true e2 h1 h2 = fk.over_entry G lv c s u l i d at_i z bs todo o m x t y quiet h.1 (pos 0) (length (children_tables G.g.program G.moves G.shares h.2 h.0)) h.4 some h1
-      by false true h1 h2 = fk.many_entry G lv c s u l i d at_i z bs todo o m x t y quiet h.1 (pos 0) (length (children_tables G.g.program G.moves G.shares h.2 h.0)) h.4 some h1 (ap (λ a. nat_lt G.g.limits.processes (u.births.processes + a)) os_are ∙ h2) h2
-      by false false h1 h2 = fk.fork_entry G lv c s u l i d at_i z bs todo o m x t y quiet h.1 (pos 0) (length (children_tables G.g.program G.moves G.shares h.2 h.0)) h.4 some h1 h2 count_is (list_of ss) born new_life to_w from_w to_r from_r known dry parts gives (λ a g. can_split.apart a g) parted
-          (λ more j lt. (let b = at_place j lt in kept_of_it more j b.0 b.1)) (λ more j lt b e called. it_stands none j b e (u.births.processes + j) called more)
+      by : (e1 e2 : Bool) → nat_lt G.g.limits.entries (u.entries + 1) ≡ e1
+          → nat_lt G.g.limits.processes (u.births.processes + n) ≡ e2 → Entry_of G c s u i d
+      by true e2 h1 h2 = fk.over_entry G lv c s u l i d at_i z bs todo o m x t y quiet h.1 (pos 0)
+          (length (children_tables G.g.program G.moves G.shares h.2 h.0)) h.4 some h1
+      by false true h1 h2 = fk.many_entry G lv c s u l i d at_i z bs todo o m x t y quiet h.1 (pos 0)
+          (length (children_tables G.g.program G.moves G.shares h.2 h.0)) h.4 some h1
+          (ap (λ a. nat_lt G.g.limits.processes (u.births.processes + a)) os_are ∙ h2) h2
+      by false false h1 h2 = fk.fork_entry G lv c s u l i d at_i z bs todo o m x t y quiet h.1 (pos 0)
+          (length (children_tables G.g.program G.moves G.shares h.2 h.0)) h.4 some h1 h2 count_is (list_of ss) born
+          new_life to_w from_w to_r from_r known dry parts gives (λ a g. can_split.apart a g) parted
+          (λ more j lt. (let b = at_place j lt in kept_of_it more j b.0 b.1))
+          (λ more j lt b e called. it_stands none j b e (u.births.processes + j) called more)

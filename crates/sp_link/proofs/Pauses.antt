@@ -1,6 +1,7 @@
 -- The entry `Pause` on both sides (`pausing`). `Entry_of` is the form of every event's lemma: the turn of the machine,
 -- the way of the meaning to the same entry, and the relation after it.
-use Rattle.std.proofs.Common.{◌≡◌, ◌⊎◌, inl, ℕ, ◌+◌, ◌==◌, List, ◌∷◌, true, false, if◌then◌else◌, cond, refl, sym, ap, ◌∙◌, subst, arith}
+use Rattle.std.proofs.Common.{◌≡◌, ◌⊎◌, inl, ℕ, ◌+◌, ◌==◌, List, ◌∷◌, true, false, if◌then◌else◌, cond, refl, sym, ap}
+use Rattle.std.proofs.Common.{◌∙◌, subst, arith}
 use Rattle.sp_base.proofs.Facts.{is_none_plus}
 use Rattle.sp_journal.specs.Births.{after_event}
 use Rattle.sp_journal.specs.Maps.{at_key}
@@ -33,23 +34,33 @@ use Rattle.sp_link.proofs.Relation.{Ground, Life, Lives, W_of, R_of, Stands, Lin
 
 -- where no fault stands
 pub after_quiet : (G : Ground) (i : ℕ) (t : Turn (Memory Plain)) (u : System Plain) → u.faulted ≡ false
-    → after plain (run_is G) i t u ≡ record (unless_fault plain (run_is G) (fault_of G.g.limits u t) i t u) { births = after_event u.births i (event_or (fault_of G.g.limits u t) t) }
-after_quiet G i t u e = ap (λ b. record (if b then lays plain (run_is G) i (config_of t) u else unless_fault plain (run_is G) (fault_of G.g.limits u t) i t u) { births = after_event u.births i (if b then event.Laid else event_or (fault_of G.g.limits u t) t) }) e
+    → after plain (run_is G) i t u ≡ record (unless_fault plain (run_is G) (fault_of G.g.limits u t) i t u)
+    { births = after_event u.births i (event_or (fault_of G.g.limits u t) t) }
+after_quiet G i t u e = ap (λ b. record (if b then lays plain (run_is G) i (config_of t) u else
+    unless_fault plain (run_is G) (fault_of G.g.limits u t) i t u)
+    { births = after_event u.births i (if b then event.Laid else event_or (fault_of G.g.limits u t) t) }) e
 
 -- where one stands
-pub after_laid : (G : Ground) (i : ℕ) (t : Turn (Memory Plain)) (u : System Plain) → u.faulted ≡ true → after plain (run_is G) i t u ≡ lays plain (run_is G) i (config_of t) u
-after_laid G i t u e = ap (λ b. record (if b then lays plain (run_is G) i (config_of t) u else unless_fault plain (run_is G) (fault_of G.g.limits u t) i t u) { births = after_event u.births i (if b then event.Laid else event_or (fault_of G.g.limits u t) t) }) e
+pub after_laid : (G : Ground) (i : ℕ) (t : Turn (Memory Plain)) (u : System Plain) → u.faulted ≡ true
+    → after plain (run_is G) i t u ≡ lays plain (run_is G) i (config_of t) u
+after_laid G i t u e = ap (λ b. record (if b then lays plain (run_is G) i (config_of t) u else
+    unless_fault plain (run_is G) (fault_of G.g.limits u t) i t u)
+    { births = after_event u.births i (if b then event.Laid else event_or (fault_of G.g.limits u t) t) }) e
 
 -- a turn, and the entry that it makes on both sides
-pub record Entry_of (G : Ground) (c : Course) (s : StateOf G.g) (u : System Plain) (i : ℕ) (d : Config (Memory Plain)) : Type 1 where
+pub record Entry_of (G : Ground) (c : Course) (s : StateOf G.g) (u : System Plain) (i : ℕ) (d : Config (Memory Plain)) :
+    Type 1 where
   pub turn : Turn (Memory Plain)
   pub is : IsTurn (ops G) G.code d turn
-  pub way : Way_on G c s (G.births.name i) (Rattle.sp_journal.specs.Births.happening u.births (event_of G.g.limits u turn))
+  pub way : Way_on G c s (G.births.name i) (Rattle.sp_journal.specs.Births.happening u.births
+      (event_of G.g.limits u turn))
   pub speaks : IsOpen u.births (event_of G.g.limits u turn)
   pub lives : Lives G
-  pub linked : Began G (after plain (run_is G) i turn u).births → Now G lives way.course way.state (after plain (run_is G) i turn u)
+  pub linked : Began G (after plain (run_is G) i turn u).births
+      → Now G lives way.course way.state (after plain (run_is G) i turn u)
 
-module _ (G : Ground) (lv : Lives G) (c : Course) (s : StateOf G.g) (u : System Plain) (l : Linked G lv c s u) (i : ℕ) (d : Config (Memory Plain)) (at_i : u.condition i ≡ Working d) where
+module _ (G : Ground) (lv : Lives G) (c : Course) (s : StateOf G.g) (u : System Plain) (l : Linked G lv c s u) (i : ℕ)
+    (d : Config (Memory Plain)) (at_i : u.condition i ≡ Working d) where
   abbrev pub w : Name
   w = q G lv c s u l i d at_i
 
@@ -65,20 +76,34 @@ module _ (G : Ground) (lv : Lives G) (c : Course) (s : StateOf G.g) (u : System 
   module _ (z : Stands G (lv w) kids w (c.since w) p1 s.store d) where
     -- how its turn ends in the meaning, and in the machine
     abbrev pub Meant : Came source.Stop × Store → Type 0
-    Meant r = Outcome_of G (lv w) kids w (c.since w) s p1 d z (runs G lv c s u l i d at_i) (light G lv c s u l i d at_i) kt.last kt.fit r
+    Meant r = Outcome_of G (lv w) kids w (c.since w) s p1 d z (runs G lv c s u l i d at_i) (light G lv c s u l i d at_i)
+        kt.last kt.fit r
 
     abbrev pub Machined : Came source.Stop × Store → Type 0
-    Machined r = Turned_as G (lv w) kids w (c.since w) s p1 d z (runs G lv c s u l i d at_i) (light G lv c s u l i d at_i) kt.last kt.fit r
+    Machined r = Turned_as G (lv w) kids w (c.since w) s p1 d z (runs G lv c s u l i d at_i)
+        (light G lv c s u l i d at_i) kt.last kt.fit r
 
     -- what it kept to, and what is left keeps to
     abbrev pub Kept_to : Came source.Stop × Store → Type 0
-    Kept_to r = Kept_of G (lv w) kids w (c.since w) s p1 d z (runs G lv c s u l i d at_i) (light G lv c s u l i d at_i) kt.last kt.fit r
+    Kept_to r = Kept_of G (lv w) kids w (c.since w) s p1 d z (runs G lv c s u l i d at_i) (light G lv c s u l i d at_i)
+        kt.last kt.fit r
 
-    pub turn_is : (t : Turn (Memory Plain)) → Turns.Runs (ops G) G.code (At z.pc z.stack z.memory) t → IsTurn (ops G) G.code d t
-    turn_is t r = is_turn G (lv w) kids w (c.since w) s p1 d z (runs G lv c s u l i d at_i) (light G lv c s u l i d at_i) kt.last kt.fit t r
+    pub turn_is : (t : Turn (Memory Plain)) → Turns.Runs (ops G) G.code (At z.pc z.stack z.memory) t
+        → IsTurn (ops G) G.code d t
+    turn_is t r = is_turn G (lv w) kids w (c.since w) s p1 d z (runs G lv c s u l i d at_i)
+        (light G lv c s u l i d at_i) kt.last kt.fit t r
 
-    pub pausing : (todo : List Item) (o : Own) (m : Store) → Meant (Got (source.Paused todo) o, m) → Machined (Got (source.Paused todo) o, m) → u.faulted ≡ false → Entry_of G c s u i d
-    pausing todo o m x t quiet = record { turn = tn; is = tn_is; way = way_by _ (sym said); speaks = subst (λ b. IsOpen u.births (if b then event.Laid else event.Pause)) (sym quiet) tt; lives = lv; linked = λ began. now_by G lv c1 x.at (after plain (run_is G) i tn u) (subst (λ y. Linked G lv c1 x.at y) (sym (after_quiet G i tn u quiet)) linked) }
+    pub pausing : (todo : List Item) (o : Own) (m : Store) → Meant (Got (source.Paused todo) o, m)
+        → Machined (Got (source.Paused todo) o, m) → u.faulted ≡ false → Entry_of G c s u i d
+    pausing todo o m x t quiet = record {
+      turn = tn;
+      is = tn_is;
+      way = way_by _ (sym said);
+      speaks = subst (λ b. IsOpen u.births (if b then event.Laid else event.Pause)) (sym quiet) tt;
+      lives = lv;
+      linked = λ began. now_by G lv c1 x.at (after plain (run_is G) i tn u)
+          (subst (λ y. Linked G lv c1 x.at y) (sym (after_quiet G i tn u quiet)) linked);
+    }
       where
         tn : Turn (Memory Plain)
         tn = Stopped machine.Pauses (At t.0 t.1 t.2)
@@ -113,8 +138,10 @@ module _ (G : Ground) (lv : Lives G) (c : Course) (s : StateOf G.g) (u : System 
           stack = t.1;
           memory = n1;
           is = refl;
-          stand = stand_again G (lv w) kids w {w = p1.who} {w1 = p1.who} {since = c.since w} {since1 = c1.since w} refl since_here t.7;
-          follows = follows_again G (lv w) kids w z.fresh z.fresh p1.who p1.who z.named z.named (c.since w) (c1.since w) t.0 t.1 t.3 todo t.8;
+          stand = stand_again G (lv w) kids w {w = p1.who} {w1 = p1.who} {since = c.since w} {since1 = c1.since w} refl
+              since_here t.7;
+          follows = follows_again G (lv w) kids w z.fresh z.fresh p1.who p1.who z.named z.named (c.since w) (c1.since w)
+              t.0 t.1 t.3 todo t.8;
         })
 
         linked : Linked G lv c1 x.at (record u { condition = at_key ◌==◌ i (Working (At t.0 t.1 n1)) u.condition })
@@ -123,7 +150,8 @@ module _ (G : Ground) (lv : Lives G) (c : Course) (s : StateOf G.g) (u : System 
             (subst (λ y. (a : Loc) → (y a ≡ s.store a) ⊎ All (W_of G lv) w a) (sym x.store) x.good.stays)
             (turn_known G.g G.pause (c.since w) w x.steps s x.at true l.known x.turn) p2 x.runs
             (record { named = z.named; forked = kt.forked; last = kt.last; fit = x.good.fit })
-            (λ r a. ap (λ b. cond b (ticks_of G.g x.at w) (c.since r)) (differs name_test w r (λ e. a (sym e)))) (λ r a. refl) (λ e. e) l.faulted
+            (λ r a. ap (λ b. cond b (ticks_of G.g x.at w) (c.since r)) (differs name_test w r (λ e. a (sym e))))
+            (λ r a. refl) (λ e. e) l.faulted
             (λ e. x.elsewhere.fault ∙ l.quiet e) l.unlaid
             (p2, x.runs, inl stands, (its G lv c s u l i d at_i).3, (its G lv c s u l i d at_i).4) (λ e. absurd (cc e))
 
@@ -137,5 +165,6 @@ module _ (G : Ground) (lv : Lives G) (c : Course) (s : StateOf G.g) (u : System 
           cost = 0;
           course = c1;
           state = x.at;
-          enters = λ left n y. subst (λ f. Entered G.g left c x.at true w f (0 + n)) h (l.faulted ∙ quiet, refl, subst (λ k. left c1 x.at k) (is_none_plus n) y);
+          enters = λ left n y. subst (λ f. Entered G.g left c x.at true w f (0 + n)) h
+              (l.faulted ∙ quiet, refl, subst (λ k. left c1 x.at k) (is_none_plus n) y);
         }

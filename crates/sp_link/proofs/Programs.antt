@@ -26,16 +26,21 @@ use Rattle.sp_codegen.specs.Meets.{code_run}
 use Rattle.sp_codegen.proofs.FirstTurn.{laid_of}
 use Rattle.sp_link.specs.Premises.{IsReady}
 use Rattle.sp_link.proofs.Relation.{Ground}
-use Rattle.sp_link.proofs.Theorem.{meaning_of_system, turns_safe, system_of_meaning, output_same, done_means, done_runs, idle_means}
+use Rattle.sp_link.proofs.Theorem.{meaning_of_system, turns_safe, system_of_meaning, output_same, done_means, done_runs}
+use Rattle.sp_link.proofs.Theorem.{idle_means}
 
 -- no two channels have one name
-pub one_channel : (b : Births) → Lawful b → (c d : ℕ) → c < b.channels → d < b.channels → channel b c ≡ channel b d → c ≡ d
+pub one_channel : (b : Births) → Lawful b → (c d : ℕ) → c < b.channels → d < b.channels → channel b c ≡ channel b d
+    → c ≡ d
 one_channel b w c d lc ld e =
-    let owners : (b.opening c).owner ≡ (b.opening d).owner = w.one_name (b.opening c).owner (b.opening d).owner (w.owned c lc) (w.owned d ld) (ap (λ (y : Channel). y.owner) e) in
+    let owners : (b.opening c).owner ≡ (b.opening d).owner =
+    w.one_name (b.opening c).owner (b.opening d).owner (w.owned c lc) (w.owned d ld)
+    (ap (λ (y : Channel). y.owner) e) in
     let nths : (b.opening c).nth ≡ (b.opening d).nth = ap (λ (y : Channel). y.nth) e in
     w.one_opening c d lc ld (λ i. record { owner = owners i; nth = nths i })
 
-module _ (g : Setting) (moves shares : Stmt → List ℕ) (pause : ℕ) (ready : IsReady g moves shares) (es : List Entry) (named : NameableFrom at_start es) where
+module _ (g : Setting) (moves shares : Stmt → List ℕ) (pause : ℕ) (ready : IsReady g moves shares) (es : List Entry)
+    (named : NameableFrom at_start es) where
   abbrev pub code : Code
   code = program_code g.program moves shares
 
@@ -69,23 +74,34 @@ module _ (g : Setting) (moves shares : Stmt → List ℕ) (pause : ℕ) (ready :
     one_channel = λ c d lc ld e. one_channel (births_from at_start es) lawful c d lc ld e;
   }
 
-  pub program_means : (t : System Plain) → IsSystem plain (code_run g code pause) es t → (n : ℕ) × (s : StateOf g) × IsAlong g pause (occurrences_from at_start es) n s
+  pub program_means : (t : System Plain) → IsSystem plain (code_run g code pause) es t → (n : ℕ) × (s : StateOf g)
+      × IsAlong g pause (occurrences_from at_start es) n s
   program_means t h = meaning_of_system ground ready.main ready.first es named refl t h
 
-  pub program_runs : (n : ℕ) (s : StateOf g) → IsAlong g pause (occurrences_from at_start es) n s → (t : System Plain) × IsSystem plain (code_run g code pause) es t
+  pub program_runs : (n : ℕ) (s : StateOf g) → IsAlong g pause (occurrences_from at_start es) n s → (t : System Plain)
+      × IsSystem plain (code_run g code pause) es t
   program_runs n s h = system_of_meaning ground ready.main ready.first es named refl n s h
 
-  pub program_safe : (t : System Plain) → IsSystem plain (code_run g code pause) es t → (i : ℕ) (d : Config (Memory Plain)) → t.condition i ≡ Working d → IsSafe (memory plain (code_run g code pause)) code d
+  pub program_safe : (t : System Plain) → IsSystem plain (code_run g code pause) es t
+      → (i : ℕ) (d : Config (Memory Plain)) → t.condition i ≡ Working d
+      → IsSafe (memory plain (code_run g code pause)) code d
   program_safe t h i d at = turns_safe ground ready.main ready.first es named refl t h i d at
 
-  pub program_output : (t : System Plain) → IsSystem plain (code_run g code pause) es t → (n : ℕ) (s : StateOf g) → IsAlong g pause (occurrences_from at_start es) n s → OutputIs plain (code_run g code pause) t (output_of g s)
+  pub program_output : (t : System Plain) → IsSystem plain (code_run g code pause) es t → (n : ℕ) (s : StateOf g)
+      → IsAlong g pause (occurrences_from at_start es) n s → OutputIs plain (code_run g code pause) t (output_of g s)
   program_output t h n s k = output_same ground ready.main ready.first es named refl t h n s k
 
-  pub program_done : (t : System Plain) → IsSystem plain (code_run g code pause) es t → (n : ℕ) (s : StateOf g) → IsAlong g pause (occurrences_from at_start es) n s → (d : Config (Memory Plain)) → t.condition 0 ≡ Over d → IsDone g s
+  pub program_done : (t : System Plain) → IsSystem plain (code_run g code pause) es t → (n : ℕ) (s : StateOf g)
+      → IsAlong g pause (occurrences_from at_start es) n s → (d : Config (Memory Plain)) → t.condition 0 ≡ Over d
+      → IsDone g s
   program_done t h n s k d e = done_means ground ready.main ready.first es named refl t h n s k d e
 
-  pub program_over : (t : System Plain) → IsSystem plain (code_run g code pause) es t → (n : ℕ) (s : StateOf g) → IsAlong g pause (occurrences_from at_start es) n s → IsDone g s → (d : Config (Memory Plain)) × (t.condition 0 ≡ Over d)
+  pub program_over : (t : System Plain) → IsSystem plain (code_run g code pause) es t → (n : ℕ) (s : StateOf g)
+      → IsAlong g pause (occurrences_from at_start es) n s → IsDone g s → (d : Config (Memory Plain))
+      × (t.condition 0 ≡ Over d)
   program_over t h n s k e = done_runs ground ready.main ready.first es named refl t h n s k e
 
-  pub program_idle : (t : System Plain) → IsSystem plain (code_run g code pause) es t → (n : ℕ) (s : StateOf g) → IsAlong g pause (occurrences_from at_start es) n s → t.faulted ≡ false → ((i : ℕ) (d : Config (Memory Plain)) → t.condition i ≡ Working d → ⊥) → IsIdle g s
+  pub program_idle : (t : System Plain) → IsSystem plain (code_run g code pause) es t → (n : ℕ) (s : StateOf g)
+      → IsAlong g pause (occurrences_from at_start es) n s → t.faulted ≡ false
+      → ((i : ℕ) (d : Config (Memory Plain)) → t.condition i ≡ Working d → ⊥) → IsIdle g s
   program_idle t h n s k quiet none = idle_means ground ready.main ready.first es named refl t h n s k quiet none

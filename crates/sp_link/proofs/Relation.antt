@@ -3,7 +3,8 @@
 -- condition, and `Linked` the whole: names, totals, pending offers, faults, and every process. Names and numbers are
 -- those of the whole journal, so that nothing in the relation has to grow when a process is born; of channels only
 -- those are named that are open so far.
-use Rattle.std.proofs.Common.{◌≡◌, ◌⊎◌, ℕ, zero, suc, ◌+◌, ◌<◌, ◌≤◌, ◌==◌, List, [], ◌∷◌, length, Option, Some, None, Bool, true, false, if◌then◌else◌, eqb-true, eq-eqb, sym, arith, refl, ap, ◌∙◌, inl}
+use Rattle.std.proofs.Common.{◌≡◌, ◌⊎◌, ℕ, zero, suc, ◌+◌, ◌<◌, ◌≤◌, ◌==◌, List, [], ◌∷◌, length, Option, Some, None}
+use Rattle.std.proofs.Common.{Bool, true, false, if◌then◌else◌, eqb-true, eq-eqb, sym, arith, refl, ap, ◌∙◌, inl}
 use Rattle.std.specs.Prelude.{◌≢◌, ℤ, IsSome, slice_get}
 use Rattle.std.specs.FinMap as fin
 use Rattle.sp_base.specs.declared.fault.Fault.TheVariants as fault
@@ -16,7 +17,8 @@ use Rattle.sp_cell.specs.Map.{Map, Plain, Away, IsOwn, with_map, output_spot, ou
 use Rattle.sp_cell.specs.Spots.{In, NotIn}
 use Rattle.sp_meaning.specs.Model.{Name, Channel, same_channel, Cargo, Offer, Condition, Absent, Waits, Joins, Ended}
 use Rattle.sp_meaning.specs.Steps.{working_in, has_ended}
-use Rattle.sp_meaning.specs.Own.{Setting, Loc, Cell, Input, Output, OfIndex, Held, Written, Address, Own, Who, Item, Break, Process}
+use Rattle.sp_meaning.specs.Own.{Setting, Loc, Cell, Input, Output, OfIndex, Held, Written, Address, Own, Who, Item}
+use Rattle.sp_meaning.specs.Own.{Break, Process}
 use Rattle.sp_meaning.specs.Run.{Store}
 use Rattle.sp_meaning.specs.SuperPascal.{root}
 use Rattle.sp_meaning.specs.Runs.{StateOf}
@@ -82,8 +84,8 @@ pub record Ground : Type 1 where
 abbrev pub at_open : Ground → ℕ → Ground
 at_open G n = record G { opened = n }
 
--- what its birth gave to a process: what it may write and read in the frames of others, whose indexes it holds, above which number
--- its frames are, its depth, what moved to it, its frames, and where its code ends
+-- what its birth gave to a process: what it may write and read in the frames of others, whose indexes it holds, above
+-- which number its frames are, its depth, what moved to it, its frames, and where its code ends
 pub record Life : Type 1 where
   pub W : Loc → Type 0
   pub R : Loc → Type 0
@@ -102,7 +104,8 @@ pub record Begun (all b : Births) : Type 0 where
   pub openings : (j : ℕ) → j < b.channels → channel b j ≡ channel all j
   -- how each came to be
   pub root : (b.birth 0 ≡ None) × (b.name 0 ≡ []) × (0 < b.processes)
-  pub born : (i : ℕ) → 0 < i → i < b.processes → (z : Birth) × (b.birth i ≡ Some z) × (z.parent < i) × (b.name i ≡ (z.fork, z.child) ∷ b.name z.parent) × (z.fork < b.forks z.parent)
+  pub born : (i : ℕ) → 0 < i → i < b.processes → (z : Birth) × (b.birth i ≡ Some z) × (z.parent < i)
+      × (b.name i ≡ (z.fork, z.child) ∷ b.name z.parent) × (z.fork < b.forks z.parent)
 
 abbrev pub Began : Ground → Births → Type 0
 Began G b = Begun G.births b
@@ -141,7 +144,8 @@ module _ (G : Ground) where
       go false e = other (same_channel c d) refl
         where
           other : (z : Bool) → same_channel c d ≡ z → z ≡ false
-          other true f = let same = G.one_channel a b h.1 k.1 (h.2 ∙ (channel_test c d).0 f ∙ sym k.2) in absurd (cc (sym e ∙ eq-eqb a b same))
+          other true f = let same = G.one_channel a b h.1 k.1 (h.2 ∙ (channel_test c d).0 f ∙ sym k.2) in
+              absurd (cc (sym e ∙ eq-eqb a b same))
           other false f = refl
 
   -- kids: the lives of its children, by fork and number
@@ -156,7 +160,8 @@ module _ (G : Ground) where
     base = length lf.below
 
     abbrev pub St : Who → ℕ → List Joint → Own → Store → Memory Plain → Type 0
-    St w since js o s n = Stand G.g G.code w Named Called Writes IsReadable lf.J lf.low base lf.born since G.pause lf.moved js o s n
+    St w since js o s n = Stand G.g G.code w Named Called Writes IsReadable lf.J lf.low base lf.born since G.pause
+        lf.moved js o s n
 
     abbrev pub Rel : Who → ℕ → Relation (Memory Plain)
     Rel w since = relation G.g G.code w Named Called Writes IsReadable lf.J lf.low base lf.born since G.pause lf.moved
@@ -170,7 +175,9 @@ module _ (G : Ground) where
 
     module _ (f : Fresh) (w : Who) (named : w.name ≡ q) (since : ℕ) where
       pub law : Keeps G.g w (due_after since G.pause) Writes IsReadable lf.J ops (Rel w since)
-      law = instance G.g G.code w Named Called Writes IsReadable lf.J lf.low base lf.born since G.pause lf.moved G.formed G.small G.laid f.based (λ n x. inl named) (let a = f.low_small in let b = G.limits.depth in omega (arith, a, b)) told
+      law = instance G.g G.code w Named Called Writes IsReadable lf.J lf.low base lf.born since G.pause lf.moved
+          G.formed G.small G.laid f.based (λ n x. inl named)
+          (let a = f.low_small in let b = G.limits.depth in omega (arith, a, b)) told
 
       -- all that the simulation of its turns speaks of
       abbrev pub execution : Execution (Memory Plain)
@@ -218,10 +225,14 @@ module _ (G : Ground) where
     -- a child of which the process that forked it at js with the memory n keeps these facts, as long as it lives
     pub record Handed (js : List Joint) (n : Memory Plain) (v : Life) (z : Name) : Type 0 where
       -- what moved to it is what it may read there, in frames that it knows; and what it may write there moved to it
-      pub live : (r : Name) (h x : ℕ) → (l : Live p js r h x) → IsReadable (Cell r h x) → In (spot_at l.joint.machine.number (slot p x)) v.moved
-          → (Mine z (Cell r h x) ⊎ v.R (Cell r h x)) × ((k : Live p v.below r h x) × (k.joint ≡ l.joint) × (k.info ≡ l.info))
-      pub aims : (r : Name) (h x : ℕ) → (l : Live p js r h x) → v.W (Cell r h x) → In (spot_at l.joint.machine.number (slot p x)) v.moved
-      pub no_index : (h : ℕ) → lf.J h → (j : Joint) (rest : List Joint) (x : ℕ) (i : ℤ) → from (suc h) js ≡ j ∷ rest → j.source.home ≡ OfIndex x i → NotIn (spot_at j.machine.number 0) v.moved
+      pub live : (r : Name) (h x : ℕ) → (l : Live p js r h x) → IsReadable (Cell r h x)
+          → In (spot_at l.joint.machine.number (slot p x)) v.moved
+          → (Mine z (Cell r h x) ⊎ v.R (Cell r h x))
+          × ((k : Live p v.below r h x) × (k.joint ≡ l.joint) × (k.info ≡ l.info))
+      pub aims : (r : Name) (h x : ℕ) → (l : Live p js r h x) → v.W (Cell r h x)
+          → In (spot_at l.joint.machine.number (slot p x)) v.moved
+      pub no_index : (h : ℕ) → lf.J h → (j : Joint) (rest : List Joint) (x : ℕ) (i : ℤ) → from (suc h) js ≡ j ∷ rest
+          → j.source.home ≡ OfIndex x i → NotIn (spot_at j.machine.number 0) v.moved
       pub input : IsReadable Input → In position_at.spot v.moved → v.R Input
       pub output : IsReadable Output → In output_spot v.moved → v.R Output
       pub input_aims : v.W Input → In position_at.spot v.moved
@@ -229,7 +240,8 @@ module _ (G : Ground) where
       pub old : (a : Spot) → In a v.moved → IsSome (fin.get n.store.map a)
       -- and each spot that moved is one that it holds
       pub kept : (a : Spot) → In a v.moved → (v.R Input × (a ≡ position_at.spot)) ⊎ ((v.R Output × (a ≡ output_spot))
-          ⊎ ((r : Name) × (h : ℕ) × (x : ℕ) × (k : Live p v.below r h x) × (Mine z (Cell r h x) ⊎ v.R (Cell r h x)) × (a ≡ spot_at k.joint.machine.number (slot p x))))
+          ⊎ ((r : Name) × (h : ℕ) × (x : ℕ) × (k : Live p v.below r h x) × (Mine z (Cell r h x) ⊎ v.R (Cell r h x))
+          × (a ≡ spot_at k.joint.machine.number (slot p x))))
 
     -- child i of fork k has not ended
     abbrev pub Lives_yet : StateOf G.g → ℕ → ℕ → ℕ → Type 0
@@ -254,7 +266,8 @@ module _ (G : Ground) where
       pub memory : Memory Plain
       pub held : Map
       pub is : c ≡ At pc stack (record memory { store = with_map memory.store held })
-      pub joining : Joining G.g G.code pr.who Named Called Writes IsReadable lf.J lf.low base lf.born since G.pause lf.moved (Away_yet s k n) js pr.own s.store memory held
+      pub joining : Joining G.g G.code pr.who Named Called Writes IsReadable lf.J lf.low base lf.born since G.pause
+          lf.moved (Away_yet s k n) js pr.own s.store memory held
       pub follows : Fo fresh pr.who named since pc stack js pr.todo
       pub count : left ≡ left_of s.condition k n
       pub some : 1 ≤ left
@@ -262,23 +275,32 @@ module _ (G : Ground) where
       pub children : (i : ℕ) → Lives_yet s k n i → Handed js memory (kids k i) ((k, i) ∷ q)
       -- what moved to a child that lives is away, and moved to no other
       pub gone : (i : ℕ) → Lives_yet s k n i → (a : Spot) → In a (kids k i).moved → fin.get held a ≡ Some Away
-      pub parted : (i j : ℕ) → Lives_yet s k n i → Lives_yet s k n j → i ≢ j → (a : Spot) → In a (kids k i).moved → In a (kids k j).moved → ⊥
+      pub parted : (i j : ℕ) → Lives_yet s k n i → Lives_yet s k n j → i ≢ j → (a : Spot) → In a (kids k i).moved
+          → In a (kids k j).moved → ⊥
 
     -- the output, of a process that does nothing more
     abbrev pub Told : Store → Config (Memory Plain) → Type 0
-    Told s (At pc st n) = IsReadable Output → (bs : List ℕ) × (s Output ≡ Written bs) × (output_of (fin.get n.store.map output_spot) ≡ Some bs)
+    Told s (At pc st n) = IsReadable Output → (bs : List ℕ) × (s Output ≡ Written bs)
+        × (output_of (fin.get n.store.map output_spot) ≡ Some bs)
 
     -- the first process where the frame of the program is too large: F12 comes before its first instruction
     abbrev pub TooLarge : Store → Process → Config (Memory Plain) → Type 0
-    TooLarge s pr c = (q ≡ []) × ((root G.g).todo ≡ Break fault.F12 ∷ []) × (pr ≡ root G.g) × (c ≡ first plain run_is) × (begins ops G.code c ≡ false) × Told s c
+    TooLarge s pr c = (q ≡ []) × ((root G.g).todo ≡ Break fault.F12 ∷ []) × (pr ≡ root G.g) × (c ≡ first plain run_is)
+        × (begins ops G.code c ≡ false) × Told s c
 
     -- condition by condition
     abbrev pub Performs : Course → StateOf G.g → ℕ → sys.Condition Plain → Type 0
     Performs c s opens sys.Absent = ⊥
-    Performs c s opens (sys.Working d) = (pr : Process) × (working_in s.condition q (s.condition q) ≡ Some pr) × (Stands (c.since q) pr s.store d ⊎ TooLarge s.store pr d) × (pr.who.opens ≡ opens) × (c.laid q ≡ false)
-    Performs c s opens (sys.Waits z d) = (o : Offer Process Held Address) × (s.condition q ≡ Waits o) × (t : Stands (c.since q) o.next s.store d) × Ca t.fresh o.next.who t.named (c.since q) t.js o.channel o.kind o.cargo z × (o.next.who.opens ≡ opens) × (c.laid q ≡ false) × Ready z d
-    Performs c s opens (sys.Joins left d) = (k n : ℕ) × (pr : Process) × (s.condition q ≡ Joins k n pr) × Joined (c.since q) k n left pr s d × (pr.who.opens ≡ opens) × (c.laid q ≡ false)
-    Performs c s opens (sys.Laid d) = (c.laid q ≡ true) × (c.faulted ≡ true) × ((pr : Process) × (working_in s.condition q (s.condition q) ≡ Some pr)) × Told s.store d
+    Performs c s opens (sys.Working d) = (pr : Process) × (working_in s.condition q (s.condition q) ≡ Some pr)
+        × (Stands (c.since q) pr s.store d ⊎ TooLarge s.store pr d) × (pr.who.opens ≡ opens) × (c.laid q ≡ false)
+    Performs c s opens (sys.Waits z d) = (o : Offer Process Held Address) × (s.condition q ≡ Waits o)
+        × (t : Stands (c.since q) o.next s.store d)
+        × Ca t.fresh o.next.who t.named (c.since q) t.js o.channel o.kind o.cargo z × (o.next.who.opens ≡ opens)
+        × (c.laid q ≡ false) × Ready z d
+    Performs c s opens (sys.Joins left d) = (k n : ℕ) × (pr : Process) × (s.condition q ≡ Joins k n pr)
+        × Joined (c.since q) k n left pr s d × (pr.who.opens ≡ opens) × (c.laid q ≡ false)
+    Performs c s opens (sys.Laid d) = (c.laid q ≡ true) × (c.faulted ≡ true)
+        × ((pr : Process) × (working_in s.condition q (s.condition q) ≡ Some pr)) × Told s.store d
     Performs c s opens sys.Gone = (s.condition q ≡ Ended) × (q ≢ [])
     Performs c s opens (sys.Over d) = (s.condition q ≡ Ended) × (q ≡ []) × Told s.store d
 
@@ -321,7 +343,8 @@ module _ (G : Ground) where
     pub faulted : c.faulted ≡ u.faulted
     pub quiet : u.faulted ≡ false → s.fault ≡ None
     pub unlaid : u.faulted ≡ false → (q : Name) → c.laid q ≡ false
-    pub does : (i : ℕ) → i < u.births.processes → Performs_all lv (G.births.name i) c s (u.births.opens i) (u.condition i)
+    pub does : (i : ℕ) → i < u.births.processes
+        → Performs_all lv (G.births.name i) c s (u.births.opens i) (u.condition i)
     pub unborn : (i : ℕ) → u.births.processes ≤ i → u.condition i ≡ sys.Absent
     -- who is not there yet has made no fork and no open
     pub unmade : (i : ℕ) → u.births.processes ≤ i → (u.births.forks i ≡ 0) × (u.births.opens i ≡ 0)

@@ -1,6 +1,7 @@
 -- The other way round: where the meaning goes along a journal, the system does (`replays`). Turn and entry of the
 -- meaning are functions, and the machine's turn gives one of each; so the journal's entry is the machine's.
-use Rattle.std.proofs.Common.{◌≡◌, ◌⊎◌, inl, inr, ℕ, zero, suc, ◌+◌, ◌<◌, List, [], ◌∷◌, Some, None, Bool, true, false, if◌then◌else◌, ◌&&◌, refl, sym, ap, ◌∙◌, subst, arith}
+use Rattle.std.proofs.Common.{◌≡◌, ◌⊎◌, inl, inr, ℕ, zero, suc, ◌+◌, ◌<◌, List, [], ◌∷◌, Some, None, Bool, true, false}
+use Rattle.std.proofs.Common.{if◌then◌else◌, ◌&&◌, refl, sym, ap, ◌∙◌, subst, arith}
 use Rattle.std.proofs.lemmas.Option.{none-some, same_Some}
 use Rattle.sp_base.proofs.Facts.{not_true_and_false}
 use Rattle.sp_journal.specs.declared.entry.Event.{Event}
@@ -32,9 +33,12 @@ use Rattle.sp_link.proofs.Relation.{Ground, Life, Lives, Linked, Began, at_open,
 module _ (g : Setting) where
   -- an entry's three forms
   abbrev pub Forms : (Course → StateOf g → ℕ → Type 0) → Course → StateOf g → Bool → Name → Happening → ℕ → Type 0
-  Forms left c m p q what n = ((what ≡ Laid) × (c.faulted ≡ true) × left (stopped q c) m n) ⊎ (((what ≡ Paused) × (c.faulted ≡ false) × (p ≡ true) × left (noted q (ticks_of g m q) c) m n) ⊎ Kernel g left c m p q what n)
+  Forms left c m p q what n = ((what ≡ Laid) × (c.faulted ≡ true) × left (stopped q c) m n)
+      ⊎ (((what ≡ Paused) × (c.faulted ≡ false) × (p ≡ true) × left (noted q (ticks_of g m q) c) m n)
+      ⊎ Kernel g left c m p q what n)
 
-  forms : (left : Course → StateOf g → ℕ → Type 0) (c : Course) (m : StateOf g) (p : Bool) (q : Name) (what : Happening) (n : ℕ) → Entered g left c m p q what n → Forms left c m p q what n
+  forms : (left : Course → StateOf g → ℕ → Type 0) (c : Course) (m : StateOf g) (p : Bool) (q : Name) (what : Happening)
+      (n : ℕ) → Entered g left c m p q what n → Forms left c m p q what n
   forms left c m p q Laid n h = inl (refl, h.0, h.1)
   forms left c m p q Paused n h = inr (inl (refl, h.0, h.1, h.2))
   forms left c m p q (Forked k) n h = inr (inr h)
@@ -47,7 +51,8 @@ module _ (g : Setting) where
   Here c1 s1 c2 s2 n = (c2 ≡ c1) × (s2 ≡ s1)
 
   -- two entries from one place are one, and lead to one place
-  pub entry_one : (left : Course → StateOf g → ℕ → Type 0) (c c1 : Course) (m s1 : StateOf g) (p : Bool) (q : Name) (a b : Happening) (n k : ℕ)
+  pub entry_one : (left : Course → StateOf g → ℕ → Type 0) (c c1 : Course) (m s1 : StateOf g) (p : Bool) (q : Name)
+      (a b : Happening) (n k : ℕ)
       → Entered g (Here c1 s1) c m p q a n → Entered g left c m p q b k → (a ≡ b) × ((r : ℕ) × left c1 s1 r)
   entry_one left c c1 m s1 p q a b n k h i = both (forms (Here c1 s1) c m p q a n h) (forms left c m p q b k i)
     where
@@ -66,19 +71,29 @@ module _ (g : Setting) where
       both (inr (inr x)) (inr (inr y)) =
           let own : x.5.0 ≡ y.5.0 = same_Some x.5.0 y.5.0 (sym x.5.1 ∙ y.5.1) in
           let what : a ≡ b = same_Some a b (sym x.5.2 ∙ ap (λ z. says g m q z) own ∙ y.5.2) in
-          let to : x.2 ≡ y.2 = same_Some x.2 y.2 (sym x.5.3 ∙ y.5.3) in
-          (what, (y.3, moved _ _ y.3 x.6 (subst (λ z. left (after_entry q z (ticks_of g x.2 q) c) x.2 y.3) (sym what) (subst (λ z. left (after_entry q b (ticks_of g z q) c) z y.3) (sym to) y.6))))
+          let to : x.2 ≡ y.2 = same_Some x.2 y.2 (sym x.5.3 ∙ y.5.3) in (
+            what,
+            (
+              y.3,
+              moved _ _ y.3 x.6 (subst (λ z. left (after_entry q z (ticks_of g x.2 q) c) x.2 y.3) (sym what)
+                  (subst (λ z. left (after_entry q b (ticks_of g z q) c) z y.3) (sym to) y.6)),
+            ),
+          )
 
 -- ---- a journal
 
 -- where all have ended none is left
-over_none : (G : Ground) (lf : Life) (kids : ℕ → ℕ → Life) (q : Name) (c : Name → Rattle.sp_meaning.specs.Model.Condition Process Rattle.sp_meaning.specs.Own.Held Rattle.sp_meaning.specs.Own.Address) (k n : ℕ) → all_ended c q k n ≡ true → left_of G lf kids q c k n ≡ 0
+over_none : (G : Ground) (lf : Life) (kids : ℕ → ℕ → Life) (q : Name)
+    (c : Name → Rattle.sp_meaning.specs.Model.Condition Process Rattle.sp_meaning.specs.Own.Held
+    Rattle.sp_meaning.specs.Own.Address) (k n : ℕ) → all_ended c q k n ≡ true → left_of G lf kids q c k n ≡ 0
 over_none G lf kids q c k zero e = refl
 over_none G lf kids q c k (suc n) e = by (has_ended (c ((k, n) ∷ q))) refl e (λ h. over_none G lf kids q c k n h)
   where
-    by : (b : Bool) → has_ended (c ((k, n) ∷ q)) ≡ b → b && all_ended c q k n ≡ true → (all_ended c q k n ≡ true → left_of G lf kids q c k n ≡ 0) → left_of G lf kids q c k (suc n) ≡ 0
+    by : (b : Bool) → has_ended (c ((k, n) ∷ q)) ≡ b → b && all_ended c q k n ≡ true
+        → (all_ended c q k n ≡ true → left_of G lf kids q c k n ≡ 0) → left_of G lf kids q c k (suc n) ≡ 0
     by true f h ih =
-        let x : left_of G lf kids q c k (suc n) ≡ 0 + left_of G lf kids q c k n = ap (λ b. (if b then 0 else 1) + left_of G lf kids q c k n) f in
+        let x : left_of G lf kids q c k (suc n) ≡ 0 + left_of G lf kids q c k n =
+        ap (λ b. (if b then 0 else 1) + left_of G lf kids q c k n) f in
         let y = ih h in omega (arith, x, y)
     by false f h ih = absurd (cc h)
 
@@ -112,16 +127,21 @@ module _ (G : Ground) (b : Births) (began : Began G b) where
   one_event event.Open event.Pause h g e = absurd (cc e)
   one_event (event.Send x) (event.Fork k) h g e = absurd (cc e)
   one_event (event.Send x) event.Open h g e = absurd (cc e)
-  one_event (event.Send x) (event.Send y) h k e = ap (λ z. event.Send z) (one_channel x y h k (offered_is way.Send way.Send (channel b x) (channel b y) e).1)
-  one_event (event.Send x) (event.Receive y) h k e = let z : way.Send ≡ way.Receive = (offered_is way.Send way.Receive (channel b x) (channel b y) e).0 in absurd (cc z)
+  one_event (event.Send x) (event.Send y) h k e =
+      ap (λ z. event.Send z) (one_channel x y h k (offered_is way.Send way.Send (channel b x) (channel b y) e).1)
+  one_event (event.Send x) (event.Receive y) h k e = let z : way.Send ≡ way.Receive =
+      (offered_is way.Send way.Receive (channel b x) (channel b y) e).0 in absurd (cc z)
   one_event (event.Send x) event.End h g e = absurd (cc e)
   one_event (event.Send x) (event.Fault k) h g e = absurd (cc e)
   one_event (event.Send x) event.Laid h g e = absurd (cc e)
   one_event (event.Send x) event.Pause h g e = absurd (cc e)
   one_event (event.Receive x) (event.Fork k) h g e = absurd (cc e)
   one_event (event.Receive x) event.Open h g e = absurd (cc e)
-  one_event (event.Receive x) (event.Send y) h k e = let z : way.Receive ≡ way.Send = (offered_is way.Receive way.Send (channel b x) (channel b y) e).0 in absurd (cc z)
-  one_event (event.Receive x) (event.Receive y) h k e = ap (λ z. event.Receive z) (one_channel x y h k (offered_is way.Receive way.Receive (channel b x) (channel b y) e).1)
+  one_event (event.Receive x) (event.Send y) h k e = let z : way.Receive ≡ way.Send =
+      (offered_is way.Receive way.Send (channel b x) (channel b y) e).0 in absurd (cc z)
+  one_event (event.Receive x) (event.Receive y) h k e =
+      ap (λ z. event.Receive z) (one_channel x y h k
+      (offered_is way.Receive way.Receive (channel b x) (channel b y) e).1)
   one_event (event.Receive x) event.End h g e = absurd (cc e)
   one_event (event.Receive x) (event.Fault k) h g e = absurd (cc e)
   one_event (event.Receive x) event.Laid h g e = absurd (cc e)
@@ -172,23 +192,32 @@ follows_open b p event.Pause h = tt
 
 module _ (G : Ground) where
   -- who is running in the meaning runs in the machine
-  pub runs_there : (lv : Lives G) (c : Course) (s : StateOf G.g) (u : System Plain) → Linked G lv c s u → (i : ℕ) → i < u.births.processes → (own : Process) → running G.g s (G.births.name i) ≡ Some own → c.laid (G.births.name i) ≡ false → (d : Config (Memory Plain)) × (u.condition i ≡ sys.Working d)
+  pub runs_there : (lv : Lives G) (c : Course) (s : StateOf G.g) (u : System Plain) → Linked G lv c s u → (i : ℕ)
+      → i < u.births.processes → (own : Process) → running G.g s (G.births.name i) ≡ Some own
+      → c.laid (G.births.name i) ≡ false → (d : Config (Memory Plain)) × (u.condition i ≡ sys.Working d)
   runs_there lv c s u l i lt own e la = go (u.condition i) refl (l.does i lt)
     where
       w : Name
       w = G.births.name i
 
-      idle : (x : Rattle.sp_meaning.specs.Model.Condition Process Rattle.sp_meaning.specs.Own.Held Rattle.sp_meaning.specs.Own.Address) → s.condition (G.births.name i) ≡ x → working_in s.condition (G.births.name i) x ≡ Some own
+      idle : (x : Rattle.sp_meaning.specs.Model.Condition Process Rattle.sp_meaning.specs.Own.Held
+          Rattle.sp_meaning.specs.Own.Address) → s.condition (G.births.name i) ≡ x
+          → working_in s.condition (G.births.name i) x ≡ Some own
       idle x h = ap (working_in s.condition (G.births.name i)) (sym h) ∙ e
 
-      joined : (left k n : ℕ) (pr : Process) (d : Config (Memory Plain)) → s.condition (G.births.name i) ≡ Joins k n pr → Rattle.sp_link.proofs.Relation.Joined G (lv (G.births.name i)) (λ a b. lv ((a, b) ∷ G.births.name i)) (G.births.name i) (c.since (G.births.name i)) k n left pr s d → ⊥
+      joined : (left k n : ℕ) (pr : Process) (d : Config (Memory Plain)) → s.condition (G.births.name i) ≡ Joins k n pr
+          → Rattle.sp_link.proofs.Relation.Joined G (lv (G.births.name i)) (λ a b. lv ((a, b) ∷ G.births.name i))
+          (G.births.name i) (c.since (G.births.name i)) k n left pr s d → ⊥
       joined left k n pr d h z = by (all_ended s.condition (G.births.name i) k n) refl (idle (Joins k n pr) h)
         where
-          by : (b : Bool) → all_ended s.condition (G.births.name i) k n ≡ b → (if b then Some pr else None) ≡ Some own → ⊥
-          by true f g1 = let y = over_none G (lv (G.births.name i)) (λ a b. lv ((a, b) ∷ G.births.name i)) (G.births.name i) s.condition k n f in let a = z.count in let b = z.some in omega (arith, y, a, b)
+          by : (b : Bool) → all_ended s.condition (G.births.name i) k n ≡ b → (if b then Some pr else None) ≡ Some own
+              → ⊥
+          by true f g1 = let y = over_none G (lv (G.births.name i)) (λ a b. lv ((a, b) ∷ G.births.name i))
+              (G.births.name i) s.condition k n f in let a = z.count in let b = z.some in omega (arith, y, a, b)
           by false f g1 = none-some own g1
 
-      go : (x : sys.Condition Plain) → u.condition i ≡ x → Performs_all G lv (G.births.name i) c s (u.births.opens i) x → (d : Config (Memory Plain)) × (u.condition i ≡ sys.Working d)
+      go : (x : sys.Condition Plain) → u.condition i ≡ x → Performs_all G lv (G.births.name i) c s (u.births.opens i) x
+          → (d : Config (Memory Plain)) × (u.condition i ≡ sys.Working d)
       go sys.Absent h z = absurd z
       go (sys.Working d) h z = (d, h)
       go (sys.Waits y d) h z = absurd (none-some own (idle (Waits z.0) z.1))
@@ -198,11 +227,14 @@ module _ (G : Ground) where
       go (sys.Over d) h z = absurd (none-some own (idle Ended z.0))
 
 module _ (G : Ground) where
-  turn_runs : (s m : StateOf G.g) (q : Name) (since n : ℕ) (p : Bool) → Turn G.g G.pause since q n s m p → (own : Process) × (running G.g s q ≡ Some own)
+  turn_runs : (s m : StateOf G.g) (q : Name) (since n : ℕ) (p : Bool) → Turn G.g G.pause since q n s m p
+      → (own : Process) × (running G.g s q ≡ Some own)
   turn_runs s m q since zero p h = (h.2, h.3)
   turn_runs s m q since (suc n) p h = (h.0, h.1)
 
-  pub replays : (es : List Entry) (lv : Lives G) (c : Course) (s : StateOf G.g) (u : System Plain) → Now G lv c s u → AllBegan G u.births es → NameableFrom u.births es → (n : ℕ) (t : StateOf G.g) → Along G.g G.pause c s (occurrences_from u.births es) n t → (v : System Plain) × Leads plain (run_is G) u es v
+  pub replays : (es : List Entry) (lv : Lives G) (c : Course) (s : StateOf G.g) (u : System Plain) → Now G lv c s u
+      → AllBegan G u.births es → NameableFrom u.births es → (n : ℕ) (t : StateOf G.g)
+      → Along G.g G.pause c s (occurrences_from u.births es) n t → (v : System Plain) × Leads plain (run_is G) u es v
   replays [] lv c s u l b y n t h = (u, refl)
   replays (e ∷ es) lv c s u l b y n t h = on (λ lv1 c1 s1 u1 k b1 y1 r h1. replays es lv1 c1 s1 u1 k b1 y1 r t h1)
     where
@@ -242,23 +274,37 @@ module _ (G : Ground) where
       u1 : System Plain
       u1 = sys.after plain (run_is G) e.process en.turn u
 
-      same : Same G.g G.pause (c.since (G.births.name e.process)) (G.births.name e.process) en.way.steps h.1 en.way.at h.3 en.way.paused h.4
-      same = turn_one G.g G.pause (c.since (G.births.name e.process)) (G.births.name e.process) en.way.steps h.1 s en.way.at h.3 en.way.paused h.4 en.way.turn way
+      same : Same G.g G.pause (c.since (G.births.name e.process)) (G.births.name e.process) en.way.steps h.1 en.way.at
+          h.3 en.way.paused h.4
+      same = turn_one G.g G.pause (c.since (G.births.name e.process)) (G.births.name e.process) en.way.steps h.1 s
+          en.way.at h.3 en.way.paused h.4 en.way.turn way
 
-      its : Entered G.g (Here G.g en.way.course en.way.state) c h.3 h.4 (G.births.name e.process) (happening u.births f) (en.way.cost + 0)
-      its = subst (λ a. Entered G.g (Here G.g en.way.course en.way.state) c a h.4 (G.births.name e.process) (happening u.births f) (en.way.cost + 0)) same.state
-          (subst (λ a. Entered G.g (Here G.g en.way.course en.way.state) c en.way.at a (G.births.name e.process) (happening u.births f) (en.way.cost + 0)) same.paused (en.way.enters (Here G.g en.way.course en.way.state) 0 (refl, refl)))
+      its : Entered G.g (Here G.g en.way.course en.way.state) c h.3 h.4 (G.births.name e.process) (happening u.births f)
+          (en.way.cost + 0)
+      its = subst (λ a. Entered G.g (Here G.g en.way.course en.way.state) c a h.4 (G.births.name e.process)
+          (happening u.births f) (en.way.cost + 0)) same.state
+          (subst (λ a. Entered G.g (Here G.g en.way.course en.way.state) c en.way.at a (G.births.name e.process)
+          (happening u.births f) (en.way.cost + 0)) same.paused
+          (en.way.enters (Here G.g en.way.course en.way.state) 0 (refl, refl)))
 
       one : (happening u.births f ≡ happening u.births e.event) × ((r : ℕ) × left en.way.course en.way.state r)
-      one = entry_one G.g left c en.way.course h.3 en.way.state h.4 (G.births.name e.process) (happening u.births f) (happening u.births e.event) (en.way.cost + 0) h.2 its entered
+      one = entry_one G.g left c en.way.course h.3 en.way.state h.4 (G.births.name e.process) (happening u.births f)
+          (happening u.births e.event) (en.way.cost + 0) h.2 its entered
 
       event_is : f ≡ e.event
-      event_is = one_event (at_open G u.births.channels) u.births l.began f e.event en.speaks (follows_open u.births e.process e.event y.0) one.0
+      event_is = one_event (at_open G u.births.channels) u.births l.began f e.event en.speaks
+          (follows_open u.births e.process e.event y.0) one.0
 
       births_are : u1.births ≡ after_event u.births e.process e.event
       births_are = ap (λ a. after_event u.births e.process a) event_is
 
-      on : ((lv1 : Lives G) (c1 : Course) (s1 : StateOf G.g) (u1 : System Plain) → Now G lv1 c1 s1 u1 → AllBegan G u1.births es → NameableFrom u1.births es → (r : ℕ) → Along G.g G.pause c1 s1 (occurrences_from u1.births es) r t → (v : System Plain) × Leads plain (run_is G) u1 es v) → (v : System Plain) × Leads plain (run_is G) u (e ∷ es) v
+      on : ((lv1 : Lives G) (c1 : Course) (s1 : StateOf G.g) (u1 : System Plain) → Now G lv1 c1 s1 u1
+          → AllBegan G u1.births es → NameableFrom u1.births es → (r : ℕ)
+          → Along G.g G.pause c1 s1 (occurrences_from u1.births es) r t → (v : System Plain)
+          × Leads plain (run_is G) u1 es v) → (v : System Plain) × Leads plain (run_is G) u (e ∷ es) v
       on ih =
-          let z = ih en.lives en.way.course en.way.state u1 (en.linked (subst (λ a. Began G a) (sym births_are) b.0)) (subst (λ a. AllBegan G a es) (sym births_are) b.1) (subst (λ a. NameableFrom a es) (sym births_are) y.1) one.1.0 (subst (λ a. Along G.g G.pause en.way.course en.way.state (occurrences_from a es) one.1.0 t) (sym births_are) one.1.1) in
+          let z = ih en.lives en.way.course en.way.state u1 (en.linked (subst (λ a. Began G a) (sym births_are) b.0))
+          (subst (λ a. AllBegan G a es) (sym births_are) b.1) (subst (λ a. NameableFrom a es) (sym births_are) y.1)
+          one.1.0 (subst (λ a. Along G.g G.pause en.way.course en.way.state (occurrences_from a es) one.1.0 t)
+          (sym births_are) one.1.1) in
           (z.0, (u1, (at.0, at.1, en.turn, en.is, event_is, refl), z.1))

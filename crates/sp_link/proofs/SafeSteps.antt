@@ -1,7 +1,9 @@
 -- All is well with the next event of each process of a system that is linked: a fork can be carried out (`can_split`),
 -- and a child that ends can be joined (`can_join`), and a message can be put where it goes (`put_by_send`,
 -- `put_by_receive`).
-use Rattle.std.proofs.Common.{◌≡◌, ◌⊎◌, inl, inr, ⊎_elim, ℕ, zero, suc, ◌<◌, ◌==◌, ℤ, List, [], ◌∷◌, ◌++◌, length, Option, Some, None, Bool, true, false, if◌then◌else◌, eqb-true, refl, sym, ap, ◌∙◌, subst, arith}
+use Rattle.std.proofs.Common.{◌≡◌, ◌⊎◌, inl, inr, ⊎_elim, ℕ, zero, suc, ◌<◌, ◌==◌, ℤ, List, [], ◌∷◌, ◌++◌, length}
+use Rattle.std.proofs.Common.{Option, Some, None, Bool, true, false, if◌then◌else◌, eqb-true, refl, sym, ap, ◌∙◌, subst}
+use Rattle.std.proofs.Common.{arith}
 use Rattle.std.specs.Prelude.{nat_le}
 use Rattle.std.specs.FinMap as fin
 use Rattle.std.proofs.lemmas.Option.{none-some, same_Some}
@@ -49,12 +51,14 @@ use Rattle.sp_link.proofs.OneChanges.{q, pr, its, here, runs, light, keeps_to}
 use Rattle.sp_link.proofs.Parallels as parallel
 use Rattle.sp_link.proofs.Pauses.{Meant, Machined, Kept_to, kids, turn_is}
 use Rattle.sp_link.proofs.Splits.{cells_held, bytes_held}
-use Rattle.sp_link.proofs.Relation.{Ground, Life, Lives, Named, St, Ca, Stands, TooLarge, Ready, Joined, Performs_all, Linked, run_is, ops, execution}
+use Rattle.sp_link.proofs.Relation.{Ground, Life, Lives, Named, St, Ca, Stands, TooLarge, Ready, Joined, Performs_all}
+use Rattle.sp_link.proofs.Relation.{Linked, run_is, ops, execution}
 
 -- what a process made beside its first frames
 none_made : (js : List Joint) → made (length js) js ≡ []
 none_made [] = refl
-none_made (j ∷ js) = ap (λ b. if b then made (length (j ∷ js)) js ++ (j.machine.number ∷ []) else []) (too_long (length js))
+none_made (j ∷ js) = ap (λ b. if b then made (length (j ∷ js)) js ++ (j.machine.number ∷ []) else [])
+    (too_long (length js))
   where
     too_long : (n : ℕ) → nat_le (suc n) n ≡ false
     too_long n = Prim.grind arith
@@ -69,8 +73,11 @@ pub record Takes_well (G : Ground) (k : ℕ) (a : Ptr) (e : Config (Memory Plain
   pub room : HasCells (store_of e).map a (size G.g.program k)
   pub typed : k < length G.g.program.kinds
 
-taken_well : (G : Ground) (lf : Life) (kids : ℕ → ℕ → Life) (q : Name) {who : Who} {since : ℕ} {js : List Joint} {o : Own} {s : Store} (k : ℕ) (w : Address) (a : Ptr) (pc : ℕ) (st : List machine.Entry) (n : Memory Plain) → St G lf kids q who since js o s n
-    → w.kind ≡ k → PointsTo G.g.program js w a → Mine q w.spot ⊎ lf.R w.spot → IsOwn (fin.get n.store.map a.spot) → Takes_well G k a (At pc st n)
+taken_well : (G : Ground) (lf : Life) (kids : ℕ → ℕ → Life) (q : Name) {who : Who} {since : ℕ} {js : List Joint}
+    {o : Own} {s : Store} (k : ℕ) (w : Address) (a : Ptr) (pc : ℕ) (st : List machine.Entry) (n : Memory Plain)
+    → St G lf kids q who since js o s n
+    → w.kind ≡ k → PointsTo G.g.program js w a → Mine q w.spot ⊎ lf.R w.spot → IsOwn (fin.get n.store.map a.spot)
+    → Takes_well G k a (At pc st n)
 taken_well G lf kids q k w a pc st n t e p may own = record {
   own = own;
   room = subst (λ y. HasCells n.store.map a (size G.g.program y)) e (room G lf kids q t w a p may);
@@ -78,37 +85,54 @@ taken_well G lf kids q k w a pc st n t e p may own = record {
 }
 
 -- a message of its type can be put there
-can_put : (G : Ground) (k : ℕ) (a : Ptr) (e : Config (Memory Plain)) (cs : List OneCell) → Takes_well G k a e → IsMessage G k cs → CanPut (store_of e) a cs
-can_put G k a e cs t m = record { own = t.own; in_range = subst (λ y. HasCells (store_of e).map a y) (sym (message_length G k t.typed m.0 cs m.1)) t.room }
+can_put : (G : Ground) (k : ℕ) (a : Ptr) (e : Config (Memory Plain)) (cs : List OneCell) → Takes_well G k a e
+    → IsMessage G k cs → CanPut (store_of e) a cs
+can_put G k a e cs t m = record {
+  own = t.own;
+  in_range = subst (λ y. HasCells (store_of e).map a y) (sym (message_length G k t.typed m.0 cs m.1)) t.room;
+}
 
-module _ (G : Ground) (lv : Lives G) (c : Course) (s : StateOf G.g) (u : System Plain) (l : Linked G lv c s u) (quiet : u.faulted ≡ false) where
+module _ (G : Ground) (lv : Lives G) (c : Course) (s : StateOf G.g) (u : System Plain) (l : Linked G lv c s u)
+    (quiet : u.faulted ≡ false) where
   -- a process that runs
   module _ (i : ℕ) (d : Config (Memory Plain)) (at : u.condition i ≡ sys.Working d) where
     abbrev v : Name
     v = q G lv c s u l i d at
 
-    module _ (P : Turn (Memory Plain) → Type 0) (z : Stands G (lv (q G lv c s u l i d at)) (kids G lv c s u l i d at) (q G lv c s u l i d at) (c.since (q G lv c s u l i d at)) (pr G lv c s u l i d at) s.store d) where
+    module _ (P : Turn (Memory Plain) → Type 0)
+        (z : Stands G (lv (q G lv c s u l i d at)) (kids G lv c s u l i d at) (q G lv c s u l i d at)
+        (c.since (q G lv c s u l i d at)) (pr G lv c s u l i d at) s.store d) where
       -- what is so of the end of its turn, whichever it is
       abbrev Of : Came source.Stop × Store → Type 0
-      Of r = AtEnd r → Meant G lv c s u l i d at z r → Machined G lv c s u l i d at z r → Kept_to G lv c s u l i d at z r → (tn : Turn (Memory Plain)) × IsTurn (ops G) G.code d tn × P tn
+      Of r = AtEnd r → Meant G lv c s u l i d at z r → Machined G lv c s u l i d at z r
+          → Kept_to G lv c s u l i d at z r → (tn : Turn (Memory Plain)) × IsTurn (ops G) G.code d tn × P tn
 
-      abbrev kt : Rattle.sp_meaning.proofs.Owned.Keeps_to G.g.program (Rattle.sp_link.proofs.Relation.W_of G lv) (Rattle.sp_link.proofs.Relation.R_of G lv) s.forks (q G lv c s u l i d at) (pr G lv c s u l i d at)
+      abbrev kt : Rattle.sp_meaning.proofs.Owned.Keeps_to G.g.program (Rattle.sp_link.proofs.Relation.W_of G lv)
+          (Rattle.sp_link.proofs.Relation.R_of G lv) s.forks (q G lv c s u l i d at) (pr G lv c s u l i d at)
       kt = keeps_to G lv c s u l i d at
 
       of_turn : ((r : Came source.Stop × Store) → Of r) → (tn : Turn (Memory Plain)) → IsTurn (ops G) G.code d tn → P tn
-      of_turn f tn is = by (f (result G (lv v) (kids G lv c s u l i d at) v (c.since v) s (pr G lv c s u l i d at) d z (runs G lv c s u l i d at) (light G lv c s u l i d at) kt.last kt.fit)
-          (ends G (lv v) (kids G lv c s u l i d at) v (c.since v) s (pr G lv c s u l i d at) d z (runs G lv c s u l i d at) (light G lv c s u l i d at) kt.last kt.fit)
-          (outcome G (lv v) (kids G lv c s u l i d at) v (c.since v) s (pr G lv c s u l i d at) d z (runs G lv c s u l i d at) (light G lv c s u l i d at) kt.last kt.fit)
-          (turned G (lv v) (kids G lv c s u l i d at) v (c.since v) s (pr G lv c s u l i d at) d z (runs G lv c s u l i d at) (light G lv c s u l i d at) kt.last kt.fit)
-          (kept G (lv v) (kids G lv c s u l i d at) v (c.since v) s (pr G lv c s u l i d at) d z (runs G lv c s u l i d at) (light G lv c s u l i d at) kt.last kt.fit))
+      of_turn f tn is = by (f (result G (lv v) (kids G lv c s u l i d at) v (c.since v) s (pr G lv c s u l i d at) d z
+          (runs G lv c s u l i d at) (light G lv c s u l i d at) kt.last kt.fit)
+          (ends G (lv v) (kids G lv c s u l i d at) v (c.since v) s (pr G lv c s u l i d at) d z
+          (runs G lv c s u l i d at) (light G lv c s u l i d at) kt.last kt.fit)
+          (outcome G (lv v) (kids G lv c s u l i d at) v (c.since v) s (pr G lv c s u l i d at) d z
+          (runs G lv c s u l i d at) (light G lv c s u l i d at) kt.last kt.fit)
+          (turned G (lv v) (kids G lv c s u l i d at) v (c.since v) s (pr G lv c s u l i d at) d z
+          (runs G lv c s u l i d at) (light G lv c s u l i d at) kt.last kt.fit)
+          (kept G (lv v) (kids G lv c s u l i d at) v (c.since v) s (pr G lv c s u l i d at) d z
+          (runs G lv c s u l i d at) (light G lv c s u l i d at) kt.last kt.fit))
         where
           by : (tn1 : Turn (Memory Plain)) × IsTurn (ops G) G.code d tn1 × P tn1 → P tn
           by w = subst (λ y. P y) (turn_same (ops G) G.code d w.0 tn w.1 is) w.2
 
     -- one that stops is no process whose frame is too large
     stands_at : (stop : machine.Stop) (e : Config (Memory Plain)) → IsTurn (ops G) G.code d (Stopped stop e)
-        → Stands G (lv (q G lv c s u l i d at)) (kids G lv c s u l i d at) (q G lv c s u l i d at) (c.since (q G lv c s u l i d at)) (pr G lv c s u l i d at) s.store d
-    stands_at stop e is = ⊎_elim (λ z. z) (λ z. absurd (no_stop (subst (λ b. Begins b d (Stopped stop e) (turns.Runs (ops G) G.code d (Stopped stop e))) z.4 is))) (its G lv c s u l i d at).2
+        → Stands G (lv (q G lv c s u l i d at)) (kids G lv c s u l i d at) (q G lv c s u l i d at)
+        (c.since (q G lv c s u l i d at)) (pr G lv c s u l i d at) s.store d
+    stands_at stop e is = ⊎_elim (λ z. z) (λ z. absurd
+        (no_stop (subst (λ b. Begins b d (Stopped stop e) (turns.Runs (ops G) G.code d (Stopped stop e))) z.4 is)))
+        (its G lv c s u l i d at).2
       where
         no_stop : ◌≡◌ {A = Turn (Memory Plain)} (Stopped stop e) (Faulted fault.F12 d) → ⊥
         no_stop e = cc e
@@ -119,7 +143,8 @@ module _ (G : Ground) (lv : Lives G) (c : Course) (s : StateOf G.g) (u : System 
       pub store : Store
       pub memory : Memory Plain
       pub is : store_of e ≡ memory.store
-      pub stands : St G (lv v) (kids G lv c s u l i d at) v (pr G lv c s u l i d at).who (c.since v) (lv v).below own store memory
+      pub stands : St G (lv v) (kids G lv c s u l i d at) v (pr G lv c s u l i d at).who (c.since v) (lv v).below own
+          store memory
 
     -- all is well with the end of a turn
     abbrev Well : Turn (Memory Plain) → Type 0
@@ -131,54 +156,97 @@ module _ (G : Ground) (lv : Lives G) (c : Course) (s : StateOf G.g) (u : System 
     Well (Stopped machine.Ends e) = Left_by e
     Well (Stopped machine.Pauses e) = Unit {0}
 
-    module _ (z : Stands G (lv (q G lv c s u l i d at)) (kids G lv c s u l i d at) (q G lv c s u l i d at) (c.since (q G lv c s u l i d at)) (pr G lv c s u l i d at) s.store d) where
+    module _ (z : Stands G (lv (q G lv c s u l i d at)) (kids G lv c s u l i d at) (q G lv c s u l i d at)
+        (c.since (q G lv c s u l i d at)) (pr G lv c s u l i d at) s.store d) where
       abbrev Fork_is : List Joint → List Rattle.sp_meaning.specs.Deeds.Birth → machine.Stop → Type 0
-      Fork_is fs bs x = ForkIs (execution G (lv (q G lv c s u l i d at)) (kids G lv c s u l i d at) (q G lv c s u l i d at) z.fresh (pr G lv c s u l i d at).who z.named (c.since (q G lv c s u l i d at))) true fs bs x
+      Fork_is fs bs x = ForkIs (execution G (lv (q G lv c s u l i d at)) (kids G lv c s u l i d at)
+          (q G lv c s u l i d at) z.fresh (pr G lv c s u l i d at).who z.named (c.since (q G lv c s u l i d at))) true
+          fs bs x
 
       abbrev Cargo_is : List Joint → Channel → ℕ → Cargo Held Address → machine.Stop → Type 0
-      Cargo_is fs ch k g x = CargoIs (execution G (lv (q G lv c s u l i d at)) (kids G lv c s u l i d at) (q G lv c s u l i d at) z.fresh (pr G lv c s u l i d at).who z.named (c.since (q G lv c s u l i d at))) fs ch k g x
+      Cargo_is fs ch k g x = CargoIs (execution G (lv (q G lv c s u l i d at)) (kids G lv c s u l i d at)
+          (q G lv c s u l i d at) z.fresh (pr G lv c s u l i d at).who z.named (c.since (q G lv c s u l i d at))) fs ch
+          k g x
 
       by_well : (r : Came source.Stop × Store) → Of Well z r
-      by_well (Got (source.Paused todo) o, m) e x t y = (Stopped machine.Pauses (At t.0 t.1 t.2), turn_is G lv c s u l i d at z (Stopped machine.Pauses (At t.0 t.1 t.2)) (t.4, t.5, t.6), tt)
+      by_well (Got (source.Paused todo) o, m) e x t y = (
+        Stopped machine.Pauses (At t.0 t.1 t.2),
+        turn_is G lv c s u l i d at z (Stopped machine.Pauses (At t.0 t.1 t.2)) (t.4, t.5, t.6),
+        tt,
+      )
       by_well (Got (source.Stops (Stepped todo)) o, m) e x t y = absurd e
       by_well (Got (source.Stops (Ticked todo)) o, m) e x t y = absurd e
-      by_well (Got (source.Stops (Opened todo)) o, m) e x t y = (Stopped (machine.Opens t.6) (At t.0 t.1 t.2), turn_is G lv c s u l i d at z (Stopped (machine.Opens t.6) (At t.0 t.1 t.2)) (t.4, t.8, t.9), tt)
+      by_well (Got (source.Stops (Opened todo)) o, m) e x t y = (
+        Stopped (machine.Opens t.6) (At t.0 t.1 t.2),
+        turn_is G lv c s u l i d at z (Stopped (machine.Opens t.6) (At t.0 t.1 t.2)) (t.4, t.8, t.9),
+        tt,
+      )
       by_well (Got (source.Stops (Forked bs todo)) o, m) e x t y = (
         Stopped t.5 (At t.0 t.1 t.2),
         turn_is G lv c s u l i d at z (Stopped t.5 (At t.0 t.1 t.2)) (t.4, t.6, t.7),
-        by_form (subst (λ b. ForkIs (execution G (lv (q G lv c s u l i d at)) (kids G lv c s u l i d at) (q G lv c s u l i d at) z.fresh (pr G lv c s u l i d at).who z.named (c.since (q G lv c s u l i d at))) b t.3 bs t.5) t.10 t.11),
+        by_form (subst (λ b. ForkIs (execution G (lv (q G lv c s u l i d at)) (kids G lv c s u l i d at)
+            (q G lv c s u l i d at) z.fresh (pr G lv c s u l i d at).who z.named (c.since (q G lv c s u l i d at))) b
+            t.3 bs t.5) t.10 t.11),
       )
         where
           by_form : Fork_is t.3 bs t.5 → Well (Stopped t.5 (At t.0 t.1 t.2))
-          by_form (inl h) = subst (λ b. Well (Stopped b (At t.0 t.1 t.2))) (sym h.4) (parallel.can_split G lv c s u l i d at z bs todo o m x t y quiet h)
-          by_form (inr h) = subst (λ b. Well (Stopped b (At t.0 t.1 t.2))) (sym h.9) (forall.can_split G lv c s u l i d at z bs todo o m x t y quiet h)
-      by_well (Got (source.Stops (Offered ch k a todo)) o, m) e x t y = (Stopped t.5 (At t.0 t.1 t.2), turn_is G lv c s u l i d at z (Stopped t.5 (At t.0 t.1 t.2)) (t.4, t.6, t.7), by_cargo a t.9)
+          by_form (inl h) = subst (λ b. Well (Stopped b (At t.0 t.1 t.2))) (sym h.4)
+              (parallel.can_split G lv c s u l i d at z bs todo o m x t y quiet h)
+          by_form (inr h) = subst (λ b. Well (Stopped b (At t.0 t.1 t.2))) (sym h.9)
+              (forall.can_split G lv c s u l i d at z bs todo o m x t y quiet h)
+      by_well (Got (source.Stops (Offered ch k a todo)) o, m) e x t y = (
+        Stopped t.5 (At t.0 t.1 t.2),
+        turn_is G lv c s u l i d at z (Stopped t.5 (At t.0 t.1 t.2)) (t.4, t.6, t.7),
+        by_cargo a t.9,
+      )
         where
           by_cargo : (g : Cargo Held Address) → Cargo_is t.3 ch k g t.5 → Well (Stopped t.5 (At t.0 t.1 t.2))
-          by_cargo (Message (Tree w)) h = subst (λ b. Well (Stopped b (At t.0 t.1 t.2))) (sym h.2) (w, sent_flat G (lv v) (kids G lv c s u l i d at) v (pr G lv c s u l i d at).who (c.since v) k (sort G.g.program k) refl w h.1 h.4)
+          by_cargo (Message (Tree w)) h = subst (λ b. Well (Stopped b (At t.0 t.1 t.2))) (sym h.2) (
+            w,
+            sent_flat G (lv v) (kids G lv c s u l i d at) v (pr G lv c s u l i d at).who (c.since v) k
+                (sort G.g.program k) refl w h.1 h.4,
+          )
           by_cargo (Message (Position n)) h = absurd h
           by_cargo (Message (Written bs)) h = absurd h
           by_cargo (Takes w) h = subst (λ b. Well (Stopped b (At t.0 t.1 t.2))) (sym h.2)
-              (taken_well G (lv v) (kids G lv c s u l i d at) v k w h.1 t.0 t.1 t.2 t.8 h.4 h.5 h.6 (subst (λ b. Ready b (At t.0 t.1 (record (t.2) { since = (t.2).ticks }))) h.2 (owned_ready G t.5 t.0 t.1 t.2 t.12)))
+              (taken_well G (lv v) (kids G lv c s u l i d at) v k w h.1 t.0 t.1 t.2 t.8 h.4 h.5 h.6
+              (subst (λ b. Ready b (At t.0 t.1 (record (t.2) { since = (t.2).ticks }))) h.2
+              (owned_ready G t.5 t.0 t.1 t.2 t.12)))
       by_well (Got (source.Stops Ended) o, m) e x t y = (
         Stopped machine.Ends (At t.0 t.1 t.2),
         turn_is G lv c s u l i d at z (Stopped machine.Ends (At t.0 t.1 t.2)) (At t.0 t.1 t.2, t.4, t.5),
-        record { own = o; store = m; memory = t.2; is = refl; stands = subst (λ b. St G (lv v) (kids G lv c s u l i d at) v (pr G lv c s u l i d at).who (c.since v) b o m t.2) (t.7).2 t.6 },
+        record {
+          own = o;
+          store = m;
+          memory = t.2;
+          is = refl;
+          stands = subst (λ b. St G (lv v) (kids G lv c s u l i d at) v (pr G lv c s u l i d at).who (c.since v) b o m
+              t.2) (t.7).2 t.6;
+        },
       )
-      by_well (Bad f, m) e x t y = (Faulted f t.at, turn_is G lv c s u l i d at z (Faulted f t.at) (t.at, t.comes, (t.fails, refl)), tt)
+      by_well (Bad f, m) e x t y = (
+        Faulted f t.at,
+        turn_is G lv c s u l i d at z (Faulted f t.at) (t.at, t.comes, (t.fails, refl)),
+        tt,
+      )
       by_well (Lost, m) e x t y = absurd e
       by_well (Long, m) e x t y = absurd e
 
-    turns_well : (stop : machine.Stop) (e : Config (Memory Plain)) → IsTurn (ops G) G.code d (Stopped stop e) → Well (Stopped stop e)
+    turns_well : (stop : machine.Stop) (e : Config (Memory Plain)) → IsTurn (ops G) G.code d (Stopped stop e)
+        → Well (Stopped stop e)
     turns_well stop e is = let z = stands_at stop e is in of_turn Well z (by_well z) (Stopped stop e) is
 
-    pub can_split : (tb : ℕ) (val : ℤ) (n : ℕ) (e : Config (Memory Plain)) → IsTurn (ops G) G.code d (Stopped (machine.Forks tb val n) e) → CanSplit (store_of e) (plan_of plain (run_is G) e tb val n)
+    pub can_split : (tb : ℕ) (val : ℤ) (n : ℕ) (e : Config (Memory Plain))
+        → IsTurn (ops G) G.code d (Stopped (machine.Forks tb val n) e)
+        → CanSplit (store_of e) (plan_of plain (run_is G) e tb val n)
     can_split tb val n e is = turns_well (machine.Forks tb val n) e is
 
-    pub sends_well : (ch k : ℕ) (cs : List OneCell) (e : Config (Memory Plain)) → IsTurn (ops G) G.code d (Stopped (machine.Sends ch k cs) e) → IsMessage G k cs
+    pub sends_well : (ch k : ℕ) (cs : List OneCell) (e : Config (Memory Plain))
+        → IsTurn (ops G) G.code d (Stopped (machine.Sends ch k cs) e) → IsMessage G k cs
     sends_well ch k cs e is = turns_well (machine.Sends ch k cs) e is
 
-    pub takes_well : (ch k : ℕ) (a : Ptr) (e : Config (Memory Plain)) → IsTurn (ops G) G.code d (Stopped (machine.Receives ch k a) e) → Takes_well G k a e
+    pub takes_well : (ch k : ℕ) (a : Ptr) (e : Config (Memory Plain))
+        → IsTurn (ops G) G.code d (Stopped (machine.Receives ch k a) e) → Takes_well G k a e
     takes_well ch k a e is = turns_well (machine.Receives ch k a) e is
 
     -- ---- an end
@@ -186,7 +254,9 @@ module _ (G : Ground) (lv : Lives G) (c : Course) (s : StateOf G.g) (u : System 
     left_by : (e : Config (Memory Plain)) → IsTurn (ops G) G.code d (Stopped machine.Ends e) → Left_by e
     left_by e is = turns_well machine.Ends e is
 
-    module _ (b : Birth) (born : u.births.birth i ≡ Some b) (left : ℕ) (dd : Config (Memory Plain)) (joins : u.condition b.parent ≡ sys.Joins left dd) (e : Config (Memory Plain)) (is : IsTurn (ops G) G.code d (Stopped machine.Ends e)) where
+    module _ (b : Birth) (born : u.births.birth i ≡ Some b) (left : ℕ) (dd : Config (Memory Plain))
+        (joins : u.condition b.parent ≡ sys.Joins left dd) (e : Config (Memory Plain))
+        (is : IsTurn (ops G) G.code d (Stopped machine.Ends e)) where
       lt : i < u.births.processes
       lt = here G lv c s u l i d at
 
@@ -194,7 +264,8 @@ module _ (G : Ground) (lv : Lives G) (c : Course) (s : StateOf G.g) (u : System 
       above zero h = absurd (none-some b (sym l.began.root.0 ∙ ap (λ y. u.births.birth y) (sym h) ∙ born))
       above (suc k) h = omega (arith, h)
 
-      of : (y : Birth) × (u.births.birth i ≡ Some y) × (y.parent < i) × (u.births.name i ≡ (y.fork, y.child) ∷ u.births.name y.parent) × (y.fork < u.births.forks y.parent)
+      of : (y : Birth) × (u.births.birth i ≡ Some y) × (y.parent < i)
+          × (u.births.name i ≡ (y.fork, y.child) ∷ u.births.name y.parent) × (y.fork < u.births.forks y.parent)
       of = l.began.born i (above i refl) lt
 
       of_is : of.0 ≡ b
@@ -207,24 +278,30 @@ module _ (G : Ground) (lv : Lives G) (c : Course) (s : StateOf G.g) (u : System 
       parent = G.births.name b.parent
 
       name_is : v ≡ (b.fork, b.child) ∷ parent
-      name_is = sym (l.began.names i lt) ∙ of.3 ∙ ap (λ (y : Birth). (y.fork, y.child) ∷ u.births.name y.parent) of_is ∙ ap (λ (y : Name). (b.fork, b.child) ∷ y) (l.began.names b.parent (omega (arith, older, lt)))
+      name_is = sym (l.began.names i lt) ∙ of.3 ∙ ap (λ (y : Birth). (y.fork, y.child) ∷ u.births.name y.parent) of_is
+          ∙ ap (λ (y : Name). (b.fork, b.child) ∷ y) (l.began.names b.parent (omega (arith, older, lt)))
 
       does : Performs_all G lv parent c s (u.births.opens b.parent) (sys.Joins left dd)
-      does = subst (λ y. Performs_all G lv parent c s (u.births.opens b.parent) y) joins (l.does b.parent (omega (arith, older, lt)))
+      does = subst (λ y. Performs_all G lv parent c s (u.births.opens b.parent) y) joins
+          (l.does b.parent (omega (arith, older, lt)))
 
       live : IsLive (s.condition ((b.fork, b.child) ∷ parent))
-      live = subst (λ y. IsLive (s.condition y)) name_is (working_lives s.condition v (s.condition v) (pr G lv c s u l i d at) (runs G lv c s u l i d at))
+      live = subst (λ y. IsLive (s.condition y)) name_is
+          (working_lives s.condition v (s.condition v) (pr G lv c s u l i d at) (runs G lv c s u l i d at))
 
       joins_at : JoinsAt {O = Process} {V = Held} {T = Address} b.fork b.child (Joins does.0 does.1 does.2)
-      joins_at = subst (λ y. JoinsAt {O = Process} {V = Held} {T = Address} b.fork b.child y) does.3 (l.known.sound.joined parent b.fork b.child live)
+      joins_at = subst (λ y. JoinsAt {O = Process} {V = Held} {T = Address} b.fork b.child y) does.3
+          (l.known.sound.joined parent b.fork b.child live)
 
       name_now : v ≡ (does.0, b.child) ∷ parent
       name_now = name_is ∙ ap (λ y. (y, b.child) ∷ parent) (sym joins_at.0)
 
       yet : has_ended (s.condition ((does.0, b.child) ∷ parent)) ≡ false
-      yet = subst (λ y. has_ended (s.condition y) ≡ false) name_now (Rattle.sp_link.proofs.OneChanges.not_ended G lv c s u l i d at)
+      yet = subst (λ y. has_ended (s.condition y) ≡ false) name_now
+          (Rattle.sp_link.proofs.OneChanges.not_ended G lv c s u l i d at)
 
-      abbrev zj : Joined G (lv parent) (λ a1 b1. lv ((a1, b1) ∷ parent)) parent (c.since parent) does.0 does.1 left does.2 s dd
+      abbrev zj : Joined G (lv parent) (λ a1 b1. lv ((a1, b1) ∷ parent)) parent (c.since parent) does.0 does.1 left
+          does.2 s dd
       zj = does.4
 
       ended : Left_by e
@@ -236,15 +313,21 @@ module _ (G : Ground) (lv : Lives G) (c : Course) (s : StateOf G.g) (u : System 
       moved_here : (store_of e).moved ≡ moved_to
       moved_here = ap (λ (y : Plain). y.moved) ended.is ∙ ended.stands.moved_is ∙ ap (λ y. (lv y).moved) name_now
 
-      stood : St G (lv ((does.0, b.child) ∷ parent)) (λ a1 b1. lv ((a1, b1) ∷ (does.0, b.child) ∷ parent)) ((does.0, b.child) ∷ parent) (pr G lv c s u l i d at).who (c.since v) (lv ((does.0, b.child) ∷ parent)).below ended.own ended.store ended.memory
-      stood = subst (λ y. St G (lv y) (λ a1 b1. lv ((a1, b1) ∷ y)) y (pr G lv c s u l i d at).who (c.since v) (lv y).below ended.own ended.store ended.memory) name_now ended.stands
+      stood : St G (lv ((does.0, b.child) ∷ parent)) (λ a1 b1. lv ((a1, b1) ∷ (does.0, b.child) ∷ parent))
+          ((does.0, b.child) ∷ parent) (pr G lv c s u l i d at).who (c.since v) (lv ((does.0, b.child) ∷ parent)).below
+          ended.own ended.store ended.memory
+      stood = subst (λ y. St G (lv y) (λ a1 b1. lv ((a1, b1) ∷ y)) y (pr G lv c s u l i d at).who (c.since v)
+          (lv y).below ended.own ended.store ended.memory) name_now ended.stands
 
       held_there : (a : Spot) → In a moved_to → IsHeld (fin.get (ended.memory).store.map a)
       held_there a h = ⊎_elim
-          (λ x. (let y = stood.position (inr x.0) in subst (λ k. IsHeld (fin.get (ended.memory).store.map k)) (sym x.1) (cells_held _ _ y.2)))
+          (λ x. (let y = stood.position (inr x.0) in
+          subst (λ k. IsHeld (fin.get (ended.memory).store.map k)) (sym x.1) (cells_held _ _ y.2)))
           (⊎_elim
-          (λ x. (let y = stood.output (inr x.0) in subst (λ k. IsHeld (fin.get (ended.memory).store.map k)) (sym x.1) (bytes_held _ _ y.2)))
-          (λ x. (let y = stood.held x.0 x.1 x.2 x.3 x.4 in subst (λ k. IsHeld (fin.get (ended.memory).store.map k)) (sym x.5) (cells_held _ _ y.piece))))
+          (λ x. (let y = stood.output (inr x.0) in
+          subst (λ k. IsHeld (fin.get (ended.memory).store.map k)) (sym x.1) (bytes_held _ _ y.2)))
+          (λ x. (let y = stood.held x.0 x.1 x.2 x.3 x.4 in
+          subst (λ k. IsHeld (fin.get (ended.memory).store.map k)) (sym x.5) (cells_held _ _ y.piece))))
           ((zj.children b.child (joins_at.1, yet)).kept a h)
 
       parent_map : (store_of dd).map ≡ zj.held
@@ -253,24 +336,33 @@ module _ (G : Ground) (lv : Lives G) (c : Course) (s : StateOf G.g) (u : System 
       pub can_join : CanJoin (store_of dd) (store_of e)
       can_join = record {
         no_frame = ap (λ (y : Plain). y.own) ended.is ∙ ended.stands.own_frames ∙ none_made (lv v).below;
-        held = λ a h. subst (λ (y : Plain). IsHeld (fin.get y.map a)) (sym ended.is) (held_there a (subst (λ y. In a y) moved_here h));
-        away = λ a h. ap (λ y. fin.get y a) parent_map ∙ zj.gone b.child (joins_at.1, yet) a (subst (λ y. In a y) moved_here h);
+        held = λ a h. subst (λ (y : Plain). IsHeld (fin.get y.map a)) (sym ended.is)
+            (held_there a (subst (λ y. In a y) moved_here h));
+        away = λ a h. ap (λ y. fin.get y a) parent_map
+            ∙ zj.gone b.child (joins_at.1, yet) a (subst (λ y. In a y) moved_here h);
       }
 
   -- ---- messages
 
   -- one that waits with an offer
-  waits_message : (ch k : ℕ) (cs : List OneCell) (z : ℕ) (e : Config (Memory Plain)) → z < u.births.processes → u.condition z ≡ sys.Waits (machine.Sends ch k cs) e → IsMessage G k cs
+  waits_message : (ch k : ℕ) (cs : List OneCell) (z : ℕ) (e : Config (Memory Plain)) → z < u.births.processes
+      → u.condition z ≡ sys.Waits (machine.Sends ch k cs) e → IsMessage G k cs
   waits_message ch k cs z e lt at = by h.0.cargo h.3
     where
       h : Performs_all G lv (G.births.name z) c s (u.births.opens z) (sys.Waits (machine.Sends ch k cs) e)
       h = subst (λ y. Performs_all G lv (G.births.name z) c s (u.births.opens z) y) at (l.does z lt)
 
-      by : (g : Cargo Held Address) → Ca G (lv (G.births.name z)) (λ a b. lv ((a, b) ∷ G.births.name z)) (G.births.name z) (h.2).fresh (h.0).next.who (h.2).named (c.since (G.births.name z)) (h.2).js (h.0).channel (h.0).kind g (machine.Sends ch k cs) → IsMessage G k cs
+      by : (g : Cargo Held Address) → Ca G (lv (G.births.name z)) (λ a b. lv ((a, b) ∷ G.births.name z))
+          (G.births.name z) (h.2).fresh (h.0).next.who (h.2).named (c.since (G.births.name z)) (h.2).js (h.0).channel
+          (h.0).kind g (machine.Sends ch k cs) → IsMessage G k cs
       by (Message (Tree w)) x =
           let e1 : (h.0).kind ≡ k = sym (kind_of x.2) in
           let e2 : cells_in x.1 ≡ cs = sym (message_of x.2) in
-          subst (λ y. IsMessage G k y) e2 (subst (λ y. IsMessage G y (cells_in x.1)) e1 (w, sent_flat G (lv (G.births.name z)) (λ a b. lv ((a, b) ∷ G.births.name z)) (G.births.name z) (h.0).next.who (c.since (G.births.name z)) (h.0).kind (sort G.g.program (h.0).kind) refl w x.1 x.4))
+          subst (λ y. IsMessage G k y) e2 (subst (λ y. IsMessage G y (cells_in x.1)) e1 (
+            w,
+            sent_flat G (lv (G.births.name z)) (λ a b. lv ((a, b) ∷ G.births.name z)) (G.births.name z)
+                (h.0).next.who (c.since (G.births.name z)) (h.0).kind (sort G.g.program (h.0).kind) refl w x.1 x.4,
+          ))
         where
           kind_of : {a b e f : ℕ} {x y : List OneCell} → machine.Sends a b x ≡ machine.Sends e f y → b ≡ f
           kind_of r = cc r
@@ -284,13 +376,16 @@ module _ (G : Ground) (lv : Lives G) (c : Course) (s : StateOf G.g) (u : System 
           no : {a b e f : ℕ} {x : List OneCell} {y : Ptr} → machine.Sends a b x ≡ machine.Receives e f y → ⊥
           no r = cc r
 
-  waits_room : (ch k : ℕ) (a : Ptr) (z : ℕ) (e : Config (Memory Plain)) → z < u.births.processes → u.condition z ≡ sys.Waits (machine.Receives ch k a) e → Takes_well G k a e
+  waits_room : (ch k : ℕ) (a : Ptr) (z : ℕ) (e : Config (Memory Plain)) → z < u.births.processes
+      → u.condition z ≡ sys.Waits (machine.Receives ch k a) e → Takes_well G k a e
   waits_room ch k a z e lt at = by h.0.cargo h.3
     where
       h : Performs_all G lv (G.births.name z) c s (u.births.opens z) (sys.Waits (machine.Receives ch k a) e)
       h = subst (λ y. Performs_all G lv (G.births.name z) c s (u.births.opens z) y) at (l.does z lt)
 
-      by : (g : Cargo Held Address) → Ca G (lv (G.births.name z)) (λ a b. lv ((a, b) ∷ G.births.name z)) (G.births.name z) (h.2).fresh (h.0).next.who (h.2).named (c.since (G.births.name z)) (h.2).js (h.0).channel (h.0).kind g (machine.Receives ch k a) → Takes_well G k a e
+      by : (g : Cargo Held Address) → Ca G (lv (G.births.name z)) (λ a b. lv ((a, b) ∷ G.births.name z))
+          (G.births.name z) (h.2).fresh (h.0).next.who (h.2).named (c.since (G.births.name z)) (h.2).js (h.0).channel
+          (h.0).kind g (machine.Receives ch k a) → Takes_well G k a e
       by (Message (Tree w)) x = absurd (no x.2)
         where
           no : {a b e f : ℕ} {x : Ptr} {y : List OneCell} → machine.Receives a b x ≡ machine.Sends e f y → ⊥
@@ -301,7 +396,9 @@ module _ (G : Ground) (lv : Lives G) (c : Course) (s : StateOf G.g) (u : System 
           let e1 : (h.0).kind ≡ k = sym (kind_of x.2) in
           let e2 : x.1 ≡ a = sym (target_of x.2) in
           subst (λ (y : Config (Memory Plain)). Takes_well G k a y) (sym (h.2).is)
-          (taken_well G (lv (G.births.name z)) (λ a b. lv ((a, b) ∷ G.births.name z)) (G.births.name z) k w a (h.2).pc (h.2).stack (h.2).memory (h.2).stand (x.4 ∙ e1) (subst (λ y. PointsTo G.g.program (h.2).js w y) e2 x.5) x.6
+          (taken_well G (lv (G.births.name z)) (λ a b. lv ((a, b) ∷ G.births.name z)) (G.births.name z) k w a (h.2).pc
+          (h.2).stack (h.2).memory (h.2).stand (x.4 ∙ e1) (subst (λ y. PointsTo G.g.program (h.2).js w y) e2 x.5)
+          x.6
           (subst (λ (y : Config (Memory Plain)). IsOwn (fin.get (store_of y).map a.spot)) (h.2).is h.6))
         where
           kind_of : {a b e f : ℕ} {x y : Ptr} → machine.Receives a b x ≡ machine.Receives e f y → b ≡ f
@@ -325,18 +422,30 @@ module _ (G : Ground) (lv : Lives G) (c : Course) (s : StateOf G.g) (u : System 
   no_first None b e = e
   no_first (Some f) b e = absurd (cc e)
 
-  pub put_by_send : (i z ch k j : ℕ) (a : Ptr) (cs : List OneCell) (d e : Config (Memory Plain)) → StopsAt (run_is G) u i (machine.Sends ch k cs) d → u.pending ch ≡ Some z → u.condition z ≡ sys.Waits (machine.Receives ch j a) e → CanPut (store_of e) a cs
+  pub put_by_send : (i z ch k j : ℕ) (a : Ptr) (cs : List OneCell) (d e : Config (Memory Plain))
+      → StopsAt (run_is G) u i (machine.Sends ch k cs) d → u.pending ch ≡ Some z
+      → u.condition z ≡ sys.Waits (machine.Receives ch j a) e → CanPut (store_of e) a cs
   put_by_send i z ch k j a cs d e st p w =
       let there = has_number G lv c s u l z (sys.Waits (machine.Receives ch j a) e) w (λ r. cc r) in
-      let pending : sys.pending_stop u (u.pending ch) ≡ Some (machine.Receives ch j a) = ap (λ y. sys.pending_stop u y) p ∙ ap (λ y. sys.stop_of y) w in
-      let clash = no_first (sys.limit_of G.g.limits u (machine.Sends ch k cs)) (sys.clash_of u (machine.Sends ch k cs)) st.fine in
-      let kinds : j ≡ k = one_type j k (sys.clash_of u (machine.Sends ch k cs)) (ap (λ y. sys.clash_by way.Send k y) pending) clash in
-      can_put G j a e cs (waits_room ch j a z e there w) (subst (λ y. IsMessage G y cs) (sym kinds) (sends_well i st.at st.runs ch k cs d st.turn))
+      let pending : sys.pending_stop u (u.pending ch) ≡ Some (machine.Receives ch j a) =
+      ap (λ y. sys.pending_stop u y) p ∙ ap (λ y. sys.stop_of y) w in
+      let clash = no_first (sys.limit_of G.g.limits u (machine.Sends ch k cs)) (sys.clash_of u (machine.Sends ch k cs))
+      st.fine in
+      let kinds : j ≡ k = one_type j k (sys.clash_of u (machine.Sends ch k cs))
+      (ap (λ y. sys.clash_by way.Send k y) pending) clash in
+      can_put G j a e cs (waits_room ch j a z e there w)
+      (subst (λ y. IsMessage G y cs) (sym kinds) (sends_well i st.at st.runs ch k cs d st.turn))
 
-  pub put_by_receive : (i z ch k j : ℕ) (a : Ptr) (cs : List OneCell) (d e : Config (Memory Plain)) → StopsAt (run_is G) u i (machine.Receives ch k a) d → u.pending ch ≡ Some z → u.condition z ≡ sys.Waits (machine.Sends ch j cs) e → CanPut (store_of d) a cs
+  pub put_by_receive : (i z ch k j : ℕ) (a : Ptr) (cs : List OneCell) (d e : Config (Memory Plain))
+      → StopsAt (run_is G) u i (machine.Receives ch k a) d → u.pending ch ≡ Some z
+      → u.condition z ≡ sys.Waits (machine.Sends ch j cs) e → CanPut (store_of d) a cs
   put_by_receive i z ch k j a cs d e st p w =
       let there = has_number G lv c s u l z (sys.Waits (machine.Sends ch j cs) e) w (λ r. cc r) in
-      let pending : sys.pending_stop u (u.pending ch) ≡ Some (machine.Sends ch j cs) = ap (λ y. sys.pending_stop u y) p ∙ ap (λ y. sys.stop_of y) w in
-      let clash = no_first (sys.limit_of G.g.limits u (machine.Receives ch k a)) (sys.clash_of u (machine.Receives ch k a)) st.fine in
-      let kinds : j ≡ k = one_type j k (sys.clash_of u (machine.Receives ch k a)) (ap (λ y. sys.clash_by way.Receive k y) pending) clash in
-      can_put G k a d cs (takes_well i st.at st.runs ch k a d st.turn) (subst (λ y. IsMessage G y cs) kinds (waits_message ch j cs z e there w))
+      let pending : sys.pending_stop u (u.pending ch) ≡ Some (machine.Sends ch j cs) = ap (λ y. sys.pending_stop u y) p
+      ∙ ap (λ y. sys.stop_of y) w in
+      let clash = no_first (sys.limit_of G.g.limits u (machine.Receives ch k a))
+      (sys.clash_of u (machine.Receives ch k a)) st.fine in
+      let kinds : j ≡ k = one_type j k (sys.clash_of u (machine.Receives ch k a))
+      (ap (λ y. sys.clash_by way.Receive k y) pending) clash in
+      can_put G k a d cs (takes_well i st.at st.runs ch k a d st.turn)
+      (subst (λ y. IsMessage G y cs) kinds (waits_message ch j cs z e there w))

@@ -1,31 +1,41 @@
 -- A variable that a statement uses is declared, and an index is used by the statement itself and in scope
 -- (`is_scoped`): the code of a statement finds each variable by its scopes, and no scope of a called block is an index.
-use Rattle.std.proofs.Common.{◌≡◌, inl, inr, ℕ, suc, zero, ◌+◌, ◌==◌, List, [], ◌∷◌, length, Option, Some, None, Bool, true, false, if◌then◌else◌, eqb-true, refl, sym, ◌∙◌, subst}
+use Rattle.std.proofs.Common.{◌≡◌, inl, inr, ℕ, suc, zero, ◌+◌, ◌==◌, List, [], ◌∷◌, length, Option, Some, None, Bool}
+use Rattle.std.proofs.Common.{true, false, if◌then◌else◌, eqb-true, refl, sym, ◌∙◌, subst}
 use Rattle.std.specs.Prelude.{slice_get}
 use Rattle.sp_tree.specs.declared.checked.Role.TheVariants as role
-use Rattle.sp_tree.specs.Plain.{Expr, Typed, ExprForm, Number, Read, Unary, Binary, Apply, Standard, AtInput, Var, Entire, Index, Field, Selectors, Whole, Select, ByValue, ByReference, Actuals, Nothing, Pass, Program, Variable, Stmt, Empty, Assign, Call, Sequence, If, IfElse, While, Repeat, For, Case, Parallel, Forall, Assume, ReadValue, ReadLine, WriteValue, WriteText, WriteLine, Open, Send, Receive, Stmts, No, And, On, Arms, NoArm, Or}
-use Rattle.sp_tree.specs.Uses.{Use, Target, Seen, CallOf, ParallelOf, ForallOf, Stop, IsOther, In_expr, In_form, In_read, In_target, In_selectors, In_actuals, In_width, In_stmt, In_stmts, In_arms}
+use Rattle.sp_tree.specs.Plain.{Expr, Typed, ExprForm, Number, Read, Unary, Binary, Apply, Standard, AtInput, Var}
+use Rattle.sp_tree.specs.Plain.{Entire, Index, Field, Selectors, Whole, Select, ByValue, ByReference, Actuals, Nothing}
+use Rattle.sp_tree.specs.Plain.{Pass, Program, Variable, Stmt, Empty, Assign, Call, Sequence, If, IfElse, While, Repeat}
+use Rattle.sp_tree.specs.Plain.{For, Case, Parallel, Forall, Assume, ReadValue, ReadLine, WriteValue, WriteText}
+use Rattle.sp_tree.specs.Plain.{WriteLine, Open, Send, Receive, Stmts, No, And, On, Arms, NoArm, Or}
+use Rattle.sp_tree.specs.Uses.{Use, Target, Seen, CallOf, ParallelOf, ForallOf, Stop, IsOther, In_expr, In_form}
+use Rattle.sp_tree.specs.Uses.{In_read, In_target, In_selectors, In_actuals, In_width, In_stmt, In_stmts, In_arms}
 use Rattle.sp_tree.specs.Sets.{Reach, IsUsed}
 use Rattle.sp_tree.specs.Formed.{IsFormedUse}
 use Rattle.sp_tree.specs.Interference.{IsFreeOfInterference}
 use Rattle.sp_code.specs.declared.code.ForkTable.{ForkTable}
 use Rattle.sp_code.specs.declared.instr.Instr.{Instr}
 use Rattle.sp_code.specs.Places.{after_value, after_var, after_tests, after, after_arms}
-use Rattle.sp_code.specs.Scopes.{Sort, Ordinals, Channels, Many, NoSort, Scope, OfIndex, is_index, level, one_more, parent_of, scopes_by, scopes_of, sort}
-use Rattle.sp_code.specs.Stands.{ValueAt, FormAt, PlaceAt, SelectedAt, ActualsAt, WidthAt, RightAt, VarRole, StandsAt, AllAt, ChildrenAt, ArmsAt, Stands, HasFork, HasWords}
+use Rattle.sp_code.specs.Scopes.{Sort, Ordinals, Channels, Many, NoSort, Scope, OfIndex, is_index, level, one_more}
+use Rattle.sp_code.specs.Scopes.{parent_of, scopes_by, scopes_of, sort}
+use Rattle.sp_code.specs.Stands.{ValueAt, FormAt, PlaceAt, SelectedAt, ActualsAt, WidthAt, RightAt, VarRole, StandsAt}
+use Rattle.sp_code.specs.Stands.{AllAt, ChildrenAt, ArmsAt, Stands, HasFork, HasWords}
 use Rattle.sp_link.proofs.ChildrenStand.{reached_formed}
 use Rattle.sp_link.proofs.Relation.{Ground}
 
 -- a use that stands here: a variable that is seen is declared, and an index is in scope
 abbrev Direct : Program → List Scope → Use → Type 0
 Direct p sc (Target x) = Unit {0}
-Direct p sc (Seen x) = (v : Variable) × (slice_get p.variables x ≡ Some v) × (v.role ≡ role.Index → (up : ℕ) × (level (is_index x) sc ≡ Some up))
+Direct p sc (Seen x) = (v : Variable) × (slice_get p.variables x ≡ Some v)
+    × (v.role ≡ role.Index → (up : ℕ) × (level (is_index x) sc ≡ Some up))
 Direct p sc (CallOf f args) = Unit {0}
 Direct p sc (ParallelOf ss) = Unit {0}
 Direct p sc (ForallOf x s) = Unit {0}
 Direct p sc Stop = Unit {0}
 
-module _ (p : Program) (free : IsFreeOfInterference p) (moves shares : Stmt → List ℕ) (Is : ℕ → Instr → Type 0) (HasTable : ℕ → ForkTable → Type 0) (HasText : ℕ → List ℕ → Type 0) (hush : ℕ → Type 0) where
+module _ (p : Program) (free : IsFreeOfInterference p) (moves shares : Stmt → List ℕ) (Is : ℕ → Instr → Type 0)
+    (HasTable : ℕ → ForkTable → Type 0) (HasText : ℕ → List ℕ → Type 0) (hush : ℕ → Type 0) where
   abbrev D : List Scope → Use → Type 0
   D sc u = Direct p sc u
 
@@ -36,14 +46,17 @@ module _ (p : Program) (free : IsFreeOfInterference p) (moves shares : Stmt → 
   input : (sc : List Scope) → D sc (Seen 0)
   input sc = (free.input.0, free.input.1, λ h. no_console free.input.2 h)
     where
-      no_console : {r : Rattle.sp_tree.specs.declared.checked.Role.Role} {A : Type 0} → r ≡ role.Console → r ≡ role.Index → A
+      no_console : {r : Rattle.sp_tree.specs.declared.checked.Role.Role} {A : Type 0} → r ≡ role.Console
+          → r ≡ role.Index → A
       no_console e h = let bad : role.Console ≡ role.Index = sym e ∙ h in absurd (cc bad)
 
   mutual
-    expr : (e : Expr) (sc : List Scope) (q : ℕ) → ValueAt p moves shares Is HasTable HasText hush sc q e → (u : Use) → In_expr e u → D sc u
+    expr : (e : Expr) (sc : List Scope) (q : ℕ) → ValueAt p moves shares Is HasTable HasText hush sc q e → (u : Use)
+        → In_expr e u → D sc u
     expr (Typed k form) sc q h u a = formed form k sc q h u a
 
-    formed : (form : ExprForm) (k : ℕ) (sc : List Scope) (q : ℕ) → FormAt p moves shares Is HasTable HasText hush sc q k form → (u : Use) → In_form form u → D sc u
+    formed : (form : ExprForm) (k : ℕ) (sc : List Scope) (q : ℕ)
+        → FormAt p moves shares Is HasTable HasText hush sc q k form → (u : Use) → In_form form u → D sc u
     formed (Number n) k sc q h u a = absurd a
     formed (Read v) k sc q h u a = variable v k sc q h.0 u a
     formed (Unary op e) k sc q h u a = expr e sc q h.0 u a
@@ -54,21 +67,32 @@ module _ (p : Program) (free : IsFreeOfInterference p) (moves shares : Stmt → 
     formed (Standard f e) k sc q h u a = expr e sc q h.2 u a
     formed (AtInput f) k sc q h u a = at sc u (Seen 0) a (input sc)
 
-    variable : (v : Var) (k : ℕ) (sc : List Scope) (q : ℕ) → PlaceAt p moves shares Is HasTable HasText hush sc q v k → (u : Use) → In_read v u → D sc u
-    variable (Entire x ss) k sc q h u (inl a) = at sc u (Seen x) a (h.1.0, h.1.1, λ iv. (let r = subst (λ r. VarRole p moves shares Is HasTable HasText hush sc q x h.1.0 r) iv h.1.3 in (r.0, r.1)))
+    variable : (v : Var) (k : ℕ) (sc : List Scope) (q : ℕ) → PlaceAt p moves shares Is HasTable HasText hush sc q v k
+        → (u : Use) → In_read v u → D sc u
+    variable (Entire x ss) k sc q h u (inl a) =
+        at sc u (Seen x) a (
+          h.1.0,
+          h.1.1,
+          λ iv.
+              (let r = subst (λ r. VarRole p moves shares Is HasTable HasText hush sc q x h.1.0 r) iv h.1.3 in
+              (r.0, r.1)),
+        )
     variable (Entire x ss) k sc q h u (inr a) = selectors ss h.0 k sc (q + 1) h.2 u a
 
-    target : (v : Var) (k : ℕ) (sc : List Scope) (q : ℕ) → PlaceAt p moves shares Is HasTable HasText hush sc q v k → (u : Use) → In_target v u → D sc u
+    target : (v : Var) (k : ℕ) (sc : List Scope) (q : ℕ) → PlaceAt p moves shares Is HasTable HasText hush sc q v k
+        → (u : Use) → In_target v u → D sc u
     target (Entire x ss) k sc q h u (inl a) = at sc u (Target x) a tt
     target (Entire x ss) k sc q h u (inr a) = selectors ss h.0 k sc (q + 1) h.2 u a
 
-    selectors : (ss : Selectors) (k k2 : ℕ) (sc : List Scope) (q : ℕ) → SelectedAt p moves shares Is HasTable HasText hush sc q ss k k2 → (u : Use) → In_selectors ss u → D sc u
+    selectors : (ss : Selectors) (k k2 : ℕ) (sc : List Scope) (q : ℕ)
+        → SelectedAt p moves shares Is HasTable HasText hush sc q ss k k2 → (u : Use) → In_selectors ss u → D sc u
     selectors Whole k k2 sc q h u a = absurd a
     selectors (Select (Index e) rest) k k2 sc q h u (inl a) = expr e sc q h.5 u a
     selectors (Select (Index e) rest) k k2 sc q h u (inr a) = selectors rest h.3 k2 sc (after_value q e + 1) h.8 u a
     selectors (Select (Field f) rest) k k2 sc q h u a = selectors rest h.2 k2 sc (q + 1) h.6 u a
 
-    actuals : (args : Actuals) (xs : List ℕ) (sc : List Scope) (q : ℕ) → ActualsAt p moves shares Is HasTable HasText hush sc q args xs → (u : Use) → In_actuals args u → D sc u
+    actuals : (args : Actuals) (xs : List ℕ) (sc : List Scope) (q : ℕ)
+        → ActualsAt p moves shares Is HasTable HasText hush sc q args xs → (u : Use) → In_actuals args u → D sc u
     actuals Nothing xs sc q h u a = absurd a
     actuals (Pass b rest) [] sc q h u a = absurd h
     actuals (Pass (ByValue e) rest) (x ∷ xs) sc q h u (inl a) = expr e sc q h.0 u a
@@ -76,11 +100,13 @@ module _ (p : Program) (free : IsFreeOfInterference p) (moves shares : Stmt → 
     actuals (Pass (ByReference v) rest) (x ∷ xs) sc q h u (inl a) = target v h.0 sc q h.1 u a
     actuals (Pass (ByReference v) rest) (x ∷ xs) sc q h u (inr a) = actuals rest xs sc (after_var q v) h.4 u a
 
-  width : (w : Option Expr) (sc : List Scope) (q : ℕ) → WidthAt p moves shares Is HasTable HasText hush sc q w → (u : Use) → In_width w u → D sc u
+  width : (w : Option Expr) (sc : List Scope) (q : ℕ) → WidthAt p moves shares Is HasTable HasText hush sc q w
+      → (u : Use) → In_width w u → D sc u
   width None sc q h u a = absurd a
   width (Some e) sc q h u a = expr e sc q h.0 u a
 
-  right : (z : Sort) (form : ExprForm) (k : ℕ) (sc : List Scope) (q : ℕ) → RightAt p moves shares Is HasTable HasText hush sc q k z form → (u : Use) → In_form form u → D sc u
+  right : (z : Sort) (form : ExprForm) (k : ℕ) (sc : List Scope) (q : ℕ)
+      → RightAt p moves shares Is HasTable HasText hush sc q k z form → (u : Use) → In_form form u → D sc u
   right Ordinals form k sc q h u a = formed form k sc q h.0 u a
   right Channels form k sc q h u a = formed form k sc q h.0 u a
   right Many (Number n) k sc q h u a = absurd h
@@ -97,14 +123,17 @@ module _ (p : Program) (free : IsFreeOfInterference p) (moves shares : Stmt → 
   outer sc x (Target y) o d = tt
   outer sc x (Seen y) o d = (d.0, d.1, λ iv. further (d.2 iv))
     where
-      further : (up : ℕ) × (level (is_index y) (OfIndex x ∷ sc) ≡ Some up) → (up : ℕ) × (level (is_index y) sc ≡ Some up)
+      further : (up : ℕ) × (level (is_index y) (OfIndex x ∷ sc) ≡ Some up) → (up : ℕ)
+          × (level (is_index y) sc ≡ Some up)
       further r = go (y == x) refl r.1
         where
-          inner : (l : Option ℕ) → level (is_index y) sc ≡ l → one_more l ≡ Some r.0 → (up : ℕ) × (level (is_index y) sc ≡ Some up)
+          inner : (l : Option ℕ) → level (is_index y) sc ≡ l → one_more l ≡ Some r.0 → (up : ℕ)
+              × (level (is_index y) sc ≡ Some up)
           inner None e h = absurd (cc h)
           inner (Some up) e h = (up, e)
 
-          go : (b : Bool) → y == x ≡ b → (if b then Some 0 else one_more (level (is_index y) sc)) ≡ Some r.0 → (up : ℕ) × (level (is_index y) sc ≡ Some up)
+          go : (b : Bool) → y == x ≡ b → (if b then Some 0 else one_more (level (is_index y) sc)) ≡ Some r.0 → (up : ℕ)
+              × (level (is_index y) sc ≡ Some up)
           go true e h = absurd (o (sym (eqb-true y x e)))
           go false e h = inner (level (is_index y) sc) refl h
   outer sc x (CallOf f args) o d = tt
@@ -113,7 +142,8 @@ module _ (p : Program) (free : IsFreeOfInterference p) (moves shares : Stmt → 
   outer sc x Stop o d = tt
 
   mutual
-    pub stmt : (s : Stmt) (fr : Bool) (sc : List Scope) (q : ℕ) → StandsAt p moves shares Is HasTable HasText hush fr sc q s → (u : Use) → In_stmt s u → D sc u
+    pub stmt : (s : Stmt) (fr : Bool) (sc : List Scope) (q : ℕ)
+        → StandsAt p moves shares Is HasTable HasText hush fr sc q s → (u : Use) → In_stmt s u → D sc u
     stmt Empty fr sc q h u a = absurd a
     stmt (Assign v (Typed k form)) fr sc q h u (inl a) = target v k sc q h.0 u a
     stmt (Assign v (Typed k form)) fr sc q h u (inr a) = right (sort p k) form k sc (after_var q v) h.2 u a
@@ -132,16 +162,19 @@ module _ (p : Program) (free : IsFreeOfInterference p) (moves shares : Stmt → 
     stmt (For x from down to s) fr sc q h u (inl a) = at sc u (Target x) a tt
     stmt (For x from down to s) fr sc q h u (inr (inl a)) = expr from sc q h.0.0 u a
     stmt (For x from down to s) fr sc q h u (inr (inr (inl a))) = expr to sc (after_value q from) h.1.0 u a
-    stmt (For x from down to s) fr sc q h u (inr (inr (inr a))) = stmt s fr sc (after_value (after_value q from) to + 1 + 1) h.2.3 u a
+    stmt (For x from down to s) fr sc q h u (inr (inr (inr a))) =
+        stmt s fr sc (after_value (after_value q from) to + 1 + 1) h.2.3 u a
     stmt (Case e arms) fr sc q h u (inl a) = expr e sc q h.0.0 u a
-    stmt (Case e arms) fr sc q h u (inr a) = let b = after_tests (after_value q e) arms in each arms fr sc (b + 1) (after_arms p (b + 1) arms) h.3 u a
+    stmt (Case e arms) fr sc q h u (inr a) = let b = after_tests (after_value q e) arms in
+        each arms fr sc (b + 1) (after_arms p (b + 1) arms) h.3 u a
     stmt (Parallel ss) fr sc q h u (inl a) = at sc u (ParallelOf ss) a tt
     stmt (Parallel ss) fr sc q h u (inr (inl a)) = children ss fr sc (q + 1 + 1) h.4 u a
     stmt (Parallel ss) fr sc q h u (inr (inr a)) = at sc u Stop a tt
     stmt (Forall x from to s) fr sc q h u (inl a) = at sc u (ForallOf x s) a tt
     stmt (Forall x from to s) fr sc q h u (inr (inl a)) = expr from sc q h.2.0 u a
     stmt (Forall x from to s) fr sc q h u (inr (inr (inl a))) = expr to sc (after_value q from) h.3.0 u a
-    stmt (Forall x from to s) fr sc q h u (inr (inr (inr (inl a)))) = outer sc x u a.1 (stmt s fr (OfIndex x ∷ sc) (after_value (after_value q from) to + 1 + 1) h.6 u a.0)
+    stmt (Forall x from to s) fr sc q h u (inr (inr (inr (inl a)))) =
+        outer sc x u a.1 (stmt s fr (OfIndex x ∷ sc) (after_value (after_value q from) to + 1 + 1) h.6 u a.0)
     stmt (Forall x from to s) fr sc q h u (inr (inr (inr (inr a)))) = at sc u Stop a tt
     stmt (Assume e) fr sc q h u a = expr e sc q h.0.0 u a
     stmt (ReadValue v) fr sc q h u (inl a) = at sc u (Target 0) a tt
@@ -167,17 +200,20 @@ module _ (p : Program) (free : IsFreeOfInterference p) (moves shares : Stmt → 
     stmt (Receive c v) fr sc q h u (inr (inl a)) = target v h.0 sc (after_value q c) h.3 u a
     stmt (Receive c v) fr sc q h u (inr (inr a)) = at sc u Stop a tt
 
-    all : (ss : Stmts) (fr : Bool) (sc : List Scope) (q : ℕ) → AllAt p moves shares Is HasTable HasText hush fr sc q ss → (u : Use) → In_stmts ss u → D sc u
+    all : (ss : Stmts) (fr : Bool) (sc : List Scope) (q : ℕ) → AllAt p moves shares Is HasTable HasText hush fr sc q ss
+        → (u : Use) → In_stmts ss u → D sc u
     all No fr sc q h u a = absurd a
     all (And s rest) fr sc q h u (inl a) = stmt s fr sc q h.0 u a
     all (And s rest) fr sc q h u (inr a) = all rest fr sc (after p q s) h.1 u a
 
-    children : (ss : Stmts) (fr : Bool) (sc : List Scope) (q : ℕ) → ChildrenAt p moves shares Is HasTable HasText hush fr sc q ss → (u : Use) → In_stmts ss u → D sc u
+    children : (ss : Stmts) (fr : Bool) (sc : List Scope) (q : ℕ)
+        → ChildrenAt p moves shares Is HasTable HasText hush fr sc q ss → (u : Use) → In_stmts ss u → D sc u
     children No fr sc q h u a = absurd a
     children (And s rest) fr sc q h u (inl a) = stmt s fr sc q h.0 u a
     children (And s rest) fr sc q h u (inr a) = children rest fr sc (after p q s + 1) h.2 u a
 
-    each : (arms : Arms) (fr : Bool) (sc : List Scope) (q end : ℕ) → ArmsAt p moves shares Is HasTable HasText hush fr sc q arms end → (u : Use) → In_arms arms u → D sc u
+    each : (arms : Arms) (fr : Bool) (sc : List Scope) (q end : ℕ)
+        → ArmsAt p moves shares Is HasTable HasText hush fr sc q arms end → (u : Use) → In_arms arms u → D sc u
     each NoArm fr sc q end h u a = absurd a
     each (Or (On ms s) rest) fr sc q end h u (inl a) = stmt s fr sc q h.0 u a
     each (Or (On ms s) rest) fr sc q end h u (inr a) = each rest fr sc (after p q s + 1) end h.2 u a
@@ -186,7 +222,8 @@ module _ (p : Program) (free : IsFreeOfInterference p) (moves shares : Stmt → 
 no_index_scope : (p : Program) (n : ℕ) (c : Option ℕ) (x up : ℕ) → level (is_index x) (scopes_by p n c) ≡ Some up → ⊥
 no_index_scope p zero c x up e = absurd (cc e)
 no_index_scope p (suc n) None x up e = absurd (cc e)
-no_index_scope p (suc n) (Some c) x up e = go (level (is_index x) (scopes_by p n (parent_of (slice_get p.blocks c)))) (λ k d. no_index_scope p n (parent_of (slice_get p.blocks c)) x k d) e
+no_index_scope p (suc n) (Some c) x up e = go (level (is_index x) (scopes_by p n (parent_of (slice_get p.blocks c))))
+    (λ k d. no_index_scope p n (parent_of (slice_get p.blocks c)) x k d) e
   where
     go : (l : Option ℕ) → ((k : ℕ) → l ≡ Some k → ⊥) → one_more l ≡ Some up → ⊥
     go None ih e = absurd (cc e)
@@ -194,28 +231,46 @@ no_index_scope p (suc n) (Some c) x up e = go (level (is_index x) (scopes_by p n
 
 -- a variable that a statement uses is declared, and an index is used by the statement itself and in scope
 abbrev pub IsScoped : Program → List Scope → Stmt → Type 0
-IsScoped p sc st = (y : ℕ) → IsUsed p (In_stmt st) y → (v : Variable) × (slice_get p.variables y ≡ Some v) × (v.role ≡ role.Index → In_stmt st (Seen y) × ((up : ℕ) × (level (is_index y) sc ≡ Some up)))
+IsScoped p sc st = (y : ℕ) → IsUsed p (In_stmt st) y → (v : Variable) × (slice_get p.variables y ≡ Some v)
+    × (v.role ≡ role.Index → In_stmt st (Seen y) × ((up : ℕ) × (level (is_index y) sc ≡ Some up)))
 
 module _ (G : Ground) where
   -- what is seen by a path of calls
-  seen : {Here : Use → Type 0} (sc : List Scope) (direct : (u : Use) → Here u → Direct G.g.program sc u) (bs : List ℕ) (y : ℕ) → Reach G.g.program Here bs (Seen y)
-      → (v : Variable) × (slice_get G.g.program.variables y ≡ Some v) × (v.role ≡ role.Index → Here (Seen y) × ((up : ℕ) × (level (is_index y) sc ≡ Some up)))
+  seen : {Here : Use → Type 0} (sc : List Scope) (direct : (u : Use) → Here u → Direct G.g.program sc u) (bs : List ℕ)
+      (y : ℕ) → Reach G.g.program Here bs (Seen y)
+      → (v : Variable) × (slice_get G.g.program.variables y ≡ Some v)
+      × (v.role ≡ role.Index → Here (Seen y) × ((up : ℕ) × (level (is_index y) sc ≡ Some up)))
   seen {Here = Here} sc direct [] y r = let d = direct (Seen y) r in (d.0, d.1, λ iv. (r, d.2 iv))
   seen {Here = Here} sc direct (b ∷ bs) y r =
       let z = G.blocks b r.2 r.3 in
-      let w = seen {Here = λ a. In_stmt r.2.body a} (scopes_of G.g.program b) (λ u a. stmt G.g.program G.free G.moves G.shares (Stands G.code) (HasFork G.code) (HasWords G.code) G.hush r.2.body true (scopes_of G.g.program b) z.layout.entry (z.stands.body true tt) u a) bs y r.5 in
-      (w.0, w.1, λ iv. (let k = w.2 iv in absurd (no_index_scope G.g.program (length G.g.program.blocks) (Some b) y k.1.0 k.1.1)))
+      let w = seen {Here = λ a. In_stmt r.2.body a} (scopes_of G.g.program b)
+      (λ u a. stmt G.g.program G.free G.moves G.shares (Stands G.code) (HasFork G.code) (HasWords G.code) G.hush
+      r.2.body true (scopes_of G.g.program b) z.layout.entry (z.stands.body true tt) u a) bs y r.5 in (
+        w.0,
+        w.1,
+        λ iv. (let k = w.2 iv in absurd
+            (no_index_scope G.g.program (length G.g.program.blocks) (Some b) y k.1.0 k.1.1)),
+      )
 
-  pub is_scoped : (fr : Bool) (sc : List Scope) (q : ℕ) (st : Stmt) → StandsAt G.g.program G.moves G.shares (Stands G.code) (HasFork G.code) (HasWords G.code) G.hush fr sc q st → ((u : Use) → In_stmt st u → IsFormedUse G.g.program u) → IsScoped G.g.program sc st
-  is_scoped fr sc q st h formed y (inl a) = let f = reached_formed G a.0 formed (Target y) a.1 in (f.0, f.1, λ iv. absurd (f.2 iv))
-  is_scoped fr sc q st h formed y (inr a) = seen sc (λ u b. stmt G.g.program G.free G.moves G.shares (Stands G.code) (HasFork G.code) (HasWords G.code) G.hush st fr sc q h u b) a.0 y a.1
+  pub is_scoped : (fr : Bool) (sc : List Scope) (q : ℕ) (st : Stmt)
+      → StandsAt G.g.program G.moves G.shares (Stands G.code) (HasFork G.code) (HasWords G.code) G.hush fr sc q st
+      → ((u : Use) → In_stmt st u → IsFormedUse G.g.program u) → IsScoped G.g.program sc st
+  is_scoped fr sc q st h formed y (inl a) = let f = reached_formed G a.0 formed (Target y) a.1 in
+      (f.0, f.1, λ iv. absurd (f.2 iv))
+  is_scoped fr sc q st h formed y (inr a) = seen sc
+      (λ u b. stmt G.g.program G.free G.moves G.shares (Stands G.code) (HasFork G.code) (HasWords G.code) G.hush st fr
+      sc q h u b) a.0 y a.1
 
   -- of all children of a parallel statement
-  pub parts_scoped : (fr : Bool) (sc : List Scope) (q : ℕ) (ss : Stmts) → ChildrenAt G.g.program G.moves G.shares (Stands G.code) (HasFork G.code) (HasWords G.code) G.hush fr sc q ss → ((u : Use) → In_stmt (Parallel ss) u → IsFormedUse G.g.program u) → IsScoped G.g.program sc (Parallel ss)
-  parts_scoped fr sc q ss h formed y (inl a) = let f = reached_formed G a.0 formed (Target y) a.1 in (f.0, f.1, λ iv. absurd (f.2 iv))
+  pub parts_scoped : (fr : Bool) (sc : List Scope) (q : ℕ) (ss : Stmts)
+      → ChildrenAt G.g.program G.moves G.shares (Stands G.code) (HasFork G.code) (HasWords G.code) G.hush fr sc q ss
+      → ((u : Use) → In_stmt (Parallel ss) u → IsFormedUse G.g.program u) → IsScoped G.g.program sc (Parallel ss)
+  parts_scoped fr sc q ss h formed y (inl a) = let f = reached_formed G a.0 formed (Target y) a.1 in
+      (f.0, f.1, λ iv. absurd (f.2 iv))
   parts_scoped fr sc q ss h formed y (inr a) = seen sc direct a.0 y a.1
     where
       direct : (u : Use) → In_stmt (Parallel ss) u → Direct G.g.program sc u
       direct u (inl b) = subst (λ k. Direct G.g.program sc k) (sym b) tt
-      direct u (inr (inl b)) = children G.g.program G.free G.moves G.shares (Stands G.code) (HasFork G.code) (HasWords G.code) G.hush ss fr sc q h u b
+      direct u (inr (inl b)) = children G.g.program G.free G.moves G.shares (Stands G.code) (HasFork G.code)
+          (HasWords G.code) G.hush ss fr sc q h u b
       direct u (inr (inr b)) = subst (λ k. Direct G.g.program sc k) (sym b) tt

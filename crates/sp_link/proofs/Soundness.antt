@@ -30,14 +30,16 @@ use Rattle.sp_link.proofs.Theorem.{linked_along}
 use Rattle.sp_link.proofs.TurnsSafe.{turn_safe}
 
 -- of a system that is linked
-system_well : (G : Ground) (lv : Lives G) (c : Course) (s : StateOf G.g) (u : System Plain) → IsRanked G.code.instrs → Linked G lv c s u → IsSafeSystem (run_is G) u
+system_well : (G : Ground) (lv : Lives G) (c : Course) (s : StateOf G.g) (u : System Plain) → IsRanked G.code.instrs
+    → Linked G lv c s u → IsSafeSystem (run_is G) u
 system_well G lv c s u ranked l = record {
   turns = λ q d at. turn_safe G lv c s u l q d at;
   ranks = λ q d at. ranked_along (ops G) G.code ranked d;
   forks = λ q tb n val d st. can_split G lv c s u l st.quiet q st.at st.runs tb val n d st.turn;
   ends = λ q left b d e st born joins. can_join G lv c s u l st.quiet q st.at st.runs b born left e joins d st.turn;
   sends = λ q w ch k j a cells d e st p waits. put_by_send G lv c s u l st.quiet q w ch k j a cells d e st p waits;
-  receives = λ q w ch k j a cells d e st p waits. put_by_receive G lv c s u l st.quiet q w ch k j a cells d e st p waits;
+  receives = λ q w ch k j a cells d e st p waits. put_by_receive G lv c s u l st.quiet q w ch k j a cells d e st p
+      waits;
 }
 
 module _ (g : Setting) (moves shares : Stmt → List ℕ) (pause : ℕ) (ready : IsReady g moves shares) where
@@ -50,16 +52,32 @@ module _ (g : Setting) (moves shares : Stmt → List ℕ) (pause : ℕ) (ready :
 
   pub program_well : (es : List Entry) (s : System Plain) → IsSystem plain run es s → IsSafeSystem run s
   program_well es s h =
-      let z = linked_along (ground g moves shares pause ready es (names_on es s h)) ready.main ready.first es (names_on es s h) refl s h in
-      system_well (at_open (ground g moves shares pause ready es (names_on es s h)) s.births.channels) z.lives z.course z.state s (program_ranked g.program moves shares) z.linked
+      let z = linked_along (ground g moves shares pause ready es (names_on es s h)) ready.main ready.first es
+      (names_on es s h) refl s h in
+      system_well (at_open (ground g moves shares pause ready es (names_on es s h)) s.births.channels) z.lives z.course
+      z.state s (program_ranked g.program moves shares) z.linked
 
 -- with any input and limits
-at_run : (g : Setting) (moves shares : Stmt → List ℕ) → IsReady g moves shares → (input : List ℕ) (lim : Limits) → AreLimits lim → IsReady (record g { input = input; limits = lim }) moves shares
-at_run g moves shares r input lim l = record { main = r.main; first = r.first; formed = r.formed; small = r.small; free = r.free; pure = r.pure; values = r.values; fine = r.fine; sets = r.sets; limits = l }
+at_run : (g : Setting) (moves shares : Stmt → List ℕ) → IsReady g moves shares → (input : List ℕ) (lim : Limits)
+    → AreLimits lim → IsReady (record g { input = input; limits = lim }) moves shares
+at_run g moves shares r input lim l = record {
+  main = r.main;
+  first = r.first;
+  formed = r.formed;
+  small = r.small;
+  free = r.free;
+  pure = r.pure;
+  values = r.values;
+  fine = r.fine;
+  sets = r.sets;
+  limits = l;
+}
 
-pub program_sound : (g : Setting) (moves shares : Stmt → List ℕ) → IsReady g moves shares → IsSound (program_code g.program moves shares)
+pub program_sound : (g : Setting) (moves shares : Stmt → List ℕ) → IsReady g moves shares
+    → IsSound (program_code g.program moves shares)
 program_sound g moves shares r = record {
   blocks = distinct_blocks g.program 0 0 g.program.blocks;
   formals = have_formals g.program r.formed moves shares;
-  safe = λ input lim l es s h. program_well (record g { input = input; limits = lim }) moves shares TURN_TICKS (at_run g moves shares r input lim l) es s h;
+  safe = λ input lim l es s h. program_well (record g { input = input; limits = lim }) moves shares TURN_TICKS
+      (at_run g moves shares r input lim l) es s h;
 }

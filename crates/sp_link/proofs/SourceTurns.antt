@@ -1,7 +1,8 @@
 -- The run of a turn of one process, as the simulation of its code has it, is its local steps in the state of the
 -- meaning: up to the moment at which it is due (`Pauses`), or to its next kernel step (`Comes_to`). `P` is what local
 -- steps keep.
-use Rattle.std.proofs.Common.{◌≡◌, ◌⊎◌, inl, inr, ℕ, zero, suc, ◌+◌, List, Some, None, Bool, true, false, ◌&&◌, if◌then◌else◌, refl, sym, ap, ◌∙◌, subst}
+use Rattle.std.proofs.Common.{◌≡◌, ◌⊎◌, inl, inr, ℕ, zero, suc, ◌+◌, List, Some, None, Bool, true, false, ◌&&◌}
+use Rattle.std.proofs.Common.{if◌then◌else◌, refl, sym, ap, ◌∙◌, subst}
 use Rattle.std.specs.Prelude.{◌≢◌, nat_le}
 use Rattle.sp_meaning.specs.Model.{Name, Works}
 use Rattle.sp_meaning.specs.Asking.{answer, put_by}
@@ -23,7 +24,9 @@ use Rattle.sp_codegen.specs.Meets.{due_after}
 
 -- P: what local steps keep
 module _ (g : Setting) (q : Name) (pause since : ℕ) (P : Process → Store → Type 0)
-    (keeps : (pr : Process) (s : Store) → P pr s → (todo : List Item) (o : Own) (m : Store) (d : Deed) → ◌≡◌ {A = Came Deed × Store} (answer same_loc (deed_of g pr) s) (Got d o, m) → (d ≡ Stepped todo) ⊎ (d ≡ Ticked todo) → P (with_todo todo pr.who o) m) where
+    (keeps : (pr : Process) (s : Store) → P pr s → (todo : List Item) (o : Own) (m : Store) (d : Deed)
+    → ◌≡◌ {A = Came Deed × Store} (answer same_loc (deed_of g pr) s) (Got d o, m) → (d ≡ Stepped todo)
+    ⊎ (d ≡ Ticked todo) → P (with_todo todo pr.who o) m) where
   abbrev is_due : Own → Bool
   is_due o = due_after since pause o
 
@@ -39,10 +42,22 @@ module _ (g : Setting) (q : Name) (pause since : ℕ) (P : Process → Store →
   nowhere s = record { condition = λ r d. refl; forks = refl; pending = refl; totals = refl; fault = refl }
 
   pub elsewhere_on : {s t u : StateOf g} → Elsewhere s t → Elsewhere t u → Elsewhere s u
-  elsewhere_on a b = record { condition = λ r d. b.condition r d ∙ a.condition r d; forks = b.forks ∙ a.forks; pending = b.pending ∙ a.pending; totals = b.totals ∙ a.totals; fault = b.fault ∙ a.fault }
+  elsewhere_on a b = record {
+    condition = λ r d. b.condition r d ∙ a.condition r d;
+    forks = b.forks ∙ a.forks;
+    pending = b.pending ∙ a.pending;
+    totals = b.totals ∙ a.totals;
+    fault = b.fault ∙ a.fault;
+  }
 
   moved_elsewhere : (s : StateOf g) (pr : Process) (m : Store) → Elsewhere s (moved g s q pr m)
-  moved_elsewhere s pr m = record { condition = λ r d. at_other name_test s.condition q r (Works pr) (λ e. d (sym e)); forks = refl; pending = refl; totals = refl; fault = refl }
+  moved_elsewhere s pr m = record {
+    condition = λ r d. at_other name_test s.condition q r (Works pr) (λ e. d (sym e));
+    forks = refl;
+    pending = refl;
+    totals = refl;
+    fault = refl;
+  }
 
   moved_runs : (s : StateOf g) (pr : Process) (m : Store) → running g (moved g s q pr m) q ≡ Some pr
   moved_runs s pr m = ap (λ c. working_in (moved g s q pr m).condition q c) (at_same name_test s.condition q (Works pr))
@@ -81,9 +96,13 @@ module _ (g : Setting) (q : Name) (pause since : ℕ) (P : Process → Store →
   Outcome s pr (Long, m) = Unit {0}
 
   -- a local step says nothing
-  says_none : (s : StateOf g) (pr : Process) (todo : List Item) (o : Own) (m : Store) (d : Deed) → ◌≡◌ {A = Came Deed × Store} (answer same_loc (deed_of g pr) s.store) (Got d o, m) → (d ≡ Stepped todo) ⊎ (d ≡ Ticked todo) → says g s q pr ≡ None
+  says_none : (s : StateOf g) (pr : Process) (todo : List Item) (o : Own) (m : Store) (d : Deed)
+      → ◌≡◌ {A = Came Deed × Store} (answer same_loc (deed_of g pr) s.store) (Got d o, m) → (d ≡ Stepped todo)
+      ⊎ (d ≡ Ticked todo) → says g s q pr ≡ None
   says_none s pr todo o m d e k =
-      ap (λ (a : ActOf (superpascal g)). said_of a (outcome (most g) s q a)) (next_is g pr s.store ∙ ap (λ (x : Came Deed × Store). act_of pr.who x.0 (put_by same_loc (asks g pr) s.store)) e) ∙ by k
+      ap (λ (a : ActOf (superpascal g)). said_of a (outcome (most g) s q a))
+      (next_is g pr s.store ∙ ap (λ (x : Came Deed × Store). act_of pr.who x.0
+      (put_by same_loc (asks g pr) s.store)) e) ∙ by k
     where
       act : Deed → ActOf (superpascal g)
       act x = act_of pr.who (Got x o) (put_by same_loc (asks g pr) s.store)
@@ -93,9 +112,13 @@ module _ (g : Setting) (q : Name) (pause since : ℕ) (P : Process → Store →
       by (inr h) = ap (λ x. said_of (act x) (outcome (most g) s q (act x))) h
 
   -- one step in front
-  front : (s : StateOf g) (pr : Process) → running g s q ≡ Some pr → (todo : List Item) (o : Own) (m : Store) (d : Deed) → ◌≡◌ {A = Came Deed × Store} (answer same_loc (deed_of g pr) s.store) (Got d o, m) → (d ≡ Stepped todo) ⊎ (d ≡ Ticked todo)
+  front : (s : StateOf g) (pr : Process) → running g s q ≡ Some pr → (todo : List Item) (o : Own) (m : Store) (d : Deed)
+      → ◌≡◌ {A = Came Deed × Store} (answer same_loc (deed_of g pr) s.store) (Got d o, m) → (d ≡ Stepped todo)
+      ⊎ (d ≡ Ticked todo)
       → next g s q ≡ Some (moved g s q (with_todo todo pr.who o) m) → (b : Bool) → is_beat (Got d o) && is_due o ≡ b
-      → (n : ℕ) (at : StateOf g) (paused : Bool) → Either b ((n ≡ 0) × (at ≡ moved g s q (with_todo todo pr.who o) m) × (paused ≡ true)) (Turn g pause since q n (moved g s q (with_todo todo pr.who o) m) at paused)
+      → (n : ℕ) (at : StateOf g) (paused : Bool)
+      → Either b ((n ≡ 0) × (at ≡ moved g s q (with_todo todo pr.who o) m) × (paused ≡ true))
+      (Turn g pause since q n (moved g s q (with_todo todo pr.who o) m) at paused)
       → Turn g pause since q (suc n) s at paused
   front s pr e todo o m d er k st b eb n at paused h = (
     pr,
@@ -103,40 +126,93 @@ module _ (g : Setting) (q : Name) (pause since : ℕ) (P : Process → Store →
     says_none s pr todo o m d er k,
     moved g s q (with_todo todo pr.who o) m,
     st,
-    subst (λ z. Either z ((n ≡ 0) × (at ≡ moved g s q (with_todo todo pr.who o) m) × (paused ≡ true)) (Turn g pause since q n (moved g s q (with_todo todo pr.who o) m) at paused)) (sym due_is) h,
+    subst (λ z. Either z ((n ≡ 0) × (at ≡ moved g s q (with_todo todo pr.who o) m) × (paused ≡ true))
+        (Turn g pause since q n (moved g s q (with_todo todo pr.who o) m) at paused)) (sym due_is) h,
   )
     where
       due_is : due g pause since s pr q (moved g s q (with_todo todo pr.who o) m) ≡ b
-      due_is = ap (λ (x : Came Deed × Store). is_beat x.0 && nat_le (since + pause) (ticks_of g (moved g s q (with_todo todo pr.who o) m) q)) er
+      due_is = ap (λ (x : Came Deed × Store). is_beat x.0
+          && nat_le (since + pause) (ticks_of g (moved g s q (with_todo todo pr.who o) m) q)) er
           ∙ ap (λ z. is_beat (Got d o) && nat_le (since + pause) z) (moved_ticks s (with_todo todo pr.who o) m) ∙ eb
 
   -- a step that does not end the turn
-  after : (s : StateOf g) (pr : Process) → running g s q ≡ Some pr → (todo : List Item) (o : Own) (m : Store) (d : Deed) → ◌≡◌ {A = Came Deed × Store} (answer same_loc (deed_of g pr) s.store) (Got d o, m) → (d ≡ Stepped todo) ⊎ (d ≡ Ticked todo)
+  after : (s : StateOf g) (pr : Process) → running g s q ≡ Some pr → (todo : List Item) (o : Own) (m : Store) (d : Deed)
+      → ◌≡◌ {A = Came Deed × Store} (answer same_loc (deed_of g pr) s.store) (Got d o, m) → (d ≡ Stepped todo)
+      ⊎ (d ≡ Ticked todo)
       → next g s q ≡ Some (moved g s q (with_todo todo pr.who o) m) → is_beat (Got d o) && is_due o ≡ false
-      → (r : Came source.Stop × Store) → Outcome (moved g s q (with_todo todo pr.who o) m) (with_todo todo pr.who o) r → Outcome s pr r
+      → (r : Came source.Stop × Store) → Outcome (moved g s q (with_todo todo pr.who o) m) (with_todo todo pr.who o) r
+      → Outcome s pr r
   after s pr e todo o m d er k st eb (Got (source.Paused left) o1, m1) h =
-      record { steps = suc h.steps; at = h.at; elsewhere = elsewhere_on (moved_elsewhere s (with_todo todo pr.who o) m) h.elsewhere; runs = h.runs; condition = h.condition; store = h.store; good = h.good; turn = front s pr e todo o m d er k st false eb h.steps h.at true h.turn }
+      record {
+        steps = suc h.steps;
+        at = h.at;
+        elsewhere = elsewhere_on (moved_elsewhere s (with_todo todo pr.who o) m) h.elsewhere;
+        runs = h.runs;
+        condition = h.condition;
+        store = h.store;
+        good = h.good;
+        turn = front s pr e todo o m d er k st false eb h.steps h.at true h.turn;
+      }
   after s pr e todo o m d er k st eb (Got (source.Stops x) o1, m1) h =
-      record { steps = suc h.steps; at = h.at; left = h.left; elsewhere = elsewhere_on (moved_elsewhere s (with_todo todo pr.who o) m) h.elsewhere; runs = h.runs; who_is = h.who_is; good = h.good; does = h.does; turn = λ what y. front s pr e todo o m d er k st false eb h.steps h.at false (h.turn what y) }
+      record {
+        steps = suc h.steps;
+        at = h.at;
+        left = h.left;
+        elsewhere = elsewhere_on (moved_elsewhere s (with_todo todo pr.who o) m) h.elsewhere;
+        runs = h.runs;
+        who_is = h.who_is;
+        good = h.good;
+        does = h.does;
+        turn = λ what y. front s pr e todo o m d er k st false eb h.steps h.at false (h.turn what y);
+      }
   after s pr e todo o m d er k st eb (Bad f, m1) h =
-      record { steps = suc h.steps; at = h.at; left = h.left; elsewhere = elsewhere_on (moved_elsewhere s (with_todo todo pr.who o) m) h.elsewhere; runs = h.runs; who_is = h.who_is; good = h.good; does = h.does; turn = λ what y. front s pr e todo o m d er k st false eb h.steps h.at false (h.turn what y) }
+      record {
+        steps = suc h.steps;
+        at = h.at;
+        left = h.left;
+        elsewhere = elsewhere_on (moved_elsewhere s (with_todo todo pr.who o) m) h.elsewhere;
+        runs = h.runs;
+        who_is = h.who_is;
+        good = h.good;
+        does = h.does;
+        turn = λ what y. front s pr e todo o m d er k st false eb h.steps h.at false (h.turn what y);
+      }
   after s pr e todo o m d er k st eb (Lost, m1) h = tt
   after s pr e todo o m d er k st eb (Long, m1) h = tt
 
-  comes_now : (s : StateOf g) (pr : Process) → P pr s.store → running g s q ≡ Some pr → (r : Came Deed × Store) → ◌≡◌ {A = Came Deed × Store} (answer same_loc (deed_of g pr) s.store) r → Comes_to s pr r
-  comes_now s pr x e r er = record { good = x; steps = 0; at = s; left = pr; elsewhere = nowhere s; runs = e; who_is = refl; does = er; turn = λ what h. (refl, refl, pr, e, what, h) }
+  comes_now : (s : StateOf g) (pr : Process) → P pr s.store → running g s q ≡ Some pr → (r : Came Deed × Store)
+      → ◌≡◌ {A = Came Deed × Store} (answer same_loc (deed_of g pr) s.store) r → Comes_to s pr r
+  comes_now s pr x e r er = record {
+    good = x;
+    steps = 0;
+    at = s;
+    left = pr;
+    elsewhere = nowhere s;
+    runs = e;
+    who_is = refl;
+    does = er;
+    turn = λ what h. (refl, refl, pr, e, what, h);
+  }
 
   -- the run of a turn
-  pub turns : (k : ℕ) (s : StateOf g) (pr : Process) → P pr s.store → running g s q ≡ Some pr → Outcome s pr (run (source.turn g is_due k pr.todo) pr.who pr.own s.store)
+  pub turns : (k : ℕ) (s : StateOf g) (pr : Process) → P pr s.store → running g s q ≡ Some pr
+      → Outcome s pr (run (source.turn g is_due k pr.todo) pr.who pr.own s.store)
   turns zero s pr x e = tt
   turns (suc k) s pr x e =
-      subst (Outcome s pr) (sym (run_bind (source.one g is_due pr.todo) (source.onward g is_due (source.turn g is_due k)) pr.who pr.own s.store))
+      subst (Outcome s pr) (sym (run_bind (source.one g is_due pr.todo)
+      (source.onward g is_due (source.turn g is_due k)) pr.who pr.own s.store))
       (go (λ s1 pr1 y h. turns k s1 pr1 y h) (run (source.one g is_due pr.todo) pr.who pr.own s.store) refl)
     where
-      go : ((s1 : StateOf g) (pr1 : Process) → P pr1 s1.store → running g s1 q ≡ Some pr1 → Outcome s1 pr1 (run (source.turn g is_due k pr1.todo) pr1.who pr1.own s1.store)) → (r : Came Deed × Store) → ◌≡◌ {A = Came Deed × Store} (answer same_loc (deed_of g pr) s.store) r → Outcome s pr (then_run (source.onward g is_due (source.turn g is_due k)) pr.who r)
+      go : ((s1 : StateOf g) (pr1 : Process) → P pr1 s1.store → running g s1 q ≡ Some pr1
+          → Outcome s1 pr1 (run (source.turn g is_due k pr1.todo) pr1.who pr1.own s1.store)) → (r : Came Deed × Store)
+          → ◌≡◌ {A = Came Deed × Store} (answer same_loc (deed_of g pr) s.store) r
+          → Outcome s pr (then_run (source.onward g is_due (source.turn g is_due k)) pr.who r)
       go ih (Got (Stepped todo) o, m) er =
           let pr1 = with_todo todo pr.who o in
-          after s pr e todo o m (Stepped todo) er (inl refl) (local_step g s q pr todo o m e er) refl (run (source.turn g is_due k todo) pr.who o m) (ih (moved g s q pr1 m) pr1 (keeps pr s.store x todo o m (Stepped todo) er (inl refl)) (moved_runs s pr1 m))
+          after s pr e todo o m (Stepped todo) er (inl refl) (local_step g s q pr todo o m e er) refl
+          (run (source.turn g is_due k todo) pr.who o m)
+          (ih (moved g s q pr1 m) pr1 (keeps pr s.store x todo o m (Stepped todo) er (inl refl))
+          (moved_runs s pr1 m))
       go ih (Got (Ticked todo) o, m) er = by_due (is_due o) refl
         where
           pr1 : Process
@@ -145,7 +221,8 @@ module _ (g : Setting) (q : Name) (pause since : ℕ) (P : Process → Store →
           st : next g s q ≡ Some (moved g s q pr1 m)
           st = pausing_step g s q pr todo o m e er
 
-          by_due : (b : Bool) → is_due o ≡ b → Outcome s pr (run (if b then give (source.Paused todo) else source.turn g is_due k todo) pr.who o m)
+          by_due : (b : Bool) → is_due o ≡ b
+              → Outcome s pr (run (if b then give (source.Paused todo) else source.turn g is_due k todo) pr.who o m)
           by_due true eb = record {
             steps = 1;
             at = moved g s q pr1 m;
@@ -154,9 +231,13 @@ module _ (g : Setting) (q : Name) (pause since : ℕ) (P : Process → Store →
             condition = at_same name_test s.condition q (Works pr1);
             store = refl;
             good = keeps pr s.store x todo o m (Ticked todo) er (inr refl);
-            turn = front s pr e todo o m (Ticked todo) er (inr refl) st true eb 0 (moved g s q pr1 m) true (refl, refl, refl);
+            turn = front s pr e todo o m (Ticked todo) er (inr refl) st true eb 0 (moved g s q pr1 m) true
+                (refl, refl, refl);
           }
-          by_due false eb = after s pr e todo o m (Ticked todo) er (inr refl) st eb (run (source.turn g is_due k todo) pr.who o m) (ih (moved g s q pr1 m) pr1 (keeps pr s.store x todo o m (Ticked todo) er (inr refl)) (moved_runs s pr1 m))
+          by_due false eb = after s pr e todo o m (Ticked todo) er (inr refl) st eb
+              (run (source.turn g is_due k todo) pr.who o m)
+              (ih (moved g s q pr1 m) pr1 (keeps pr s.store x todo o m (Ticked todo) er (inr refl))
+              (moved_runs s pr1 m))
       go ih (Got (Opened todo) o, m) er = comes_now s pr x e (Got (Opened todo) o, m) er
       go ih (Got (Forked bs todo) o, m) er = comes_now s pr x e (Got (Forked bs todo) o, m) er
       go ih (Got (Offered c y cargo todo) o, m) er = comes_now s pr x e (Got (Offered c y cargo todo) o, m) er

@@ -1,7 +1,8 @@
 -- A parallel statement can be carried out: what it hands over is held, nothing is moved twice, and nothing that is
 -- moved is shared, since by the rules of interference no two of its processes share what one of them changes
 -- (`parallel_split`).
-use Rattle.std.proofs.Common.{◌≡◌, ◌⊎◌, inl, inr, ⊎_elim, ℕ, zero, suc, ◌+◌, ◌<◌, ℤ, List, ◌∷◌, length, Option, Some, None, true, refl, sym, ap, ◌∙◌, subst, arith}
+use Rattle.std.proofs.Common.{◌≡◌, ◌⊎◌, inl, inr, ⊎_elim, ℕ, zero, suc, ◌+◌, ◌<◌, ℤ, List, ◌∷◌, length, Option, Some}
+use Rattle.std.proofs.Common.{None, true, refl, sym, ap, ◌∙◌, subst, arith}
 use Rattle.std.specs.Prelude.{◌≢◌, IsSome, slice_get}
 use Rattle.std.specs.FinMap as fin
 use Rattle.std.proofs.lemmas.Option.{none-some}
@@ -39,7 +40,8 @@ use Rattle.sp_codegen.proofs.Born.{table_at}
 use Rattle.sp_codegen.proofs.Handed.{MovedStands, moved_stands, right_of, once}
 use Rattle.sp_codegen.proofs.Owners.{within_at}
 use Rattle.sp_link.proofs.ChildrenStand.{reached_formed, consoles}
-use Rattle.sp_code.proofs.Plans.{in_spots, spots_from, out_of, distinct_spots, moved_by, shared_by, distinct_plan, index_by}
+use Rattle.sp_code.proofs.Plans.{in_spots, spots_from, out_of, distinct_spots, moved_by, shared_by, distinct_plan}
+use Rattle.sp_code.proofs.Plans.{index_by}
 use Rattle.sp_link.proofs.Relation.{Ground, Life, Called, Named, Fresh, St}
 use Rattle.sp_link.proofs.Scoping.{parts_scoped}
 
@@ -61,21 +63,26 @@ bytes_held c bs e = subst (λ x. IsHeld x) (sym e) tt
 
 -- ---- uses of a part
 
-pub used_in : (p : Program) {Here Above : Use → Type 0} → ((u : Use) → Here u → Above u) → (x : ℕ) → IsUsed p Here x → IsUsed p Above x
+pub used_in : (p : Program) {Here Above : Use → Type 0} → ((u : Use) → Here u → Above u) → (x : ℕ) → IsUsed p Here x
+    → IsUsed p Above x
 used_in p i x (inl h) = inl (h.0, reach_part p i h.0 (Target x) h.1)
 used_in p i x (inr h) = inr (h.0, reach_part p i h.0 (Seen x) h.1)
 
-pub target_in : (p : Program) {Here Above : Use → Type 0} → ((u : Use) → Here u → Above u) → (x : ℕ) → IsTarget p Here x → IsTarget p Above x
+pub target_in : (p : Program) {Here Above : Use → Type 0} → ((u : Use) → Here u → Above u) → (x : ℕ) → IsTarget p Here x
+    → IsTarget p Above x
 target_in p i x h = (h.0, reach_part p i h.0 (Target x) h.1)
 
-pub inside : (ss : Stmts) (j : ℕ) (st : Stmt) → slice_get (list_of ss) j ≡ Some st → (u : Use) → In_stmt st u → In_stmts ss u
+pub inside : (ss : Stmts) (j : ℕ) (st : Stmt) → slice_get (list_of ss) j ≡ Some st → (u : Use) → In_stmt st u
+    → In_stmts ss u
 inside No j st e u a = absurd (cc e)
 inside (And s rest) zero st e u a = let same : s ≡ st = cc e in inl (subst (λ b. In_stmt b u) (sym same) a)
 inside (And s rest) (suc j) st e u a = inr (inside rest j st e u a)
 
 -- what one process changes no later one uses, and no later one changes what it uses
-parts_apart : (p : Program) (ss : Stmts) → KeepsI1 p ss → (j k : ℕ) (a b : Stmt) → j < k → slice_get (list_of ss) j ≡ Some a → slice_get (list_of ss) k ≡ Some b
-    → (x : ℕ) → (IsTarget p (In_stmt a) x → IsUsed p (In_stmt b) x → ⊥) × (IsUsed p (In_stmt a) x → IsTarget p (In_stmt b) x → ⊥)
+parts_apart : (p : Program) (ss : Stmts) → KeepsI1 p ss → (j k : ℕ) (a b : Stmt) → j < k
+    → slice_get (list_of ss) j ≡ Some a → slice_get (list_of ss) k ≡ Some b
+    → (x : ℕ) → (IsTarget p (In_stmt a) x → IsUsed p (In_stmt b) x → ⊥)
+    × (IsUsed p (In_stmt a) x → IsTarget p (In_stmt b) x → ⊥)
 parts_apart p No i j k a b lt e f x = absurd (cc e)
 parts_apart p (And s rest) i zero zero a b lt e f x = absurd (omega (arith, lt))
 parts_apart p (And s rest) i zero (suc k) a b lt e f x =
@@ -87,13 +94,16 @@ parts_apart p (And s rest) i (suc j) zero a b lt e f x = absurd (omega (arith, l
 parts_apart p (And s rest) i (suc j) (suc k) a b lt e f x = parts_apart p rest i.2 j k a b (omega (arith, lt)) e f x
 
 -- which statement and which table child j has
-table_of : (p : Program) (moves shares : Stmt → List ℕ) (ss : Stmts) (q j : ℕ) → j < length (children_tables p moves shares q ss)
-    → (st : Stmt) × (slice_get (list_of ss) j ≡ Some st) × (entry : ℕ) × (slice_get (children_tables p moves shares q ss) j ≡ Some (child_table p moves shares entry None st))
+table_of : (p : Program) (moves shares : Stmt → List ℕ) (ss : Stmts) (q j : ℕ)
+    → j < length (children_tables p moves shares q ss)
+    → (st : Stmt) × (slice_get (list_of ss) j ≡ Some st) × (entry : ℕ)
+    × (slice_get (children_tables p moves shares q ss) j ≡ Some (child_table p moves shares entry None st))
 table_of p moves shares No q j lt = absurd (omega (arith, lt))
 table_of p moves shares (And s rest) q zero lt = (s, refl, q, refl)
 table_of p moves shares (And s rest) q (suc j) lt = table_of p moves shares rest (after p q s + 1) j (omega (arith, lt))
 
-same_role : (i v : Variable) → Some i ≡ Some v → i.role ≡ Rattle.sp_tree.specs.declared.checked.Role.TheVariants.Index → v.role ≡ Rattle.sp_tree.specs.declared.checked.Role.TheVariants.Index
+same_role : (i v : Variable) → Some i ≡ Some v → i.role ≡ Rattle.sp_tree.specs.declared.checked.Role.TheVariants.Index
+    → v.role ≡ Rattle.sp_tree.specs.declared.checked.Role.TheVariants.Index
 same_role i v e h = let same : i ≡ v = cc e in ap (λ (y : Variable). y.role) (sym same) ∙ h
 
 abbrev cons : ℕ × ℕ → Name → Name
@@ -106,8 +116,11 @@ module _ (G : Ground) (lf : Life) (kids : ℕ → ℕ → Life) (q : Name) where
   abbrev Rd : Loc → Type 0
   Rd l = Mine q l ⊎ lf.R l
 
-  module _ (f : Fresh G lf kids q) {w : Who} {since : ℕ} {js : List Joint} {o : Own} {s : Store} {n : Memory Plain} (t : St G lf kids q w since js o s n)
-      (ss : Stmts) (sc : List Scope) (pl : Placed G.g Wr Rd lf.J sc js (In_stmt (Parallel ss))) (first : ℕ) (stand : ChildrenAt G.g.program G.moves G.shares (StandsIn G.code) (HasFork G.code) (HasWords G.code) G.hush true sc first ss) (value : ℤ) where
+  module _ (f : Fresh G lf kids q) {w : Who} {since : ℕ} {js : List Joint} {o : Own} {s : Store} {n : Memory Plain}
+      (t : St G lf kids q w since js o s n)
+      (ss : Stmts) (sc : List Scope) (pl : Placed G.g Wr Rd lf.J sc js (In_stmt (Parallel ss))) (first : ℕ)
+      (stand : ChildrenAt G.g.program G.moves G.shares (StandsIn G.code) (HasFork G.code) (HasWords G.code) G.hush
+      true sc first ss) (value : ℤ) where
     abbrev p : Program
     p = G.g.program
 
@@ -122,7 +135,8 @@ module _ (G : Ground) (lf : Life) (kids : ℕ → ℕ → Life) (q : Name) where
     child = cons (0, 0) w.name
 
     new_name : (h : ℕ) (j : Joint) (rest : List Joint) → from (suc h) js ≡ j ∷ rest → j.source.owner ≡ child → ⊥
-    new_name h j rest e i = let a = within_at (length w.name) (suc h) js j rest t.owners e in let b = ap (λ (z : Name). length z) i in omega (arith, a, b)
+    new_name h j rest e i = let a = within_at (length w.name) (suc h) js j rest t.owners e in
+        let b = ap (λ (z : Name). length z) i in omega (arith, a, b)
 
     unread : IsUsed p (In_stmt whole) 1 → IsTarget p (In_stmt whole) 1
     unread (inl a) = a
@@ -132,26 +146,45 @@ module _ (G : Ground) (lf : Life) (kids : ℕ → ℕ → Life) (q : Name) where
     declared y a = let h = reached_formed G a.0 pl.formed (Target y) a.1 in (h.0, h.1)
 
     no_index_aimed : (y : ℕ) → IsIndexOf p y → IsTarget p (In_stmt whole) y → ⊥
-    no_index_aimed y i a = let h = reached_formed G a.0 pl.formed (Target y) a.1 in h.2 (same_role i.0 h.0 (sym i.1 ∙ h.1) i.2)
+    no_index_aimed y i a = let h = reached_formed G a.0 pl.formed (Target y) a.1 in
+        h.2 (same_role i.0 h.0 (sym i.1 ∙ h.1) i.2)
 
     -- two variables with one spot are one
-    one_used : (y z : ℕ) → IsTarget p (In_stmt whole) y → IsUsed p (In_stmt whole) z → (a : Spot) → spot_of G.code.layouts n.frames y ≡ Some a → spot_of G.code.layouts n.frames z ≡ Some a → y ≡ z
-    one_used y z ay az a e g = once G.g G.code w (Named G) (Called G) Wr Rd lf.J lf.low (length lf.below) lf.born since G.pause lf.moved G.formed G.laid G.free f.reads G.moves G.shares G.sets t whole pl.sound unread child new_name table refl refl value 0
-        (consoles G lf kids q) sc pl.chain (λ x up own b. pl.indexes x up b) (λ x b own. parts_scoped G true sc first ss stand pl.formed x b)
-        y z (inl ay) az (λ i. no_index_aimed y i ay) (none-some y) (none-some z) a (ap (λ fs. spot_of G.code.layouts fs y) (sym t.machine_frames) ∙ e) (ap (λ fs. spot_of G.code.layouts fs z) (sym t.machine_frames) ∙ g)
+    one_used : (y z : ℕ) → IsTarget p (In_stmt whole) y → IsUsed p (In_stmt whole) z → (a : Spot)
+        → spot_of G.code.layouts n.frames y ≡ Some a → spot_of G.code.layouts n.frames z ≡ Some a → y ≡ z
+    one_used y z ay az a e g = once G.g G.code w (Named G) (Called G) Wr Rd lf.J lf.low (length lf.below) lf.born since
+        G.pause lf.moved G.formed G.laid G.free f.reads G.moves G.shares G.sets t whole pl.sound unread child new_name
+        table refl refl value 0
+        (consoles G lf kids q) sc pl.chain (λ x up own b. pl.indexes x up b)
+        (λ x b own. parts_scoped G true sc first ss stand pl.formed x b)
+        y z (inl ay) az (λ i. no_index_aimed y i ay) (none-some y) (none-some z) a
+        (ap (λ fs. spot_of G.code.layouts fs y) (sym t.machine_frames) ∙ e)
+        (ap (λ fs. spot_of G.code.layouts fs z) (sym t.machine_frames) ∙ g)
 
-    right : (l : Loc) (y : ℕ) → IsUsed p (In_stmt whole) y → Rattle.sp_meaning.specs.Owning.stands p (sources js) y ≡ Some l → Rd l
-    right l y a e = right_of G.g G.code w (Named G) (Called G) Wr Rd lf.J lf.low (length lf.below) lf.born since G.pause lf.moved G.formed G.laid G.free f.reads G.moves G.shares G.sets t whole pl.sound unread child new_name table refl refl value 0 l y a e
+    right : (l : Loc) (y : ℕ) → IsUsed p (In_stmt whole) y
+        → Rattle.sp_meaning.specs.Owning.stands p (sources js) y ≡ Some l → Rd l
+    right l y a e = right_of G.g G.code w (Named G) (Called G) Wr Rd lf.J lf.low (length lf.below) lf.born since G.pause
+        lf.moved G.formed G.laid G.free f.reads G.moves G.shares G.sets t whole pl.sound unread child new_name table
+        refl refl value 0 l y a e
 
     -- what a part changes is held
-    changed_held : (y : ℕ) → IsTarget p (In_stmt whole) y → (a : Spot) → spot_of G.code.layouts n.frames y ≡ Some a → IsHeld (fin.get n.store.map a)
-    changed_held y ay a e = by (moved_stands G.g G.code w (Named G) (Called G) Wr Rd lf.J lf.low (length lf.below) lf.born since G.pause lf.moved G.formed G.laid G.free f.reads G.moves G.shares G.sets t whole pl.sound unread child new_name table refl refl value 0
-        (consoles G lf kids q) no_index_aimed declared a (in_spots G.code.layouts n.frames (G.moves whole) y a (G.sets.moved whole y ay) e))
+    changed_held : (y : ℕ) → IsTarget p (In_stmt whole) y → (a : Spot) → spot_of G.code.layouts n.frames y ≡ Some a
+        → IsHeld (fin.get n.store.map a)
+    changed_held y ay a e = by (moved_stands G.g G.code w (Named G) (Called G) Wr Rd lf.J lf.low (length lf.below)
+        lf.born since G.pause lf.moved G.formed G.laid G.free f.reads G.moves G.shares G.sets t whole pl.sound unread
+        child new_name table refl refl value 0
+        (consoles G lf kids q) no_index_aimed declared a
+        (in_spots G.code.layouts n.frames (G.moves whole) y a (G.sets.moved whole y ay) e))
       where
-        by : MovedStands G.g G.code w (Named G) (Called G) Wr Rd lf.J lf.low (length lf.below) lf.born since G.pause lf.moved G.formed G.laid G.free f.reads G.moves G.shares G.sets t whole pl.sound unread child new_name table refl refl value 0 a → IsHeld (fin.get n.store.map a)
-        by (inl b) = let z = t.position (right Input b.1.0 (inl b.1.1) b.1.2) in subst (λ c. IsHeld (fin.get n.store.map c)) (sym b.0) (cells_held _ _ z.2)
-        by (inr (inl b)) = let z = t.output (right Output b.1.0 (inl b.1.1) b.1.2) in subst (λ c. IsHeld (fin.get n.store.map c)) (sym b.0) (bytes_held _ _ z.2)
-        by (inr (inr b)) = let z = t.held b.0 b.1 b.2 b.3 b.5 in subst (λ c. IsHeld (fin.get n.store.map c)) (sym b.6) (cells_held _ _ z.piece)
+        by : MovedStands G.g G.code w (Named G) (Called G) Wr Rd lf.J lf.low (length lf.below) lf.born since G.pause
+            lf.moved G.formed G.laid G.free f.reads G.moves G.shares G.sets t whole pl.sound unread child new_name table
+            refl refl value 0 a → IsHeld (fin.get n.store.map a)
+        by (inl b) = let z = t.position (right Input b.1.0 (inl b.1.1) b.1.2) in
+            subst (λ c. IsHeld (fin.get n.store.map c)) (sym b.0) (cells_held _ _ z.2)
+        by (inr (inl b)) = let z = t.output (right Output b.1.0 (inl b.1.1) b.1.2) in
+            subst (λ c. IsHeld (fin.get n.store.map c)) (sym b.0) (bytes_held _ _ z.2)
+        by (inr (inr b)) = let z = t.held b.0 b.1 b.2 b.3 b.5 in
+            subst (λ c. IsHeld (fin.get n.store.map c)) (sym b.6) (cells_held _ _ z.piece)
 
     -- ---- the plan
 
@@ -171,10 +204,19 @@ module _ (G : Ground) (lf : Life) (kids : ℕ → ℕ → Life) (q : Name) where
     abbrev IsPart : ℕ → Stmt → Type 0
     IsPart j st = slice_get (list_of ss) j ≡ Some st
 
-    part_of : (j : ℕ) → j < count → (st : Stmt) × IsPart j st × ((entry : ℕ) × (one j ≡ handing_of G.code.layouts n.frames value j (child_table p G.moves G.shares entry None st)))
+    part_of : (j : ℕ) → j < count → (st : Stmt) × IsPart j st
+        × ((entry : ℕ) × (one j ≡ handing_of G.code.layouts n.frames value j
+        (child_table p G.moves G.shares entry None st)))
     part_of j lt =
-        let c = table_of p G.moves G.shares ss first j lt in
-        (c.0, c.1, (c.2, ap (λ x. handing_of G.code.layouts n.frames value j (child_or x)) (table_at p G.moves G.shares ss first j ∙ c.3)))
+        let c = table_of p G.moves G.shares ss first j lt in (
+          c.0,
+          c.1,
+          (
+            c.2,
+            ap (λ x. handing_of G.code.layouts n.frames value j (child_or x))
+                (table_at p G.moves G.shares ss first j ∙ c.3),
+          ),
+        )
 
     aims : (j : ℕ) (st : Stmt) → IsPart j st → (x : ℕ) → IsTarget p (In_stmt st) x → IsTarget p (In_stmt whole) x
     aims j st e x h = target_in p (λ u a. inr (inl (inside ss j st e u a))) x h
@@ -184,10 +226,12 @@ module _ (G : Ground) (lf : Life) (kids : ℕ → ℕ → Life) (q : Name) where
 
     -- a spot that moves to child j, and one that it shares
     abbrev Changes : ℕ → Spot → Type 0
-    Changes j a = (st : Stmt) × IsPart j st × (y : ℕ) × IsTarget p (In_stmt st) y × IsMember y (G.moves st) × (spot_of G.code.layouts n.frames y ≡ Some a)
+    Changes j a = (st : Stmt) × IsPart j st × (y : ℕ) × IsTarget p (In_stmt st) y × IsMember y (G.moves st)
+        × (spot_of G.code.layouts n.frames y ≡ Some a)
 
     abbrev Uses : ℕ → Spot → Type 0
-    Uses j a = (st : Stmt) × IsPart j st × (y : ℕ) × IsUsed p (In_stmt st) y × IsMember y (G.shares st) × (spot_of G.code.layouts n.frames y ≡ Some a)
+    Uses j a = (st : Stmt) × IsPart j st × (y : ℕ) × IsUsed p (In_stmt st) y × IsMember y (G.shares st)
+        × (spot_of G.code.layouts n.frames y ≡ Some a)
 
     changes : (j : ℕ) → j < count → (a : Spot) → In a (one j).moved → Changes j a
     changes j lt a h =
@@ -211,7 +255,8 @@ module _ (G : Ground) (lf : Life) (kids : ℕ → ℕ → Life) (q : Name) where
     moves_apart : (j k : ℕ) (a : Spot) → j < k → Changes j a → Changes k a → ⊥
     moves_apart j k a lt c d =
         let y = one_used c.2 d.2 (aims j c.0 c.1 c.2 c.3) (inl (aims k d.0 d.1 d.2 d.3)) a c.5 d.5 in
-        (parts_apart p ss rules j k c.0 d.0 lt c.1 d.1 c.2).0 c.3 (inl (subst (λ x. IsTarget p (In_stmt d.0) x) (sym y) d.3))
+        (parts_apart p ss rules j k c.0 d.0 lt c.1 d.1 c.2).0 c.3
+        (inl (subst (λ x. IsTarget p (In_stmt d.0) x) (sym y) d.3))
 
     -- and none shares it
     unshared : (j k : ℕ) (a : Spot) → Changes j a → Uses k a → ⊥
@@ -225,18 +270,26 @@ module _ (G : Ground) (lf : Life) (kids : ℕ → ℕ → Life) (q : Name) where
         by y used (inr (inl lt)) = (parts_apart p ss rules k j d.0 c.0 lt d.1 c.1 c.2).1 used c.3
         by y used (inr (inr e)) =
             let same : c.0 ≡ d.0 = one_part k c.0 d.0 (subst (λ x. IsPart x c.0) e c.1) d.1 in
-            G.sets.apart d.0 c.2 (subst (λ x. IsMember c.2 (G.moves x)) same c.4) (subst (λ x. IsMember x (G.shares d.0)) (sym y) d.4)
+            G.sets.apart d.0 c.2 (subst (λ x. IsMember c.2 (G.moves x)) same c.4)
+            (subst (λ x. IsMember x (G.shares d.0)) (sym y) d.4)
 
     pub parallel_split : ((a : Spot) → In a (shared_of plan) → IsPiece (fin.get n.store.map a)) → CanSplit n.store plan
     parallel_split pieces = record {
-      held = λ a h. (let m = moved_by G.code.layouts n.frames tb value count a h in let c = changes m.0 m.1 a m.2 in changed_held c.2 (aims m.0 c.0 c.1 c.2 c.3) a c.5);
+      held = λ a h. (let m = moved_by G.code.layouts n.frames tb value count a h in let c = changes m.0 m.1 a m.2 in
+          changed_held c.2 (aims m.0 c.0 c.1 c.2 c.3) a c.5);
       pieces = pieces;
       distinct = distinct_plan G.code.layouts n.frames tb value count
-          (λ j lt. (let c = part_of j lt in subst (λ (x : Handing). IsDistinct x.moved) (sym c.2.1) (distinct_spots G.code.layouts n.frames (G.moves c.0) (G.sets.moved_once c.0)
-          (λ y z a i k e g. one_used y z (aims j c.0 c.1 y (G.sets.moved_only c.0 y i)) (inl (aims j c.0 c.1 z (G.sets.moved_only c.0 z k))) a e g))))
+          (λ j lt. (let c = part_of j lt in subst (λ (x : Handing). IsDistinct x.moved) (sym c.2.1)
+          (distinct_spots G.code.layouts n.frames (G.moves c.0) (G.sets.moved_once c.0)
+          (λ y z a i k e g. one_used y z (aims j c.0 c.1 y (G.sets.moved_only c.0 y i))
+          (inl (aims j c.0 c.1 z (G.sets.moved_only c.0 z k))) a e g))))
           (λ j k a l lt c d. moves_apart j k a l (changes j (omega (arith, l, lt)) a c) (changes k lt a d));
-      apart = λ a h. out_of a (shared_of plan) (λ i. (let m = moved_by G.code.layouts n.frames tb value count a h in let r = shared_by G.code.layouts n.frames tb value count a i in unshared m.0 r.0 a (changes m.0 m.1 a m.2) (shares_it r.0 r.1 a r.2)));
-      number = λ h. (let r = index_by G.code.layouts n.frames tb value count h in let c = part_of r.0 r.1 in absurd (no_index (one r.0).index (ap (λ (x : Handing). x.index) c.2.1) r.2));
+      apart = λ a h. out_of a (shared_of plan)
+          (λ i. (let m = moved_by G.code.layouts n.frames tb value count a h in
+          let r = shared_by G.code.layouts n.frames tb value count a i in
+          unshared m.0 r.0 a (changes m.0 m.1 a m.2) (shares_it r.0 r.1 a r.2)));
+      number = λ h. (let r = index_by G.code.layouts n.frames tb value count h in let c = part_of r.0 r.1 in
+          absurd (no_index (one r.0).index (ap (λ (x : Handing). x.index) c.2.1) r.2));
     }
       where
         no_index : (i : Option (ℕ × ℤ)) → i ≡ None → IsSome i → ⊥
@@ -244,7 +297,8 @@ module _ (G : Ground) (lf : Life) (kids : ℕ → ℕ → Life) (q : Name) where
         no_index (Some x) e h = absurd (cc e)
 
     -- and what moves to two children differs
-    pub parts_differ : (j k : ℕ) → j < count → k < count → j ≢ k → (a : Spot) → In a (one j).moved → In a (one k).moved → ⊥
+    pub parts_differ : (j k : ℕ) → j < count → k < count → j ≢ k → (a : Spot) → In a (one j).moved → In a (one k).moved
+        → ⊥
     parts_differ j k lj lk ne a h g = by (less_more_or_same j k)
       where
         by : (j < k) ⊎ ((k < j) ⊎ (j ≡ k)) → ⊥

@@ -26,27 +26,36 @@ use Rattle.sp_meaning.specs.Model.{Name, Ended}
 use Rattle.sp_link.proofs.Replay.{replays}
 use Rattle.sp_link.proofs.TurnsSafe.{turn_safe}
 
-module _ (G : Ground) (b : Block) (eb : slice_get G.g.program.blocks 0 ≡ Some b) (es : List Entry) (named : NameableFrom at_start es) (all : births_from at_start es ≡ G.births) where
+module _ (G : Ground) (b : Block) (eb : slice_get G.g.program.blocks 0 ≡ Some b) (es : List Entry)
+    (named : NameableFrom at_start es) (all : births_from at_start es ≡ G.births) where
   begun : Began G at_start
   begun = began G at_start lawful_start (subst (λ y. Grows at_start y) all (grows_from es at_start lawful_start named))
 
   -- with the relation at its end
-  pub linked_along : (t : System Plain) → IsSystem plain (run_is G) es t → Goes_along G no_course (start G.g) at_start es t
-  linked_along t h = system_is_meaning G (lives (at_open G 0) b eb begun) (opening_now G b eb begun) es t (all_began G es at_start lawful_start named all) h
+  pub linked_along : (t : System Plain) → IsSystem plain (run_is G) es t
+      → Goes_along G no_course (start G.g) at_start es t
+  linked_along t h = system_is_meaning G (lives (at_open G 0) b eb begun) (opening_now G b eb begun) es t
+      (all_began G es at_start lawful_start named all) h
 
-  pub meaning_of_system : (t : System Plain) → IsSystem plain (run_is G) es t → (n : ℕ) × (s : StateOf G.g) × IsAlong G.g G.pause (occurrences_from at_start es) n s
+  pub meaning_of_system : (t : System Plain) → IsSystem plain (run_is G) es t → (n : ℕ) × (s : StateOf G.g)
+      × IsAlong G.g G.pause (occurrences_from at_start es) n s
   meaning_of_system t h = let z = linked_along t h in (z.steps, z.state, z.along)
 
   -- each turn of the system after these entries is safe
-  pub turns_safe : (t : System Plain) → IsSystem plain (run_is G) es t → (i : ℕ) (d : Config (Memory Plain)) → t.condition i ≡ Working d → IsSafe (ops G) G.code d
-  turns_safe t h i d at = let z = linked_along t h in turn_safe (at_open G t.births.channels) z.lives z.course z.state t z.linked i d at
+  pub turns_safe : (t : System Plain) → IsSystem plain (run_is G) es t → (i : ℕ) (d : Config (Memory Plain))
+      → t.condition i ≡ Working d → IsSafe (ops G) G.code d
+  turns_safe t h i d at = let z = linked_along t h in
+      turn_safe (at_open G t.births.channels) z.lives z.course z.state t z.linked i d at
 
   -- and the other way round
-  pub system_of_meaning : (n : ℕ) (s : StateOf G.g) → IsAlong G.g G.pause (occurrences_from at_start es) n s → (t : System Plain) × IsSystem plain (run_is G) es t
-  system_of_meaning n s h = replays G es (lives (at_open G 0) b eb begun) no_course (start G.g) (opening plain (run_is G)) (opening_now G b eb begun) (all_began G es at_start lawful_start named all) named n s h
+  pub system_of_meaning : (n : ℕ) (s : StateOf G.g) → IsAlong G.g G.pause (occurrences_from at_start es) n s
+      → (t : System Plain) × IsSystem plain (run_is G) es t
+  system_of_meaning n s h = replays G es (lives (at_open G 0) b eb begun) no_course (start G.g)
+      (opening plain (run_is G)) (opening_now G b eb begun) (all_began G es at_start lawful_start named all) named n s h
 
   -- the state of the meaning that the relation has is the one along the journal
-  module _ (t : System Plain) (h : IsSystem plain (run_is G) es t) (n : ℕ) (s : StateOf G.g) (k : IsAlong G.g G.pause (occurrences_from at_start es) n s) where
+  module _ (t : System Plain) (h : IsSystem plain (run_is G) es t) (n : ℕ) (s : StateOf G.g)
+      (k : IsAlong G.g G.pause (occurrences_from at_start es) n s) where
     at_end : Goes_along G no_course (start G.g) at_start es t
     at_end = linked_along t h
 
@@ -55,15 +64,20 @@ module _ (G : Ground) (b : Block) (eb : slice_get G.g.program.blocks 0 ≡ Some 
 
     -- the same output
     pub output_same : OutputIs plain (run_is G) t (output_of G.g s)
-    output_same = subst (λ y. OutputIs plain (run_is G) t (output_of G.g y)) is_it (output_is (at_open G t.births.channels) at_end.lives at_end.course at_end.state t at_end.linked)
+    output_same = subst (λ y. OutputIs plain (run_is G) t (output_of G.g y)) is_it
+        (output_is (at_open G t.births.channels) at_end.lives at_end.course at_end.state t at_end.linked)
 
     -- done on both sides
     pub done_means : (d : Config (Memory Plain)) → t.condition 0 ≡ Over d → s.condition [] ≡ Ended
-    done_means d e = subst (λ (y : StateOf G.g). y.condition [] ≡ Ended) is_it (root_over (at_open G t.births.channels) at_end.lives at_end.course at_end.state t at_end.linked d e)
+    done_means d e = subst (λ (y : StateOf G.g). y.condition [] ≡ Ended) is_it
+        (root_over (at_open G t.births.channels) at_end.lives at_end.course at_end.state t at_end.linked d e)
 
     pub done_runs : s.condition [] ≡ Ended → (d : Config (Memory Plain)) × (t.condition 0 ≡ Over d)
-    done_runs e = done_there (at_open G t.births.channels) at_end.lives at_end.course at_end.state t at_end.linked (subst (λ (y : StateOf G.g). y.condition [] ≡ Ended) (sym is_it) e)
+    done_runs e = done_there (at_open G t.births.channels) at_end.lives at_end.course at_end.state t at_end.linked
+        (subst (λ (y : StateOf G.g). y.condition [] ≡ Ended) (sym is_it) e)
 
     -- nobody runs on both sides
-    pub idle_means : t.faulted ≡ false → ((i : ℕ) (d : Config (Memory Plain)) → t.condition i ≡ Working d → ⊥) → (q : Name) → running G.g s q ≡ None
-    idle_means quiet none q = subst (λ y. running G.g y q ≡ None) is_it (nobody (at_open G t.births.channels) at_end.lives at_end.course at_end.state t at_end.linked quiet none q)
+    pub idle_means : t.faulted ≡ false → ((i : ℕ) (d : Config (Memory Plain)) → t.condition i ≡ Working d → ⊥)
+        → (q : Name) → running G.g s q ≡ None
+    idle_means quiet none q = subst (λ y. running G.g y q ≡ None) is_it
+        (nobody (at_open G t.births.channels) at_end.lives at_end.course at_end.state t at_end.linked quiet none q)

@@ -36,14 +36,20 @@ use Rattle.sp_link.proofs.Relation.{Ground, Life, Stands, law, execution, ops}
 use Rattle.sp_link.proofs.SourceTurns.{Outcome, turns}
 
 -- what is known of every state is known after local steps
-pub turn_known : (g : Setting) (turn since : ℕ) (q : Name) (n : ℕ) (s t : StateOf g) (paused : Bool) → Known g s → Turn g turn since q n s t paused → Known g t
+pub turn_known : (g : Setting) (turn since : ℕ) (q : Name) (n : ℕ) (s t : StateOf g) (paused : Bool) → Known g s
+    → Turn g turn since q n s t paused → Known g t
 turn_known g turn since q zero s t paused k h = subst (Known g) (sym h.0) k
-turn_known g turn since q (suc n) s t paused k h = by (due g turn since s h.0 q h.3) h.5 (λ x. turn_known g turn since q n h.3 t paused after x)
+turn_known g turn since q (suc n) s t paused k h =
+    by (due g turn since s h.0 q h.3) h.5 (λ x. turn_known g turn since q n h.3 t paused after x)
   where
     after : Known g h.3
-    after = record { sound = step_sound (most g) s q h.3 k.sound h.4; well = lowered g (λ r. ticks_in (s.condition r)) h.3 (step_well g s k.sound q (raised g s k.well) h.3 h.4) }
+    after = record {
+      sound = step_sound (most g) s q h.3 k.sound h.4;
+      well = lowered g (λ r. ticks_in (s.condition r)) h.3 (step_well g s k.sound q (raised g s k.well) h.3 h.4);
+    }
 
-    by : (b : Bool) → Either b ((n ≡ 0) × (t ≡ h.3) × (paused ≡ true)) (Turn g turn since q n h.3 t paused) → (Turn g turn since q n h.3 t paused → Known g t) → Known g t
+    by : (b : Bool) → Either b ((n ≡ 0) × (t ≡ h.3) × (paused ≡ true)) (Turn g turn since q n h.3 t paused)
+        → (Turn g turn since q n h.3 t paused → Known g t) → Known g t
     by true x go = subst (Known g) (sym x.1) after
     by false x go = go x
 
@@ -71,16 +77,21 @@ module _ (G : Ground) (lf : Life) (kids : ℕ → ℕ → Life) (q : Name) (sinc
     pub stays : (l : Loc) → (s l ≡ s0 l) ⊎ Wr l
     pub pure : PureItems G.g.program pr.todo
 
-  module _ (s : StateOf G.g) (pr : Process) (d : Config (Memory Plain)) (z : Stands G lf kids q since pr s.store d) (runs : running G.g s q ≡ Some pr) (light : AllFit (weight_of G.g.program) pr.todo)
+  module _ (s : StateOf G.g) (pr : Process) (d : Config (Memory Plain)) (z : Stands G lf kids q since pr s.store d)
+      (runs : running G.g s q ≡ Some pr) (light : AllFit (weight_of G.g.program) pr.todo)
       (last : List Frame) (fit : Fit G.g.program Wr Rd last pr.own.frames pr.todo) where
     abbrev pub Keeps_it : Process → Store → Type 0
     Keeps_it p1 s1 = Keeps_right s.store last p1 s1
 
-    pub keeps : (p1 : Process) (s1 : Store) → Keeps_it p1 s1 → (todo : List Item) (o : Own) (m : Store) (e : Deed) → ◌≡◌ {A = Came Deed × Store} (answer same_loc (deed_of G.g p1) s1) (Got e o, m) → (e ≡ Stepped todo) ⊎ (e ≡ Ticked todo) → Keeps_it (with_todo todo p1.who o) m
+    pub keeps : (p1 : Process) (s1 : Store) → Keeps_it p1 s1 → (todo : List Item) (o : Own) (m : Store) (e : Deed)
+        → ◌≡◌ {A = Came Deed × Store} (answer same_loc (deed_of G.g p1) s1) (Got e o, m) → (e ≡ Stepped todo)
+        ⊎ (e ≡ Ticked todo) → Keeps_it (with_todo todo p1.who o) m
     keeps p1 s1 k todo o m e er w = record {
       named = k.named;
       fit = by w;
-      stays = stays_on G.g G.free q Wr Rd own_right z.fresh.reads dues s.store s1 m k.stays (subst (λ (x : Came Deed × Store). Stays G.g G.free q Wr Rd own_right z.fresh.reads dues s1 x.1) er (stored_within G.g G.free q Wr Rd own_right z.fresh.reads dues F (deed_of G.g p1) s1 within));
+      stays = stays_on G.g G.free q Wr Rd own_right z.fresh.reads dues s.store s1 m k.stays
+          (subst (λ (x : Came Deed × Store). Stays G.g G.free q Wr Rd own_right z.fresh.reads dues s1 x.1) er
+          (stored_within G.g G.free q Wr Rd own_right z.fresh.reads dues F (deed_of G.g p1) s1 within));
       pure = pure_kept G.g G.free G.pure (pure_blocks G) Wr Rd last p1 k.fit k.pure s1 e o m er todo w;
     }
       where
@@ -88,10 +99,12 @@ module _ (G : Ground) (lf : Life) (kids : ℕ → ℕ → Life) (q : Name) (sinc
         F x o1 = Fair G.g.program Wr Rd last x o1.frames
 
         within : Within Wr Rd F (deed_of G.g p1)
-        within = (deed_from G.g q Wr Rd own_right z.fresh.reads G.free (enough G.g p1.own) last p1.own.frames p1.todo k.fit).by p1.who p1.own k.named refl
+        within = (deed_from G.g q Wr Rd own_right z.fresh.reads G.free (enough G.g p1.own) last p1.own.frames p1.todo
+            k.fit).by p1.who p1.own k.named refl
 
         fair : Fair G.g.program Wr Rd last e o.frames
-        fair = subst (λ (x : Came Deed × Store). Result F x.0) er (result_within Wr Rd F (λ x. x) (deed_of G.g p1) s1 within)
+        fair = subst (λ (x : Came Deed × Store). Result F x.0) er
+            (result_within Wr Rd F (λ x. x) (deed_of G.g p1) s1 within)
 
         by : (e ≡ Stepped todo) ⊎ (e ≡ Ticked todo) → Fit G.g.program Wr Rd last o.frames todo
         by (inl x) = subst (λ y. Fair G.g.program Wr Rd last y o.frames) x fair
@@ -109,21 +122,25 @@ module _ (G : Ground) (lf : Life) (kids : ℕ → ℕ → Life) (q : Name) (sinc
       named = z.named;
       fit = fit;
       stays = λ l. inl refl;
-      pure = follows_pure (execution G lf kids q z.fresh pr.who z.named since) G.values lf.end [] lf.below z.pc z.stack z.js pr.todo z.follows;
+      pure = follows_pure (execution G lf kids q z.fresh pr.who z.named since) G.values lf.end [] lf.below z.pc z.stack
+          z.js pr.todo z.follows;
     }) runs
 
     abbrev pub Kept_of : Came source.Stop × Store → Type 0
     Kept_of r = Kept G.g G.free q Wr Rd own_right z.fresh.reads dues last s.store r
 
     pub kept : Kept_of result
-    kept = turn_keeps G.g G.free q Wr Rd own_right z.fresh.reads dues last (enough_turn G.g dues pr) pr.todo pr.who pr.own s.store z.named fit
+    kept = turn_keeps G.g G.free q Wr Rd own_right z.fresh.reads dues last (enough_turn G.g dues pr) pr.todo pr.who
+        pr.own s.store z.named fit
 
     -- and in the machine
     abbrev pub Turned_as : Came source.Stop × Store → Type 0
-    Turned_as r = Turned (execution G lf kids q z.fresh pr.who z.named since) (At z.pc z.stack z.memory) lf.end [] lf.below r
+    Turned_as r = Turned (execution G lf kids q z.fresh pr.who z.named since) (At z.pc z.stack z.memory) lf.end []
+        lf.below r
 
     pub turned : Turned_as result
-    turned = turn_meets (execution G lf kids q z.fresh pr.who z.named since) G.blocks lf.end [] lf.below z.fresh.ends refl (enough_turn G.g dues pr) pr.todo z.pc z.stack z.js pr.own s.store z.memory z.stand z.follows
+    turned = turn_meets (execution G lf kids q z.fresh pr.who z.named since) G.blocks lf.end [] lf.below z.fresh.ends
+        refl (enough_turn G.g dues pr) pr.todo z.pc z.stack z.js pr.own s.store z.memory z.stand z.follows
 
     at_end : (r : Came source.Stop × Store) → Over_now G.g dues r → Turned_as r → AtEnd r
     at_end (Got (source.Paused todo) o, m) e t = tt
@@ -143,11 +160,15 @@ module _ (G : Ground) (lf : Life) (kids : ℕ → ℕ → Life) (q : Name) (sinc
     -- so no instruction of it lacks what it needs
     pub safe : IsSafe (ops G) G.code d
     safe = subst (IsSafe (ops G) G.code) (sym z.is) (finishes_safe (ops G) G.code (At z.pc z.stack z.memory)
-        (turn_finishes (execution G lf kids q z.fresh pr.who z.named since) (At z.pc z.stack z.memory) lf.end [] lf.below result turned ends))
+        (turn_finishes (execution G lf kids q z.fresh pr.who z.named since) (At z.pc z.stack z.memory) lf.end []
+        lf.below result turned ends))
 
     fits_now : begins (ops G) G.code (At z.pc z.stack z.memory) ≡ true
     fits_now = (law G lf kids q z.fresh pr.who z.named since).fits z.stand
 
     -- a run of its instructions is a turn
-    pub is_turn : (t : Machine_turn (Memory Plain)) → Runs (ops G) G.code (At z.pc z.stack z.memory) t → IsTurn (ops G) G.code d t
-    is_turn t r = subst (λ c. IsTurn (ops G) G.code c t) (sym z.is) (subst (λ b. Begins b (At z.pc z.stack z.memory) t (Runs (ops G) G.code (At z.pc z.stack z.memory) t)) (sym fits_now) r)
+    pub is_turn : (t : Machine_turn (Memory Plain)) → Runs (ops G) G.code (At z.pc z.stack z.memory) t
+        → IsTurn (ops G) G.code d t
+    is_turn t r = subst (λ c. IsTurn (ops G) G.code c t) (sym z.is)
+        (subst (λ b. Begins b (At z.pc z.stack z.memory) t (Runs (ops G) G.code (At z.pc z.stack z.memory) t))
+        (sym fits_now) r)

@@ -28,15 +28,19 @@ module _ (G : Ground) (lv : Lives G) (c : Course) (s : StateOf G.g) (u : System 
   named_here ch j n = l.began.openings j (subst (λ y. j < y) l.open_is n.0) ∙ n.2
 
   -- what a process offers by its stop and by its cargo
-  module _ (i : ℕ) (lt : i < u.births.processes) (stop : Stop) (d : Config (Memory Plain)) (h : Performs_all G lv (G.births.name i) c s (u.births.opens i) (sys.Waits stop d)) where
+  module _ (i : ℕ) (lt : i < u.births.processes) (stop : Stop) (d : Config (Memory Plain))
+      (h : Performs_all G lv (G.births.name i) c s (u.births.opens i) (sys.Waits stop d)) where
     abbrev q : Name
     q = G.births.name i
 
     abbrev o : Offer Process Held Address
     o = h.0
 
-    offers_so : (g : Cargo Held Address) → Ca G (lv q) (λ a b. lv ((a, b) ∷ q)) q (h.2).fresh o.next.who (h.2).named (c.since q) (h.2).js o.channel o.kind g stop → waiting_at u.births i stop ≡ Some (record { who = q; way = way_of g; channel = o.channel })
-    offers_so (Message (Tree v)) x = ap (λ y. waiting_at u.births i y) x.2 ∙ ap (λ y. Some (waits y)) (l.began.names i lt) ∙ ap (λ y. Some (waits_on y)) (named_here o.channel x.0 x.3)
+    offers_so : (g : Cargo Held Address) → Ca G (lv q) (λ a b. lv ((a, b) ∷ q)) q (h.2).fresh o.next.who (h.2).named
+        (c.since q) (h.2).js o.channel o.kind g stop
+        → waiting_at u.births i stop ≡ Some (record { who = q; way = way_of g; channel = o.channel })
+    offers_so (Message (Tree v)) x = ap (λ y. waiting_at u.births i y) x.2
+        ∙ ap (λ y. Some (waits y)) (l.began.names i lt) ∙ ap (λ y. Some (waits_on y)) (named_here o.channel x.0 x.3)
       where
         waits : Name → Waiting
         waits y = record { who = y; way = way.Send; channel = channel u.births x.0 }
@@ -45,7 +49,8 @@ module _ (G : Ground) (lv : Lives G) (c : Course) (s : StateOf G.g) (u : System 
         waits_on y = record { who = q; way = way.Send; channel = y }
     offers_so (Message (Position n)) x = absurd x
     offers_so (Message (Written bs)) x = absurd x
-    offers_so (Takes a) x = ap (λ y. waiting_at u.births i y) x.2 ∙ ap (λ y. Some (waits y)) (l.began.names i lt) ∙ ap (λ y. Some (waits_on y)) (named_here o.channel x.0 x.3)
+    offers_so (Takes a) x = ap (λ y. waiting_at u.births i y) x.2 ∙ ap (λ y. Some (waits y)) (l.began.names i lt)
+        ∙ ap (λ y. Some (waits_on y)) (named_here o.channel x.0 x.3)
       where
         waits : Name → Waiting
         waits y = record { who = y; way = way.Receive; channel = channel u.births x.0 }
@@ -59,10 +64,16 @@ module _ (G : Ground) (lv : Lives G) (c : Course) (s : StateOf G.g) (u : System 
   pub waits_means : (w : Waiting) → WaitsAs u w → WaitsSo G.g s w
   waits_means w h =
       let lt = has_number G lv c s u l h.0 (sys.Waits h.1 h.2) h.3 (λ e. cc e) in
-      let x : Performs_all G lv (G.births.name h.0) c s (u.births.opens h.0) (sys.Waits h.1 h.2) = subst (λ y. Performs_all G lv (G.births.name h.0) c s (u.births.opens h.0) y) h.3 (l.does h.0 lt) in
-      let is : Some w ≡ Some (record { who = G.births.name h.0; way = way_of (x.0).cargo; channel = (x.0).channel }) = sym h.4 ∙ offers h.0 lt h.1 h.2 x in
-      let same = same_Some _ _ is in
-      (x.0, ap (λ (y : Waiting). s.condition y.who) same ∙ x.1, ap (λ (y : Waiting). y.way) same, ap (λ (y : Waiting). y.channel) same)
+      let x : Performs_all G lv (G.births.name h.0) c s (u.births.opens h.0) (sys.Waits h.1 h.2) =
+      subst (λ y. Performs_all G lv (G.births.name h.0) c s (u.births.opens h.0) y) h.3 (l.does h.0 lt) in
+      let is : Some w ≡ Some (record { who = G.births.name h.0; way = way_of (x.0).cargo; channel = (x.0).channel }) =
+      sym h.4 ∙ offers h.0 lt h.1 h.2 x in
+      let same = same_Some _ _ is in (
+        x.0,
+        ap (λ (y : Waiting). s.condition y.who) same ∙ x.1,
+        ap (λ (y : Waiting). y.way) same,
+        ap (λ (y : Waiting). y.channel) same,
+      )
 
   pub waits_runs : (w : Waiting) → WaitsSo G.g s w → WaitsAs u w
   waits_runs w h =
@@ -72,7 +83,8 @@ module _ (G : Ground) (lv : Lives G) (c : Course) (s : StateOf G.g) (u : System 
       present : ◌≡◌ {A = Condition Process Held Address} (Waits h.0) Absent → ⊥
       present e = cc e
 
-      works : {x : Condition Process Held Address} {pr : Process} (q : Name) → x ≡ Waits h.0 → working_in s.condition q x ≡ Some pr → ⊥
+      works : {x : Condition Process Held Address} {pr : Process} (q : Name) → x ≡ Waits h.0
+          → working_in s.condition q x ≡ Some pr → ⊥
       works q e r = none-some _ (sym (ap (working_in s.condition q) e) ∙ r)
 
       ended : ◌≡◌ {A = Condition Process Held Address} Ended (Waits h.0) → ⊥
@@ -84,12 +96,14 @@ module _ (G : Ground) (lv : Lives G) (c : Course) (s : StateOf G.g) (u : System 
       one : {x y : Offer Process Held Address} → ◌≡◌ {A = Condition Process Held Address} (Waits x) (Waits y) → x ≡ y
       one e = cc e
 
-      by : (i : ℕ) → i < u.births.processes → G.births.name i ≡ w.who → (X : sys.Condition Plain) → u.condition i ≡ X → Performs_all G lv (G.births.name i) c s (u.births.opens i) X → WaitsAs u w
+      by : (i : ℕ) → i < u.births.processes → G.births.name i ≡ w.who → (X : sys.Condition Plain) → u.condition i ≡ X
+          → Performs_all G lv (G.births.name i) c s (u.births.opens i) X → WaitsAs u w
       by i lt e sys.Absent k x = absurd x
       by i lt e (sys.Working d) k x = absurd (works (G.births.name i) (ap (λ y. s.condition y) e ∙ h.1) x.1)
       by i lt e (sys.Waits stop d) k x =
           let o : x.0 ≡ h.0 = one (sym x.1 ∙ ap (λ y. s.condition y) e ∙ h.1) in
-          let is : record { who = G.births.name i; way = way_of (x.0).cargo; channel = (x.0).channel } ≡ w = ap (λ (y : Offer Process Held Address). same (G.births.name i) y) o ∙ ap (λ y. same y h.0) e ∙ rest in
+          let is : record { who = G.births.name i; way = way_of (x.0).cargo; channel = (x.0).channel } ≡ w =
+          ap (λ (y : Offer Process Held Address). same (G.births.name i) y) o ∙ ap (λ y. same y h.0) e ∙ rest in
           (i, stop, d, k, offers i lt stop d x ∙ ap (λ y. Some y) is)
         where
           same : Name → Offer Process Held Address → Waiting

@@ -17,21 +17,25 @@ use Rattle.sp_link.proofs.Replay.{runs_there}
 
 module _ (G : Ground) (lv : Lives G) (c : Course) (s : StateOf G.g) (u : System Plain) (l : Linked G lv c s u) where
   -- nobody runs in the meaning, where nobody runs in the machine and no fault stands
-  pub nobody : u.faulted ≡ false → ((i : ℕ) (d : Config (Memory Plain)) → u.condition i ≡ Working d → ⊥) → (q : Name) → running G.g s q ≡ None
+  pub nobody : u.faulted ≡ false → ((i : ℕ) (d : Config (Memory Plain)) → u.condition i ≡ Working d → ⊥) → (q : Name)
+      → running G.g s q ≡ None
   nobody quiet none q = by (running G.g s q) refl
     where
       by : (o : Option Process) → running G.g s q ≡ o → o ≡ None
       by None e = refl
       by (Some own) e =
           let n = l.numbered q (λ a. subst (λ x. IsLive x) a (working_lives s.condition q (s.condition q) own e)) in
-          let z = runs_there G lv c s u l n.0 n.1 own (ap (λ y. running G.g s y) n.2 ∙ e) (l.unlaid quiet (G.births.name n.0)) in
+          let z = runs_there G lv c s u l n.0 n.1 own (ap (λ y. running G.g s y) n.2 ∙ e)
+          (l.unlaid quiet (G.births.name n.0)) in
           absurd (none n.0 z.0 z.1)
 
   -- and the other way round
-  pub somebody : (i : ℕ) (d : Config (Memory Plain)) → u.condition i ≡ Working d → (own : Process) × (running G.g s (G.births.name i) ≡ Some own)
+  pub somebody : (i : ℕ) (d : Config (Memory Plain)) → u.condition i ≡ Working d → (own : Process)
+      × (running G.g s (G.births.name i) ≡ Some own)
   somebody i d e = (_, runs G lv c s u l i d e)
 
   pub root_over : (d : Config (Memory Plain)) → u.condition 0 ≡ Over d → s.condition [] ≡ Ended
   root_over d e =
-      let x : Performs_all G lv (G.births.name 0) c s (u.births.opens 0) (Over d) = subst (λ y. Performs_all G lv (G.births.name 0) c s (u.births.opens 0) y) e (l.does 0 l.began.root.2) in
+      let x : Performs_all G lv (G.births.name 0) c s (u.births.opens 0) (Over d) =
+      subst (λ y. Performs_all G lv (G.births.name 0) c s (u.births.opens 0) y) e (l.does 0 l.began.root.2) in
       subst (λ y. s.condition y ≡ Ended) x.1 x.0

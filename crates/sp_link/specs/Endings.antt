@@ -1,3 +1,4 @@
+-- None of this belongs to what the program promises: it is for contracts between crates.
 -- How the system of a program's code stands at an end: who waits, where nobody can go on, and which entry is a fault.
 -- The laws of this crate lead it to the meaning's ends, and the runner's end to it.
 use Rattle.std.specs.Prelude.{◌≡◌, ◌⊎◌, ℕ, zero, suc, List, [], ◌∷◌, map, Option, Some, None, false}
@@ -17,7 +18,8 @@ use Rattle.sp_journal.specs.declared.outcome.End.TheVariants as end
 use Rattle.sp_journal.specs.Births.{Births, births, channel}
 use Rattle.sp_journal.specs.Names.{proc_name}
 use Rattle.sp_meaning.specs.Ends.{Waiting, IsIn, IsSorted, waiter_of}
-use Rattle.sp_code.specs.Control.{Control, Doing, Unborn, Ready, Out, Sending, Receiving, Joining, Laid, Ended, Gone, control, standing, IsDone, IsDeadlock, IsFault, entries_of}
+use Rattle.sp_code.specs.Control.{Control, Doing, Unborn, Ready, Out, Sending, Receiving, Joining, Laid, Ended, Gone}
+use Rattle.sp_code.specs.Control.{control, standing, IsDone, IsDeadlock, IsFault, entries_of}
 use Rattle.sp_code.specs.Machine.{Stop, Forks, Opens, Sends, Receives, Ends, Pauses, Config}
 use Rattle.sp_code.specs.Memory.{Memory}
 use Rattle.sp_code.specs.System.{System, Working, Waits, Over, pending_stop}
@@ -38,9 +40,11 @@ waiting_at b i Pauses = None
 
 -- a process of the system waits so
 abbrev pub WaitsAs : System Plain → Waiting → Type 0
-WaitsAs t w = (i : ℕ) × (stop : Stop) × (d : Config (Memory Plain)) × (t.condition i ≡ Waits stop d) × (waiting_at t.births i stop ≡ Some w)
+WaitsAs t w = (i : ℕ) × (stop : Stop) × (d : Config (Memory Plain)) × (t.condition i ≡ Waits stop d)
+    × (waiting_at t.births i stop ≡ Some w)
 
--- nobody runs, the first process has not ended and no fault stands; the list is every process that waits, in order of names
+-- nobody runs, the first process has not ended and no fault stands; the list is every process that waits, in order of
+-- names
 pub record IsStuck (t : System Plain) (ws : List Waiting) : Type 0 where
   pub quiet : t.faulted ≡ false
   pub idle : (i : ℕ) (d : Config (Memory Plain)) → t.condition i ≡ Working d → ⊥
@@ -54,7 +58,11 @@ abbrev pub IsWaiting : Control → Waiting → Type 0
 IsWaiting k w =
     (i : ℕ) × (c : ℕ)
     × (((k.doing i ≡ Sending c) × (w ≡ record { who = k.births.name i; way = way.Send; channel = channel k.births c }))
-    ⊎ ((k.doing i ≡ Receiving c) × (w ≡ record { who = k.births.name i; way = way.Receive; channel = channel k.births c })))
+    ⊎ ((k.doing i ≡ Receiving c) × (w ≡ record {
+      who = k.births.name i;
+      way = way.Receive;
+      channel = channel k.births c;
+    })))
 
 -- the list is every process that waits, in order of names
 pub record AreAllWaiting (k : Control) (ws : List Waiting) : Type 0 where
@@ -88,7 +96,8 @@ pub record AreWaiters (k : Control) (ws : List Waiter) : Type 0 where
 abbrev pub StandsAt : List Note → End → Type 0
 StandsAt ns end.Done = standing (control ns) ≡ IsDone
 StandsAt ns (end.Deadlock ws) = (standing (control ns) ≡ IsDeadlock) × AreWaiters (control ns) ws
-StandsAt ns (end.Fault name f) = (standing (control ns) ≡ IsFault) × ((p : ℕ) × HasFaultEntry (entries_of ns) p f × (name ≡ proc_name ((births (entries_of ns)).name p)))
+StandsAt ns (end.Fault name f) = (standing (control ns) ≡ IsFault)
+    × ((p : ℕ) × HasFaultEntry (entries_of ns) p f × (name ≡ proc_name ((births (entries_of ns)).name p)))
 StandsAt ns end.Memory = ⊥
 
 -- an offer at this stop meets a pending one of its own way

@@ -1,3 +1,4 @@
+-- Some of this belongs to what the program promises (docs/promise.txt).
 -- What is asked of a program, of the sets of its forks and of the limits, so that its code runs as the program means.
 -- The laws of this crate require it, and `sp_ready` shows it of every accepted text.
 use Rattle.std.specs.Prelude.{◌≡◌, ℕ, List, Some, slice_get}
@@ -32,8 +33,10 @@ pub record IsReady (g : Setting) (moves shares : Stmt → List ℕ) : Type 0 whe
   pub free : IsFreeOfInterference g.program
   -- a function changes nothing outside itself, and takes values alone
   pub pure : (f : ℕ) → IsFunction g.program f → (x : ℕ) → ImplicitTarget g.program f x → ⊥
-  pub values : (f : ℕ) (b : Block) → slice_get g.program.blocks f ≡ Some b → IsFunction g.program f → (x : ℕ) → IsMember x b.formals → (v : Variable) → slice_get g.program.variables x ≡ Some v → v.role ≡ role.Reference → ⊥
-  pub fine : (f q : ℕ) (b : Block) → slice_get g.program.blocks f ≡ Some b → IsFine g.program moves shares (IsQuiet g.program) f q b
+  pub values : (f : ℕ) (b : Block) → slice_get g.program.blocks f ≡ Some b → IsFunction g.program f → (x : ℕ)
+      → IsMember x b.formals → (v : Variable) → slice_get g.program.variables x ≡ Some v → v.role ≡ role.Reference → ⊥
+  pub fine : (f q : ℕ) (b : Block) → slice_get g.program.blocks f ≡ Some b
+      → IsFine g.program moves shares (IsQuiet g.program) f q b
   pub sets : SetsAre g.program moves shares
   pub limits : AreLimits g.limits
 
@@ -42,7 +45,8 @@ abbrev pub run_by : Setting → (moves shares : Stmt → List ℕ) → (pause : 
 run_by g moves shares pause = code_run g (program_code g.program moves shares) pause
 
 -- after these entries the system of the code of a program that is ready is t, and the program has come to s by n steps
-pub record AreAlong (g : Setting) (moves shares : Stmt → List ℕ) (pause : ℕ) (es : List Entry) (t : System Plain) (n : ℕ) (s : StateOf g) : Type 0 where
+pub record AreAlong (g : Setting) (moves shares : Stmt → List ℕ) (pause : ℕ) (es : List Entry) (t : System Plain)
+    (n : ℕ) (s : StateOf g) : Type 0 where
   pub ready : IsReady g moves shares
   pub system : IsSystem plain (run_by g moves shares pause) es t
   pub program : IsAlong g pause (occurrences_from at_start es) n s

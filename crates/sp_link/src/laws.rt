@@ -31,76 +31,104 @@ ghost use Rattle.sp_link.specs.Premises.{IsReady, AreAlong, run_by};
 
 /// Along a journal the meaning comes to at most one state, by one number of steps.
 pub fn journals_have_one_state()
-    ensures { (g : Setting) (turn : ℕ) (es : List Occurrence) (n k : ℕ) (s t : StateOf g) → IsAlong g turn es n s → IsAlong g turn es k t → (n ≡ k) × (s ≡ t) }
+    ensures { (g : Setting) (turn : ℕ) (es : List Occurrence) (n k : ℕ) (s t : StateOf g) → IsAlong g turn es n s
+        → IsAlong g turn es k t → (n ≡ k) × (s ≡ t) }
 {}
 
-/// Along a journal the machine has a system, with the code of a program, exactly where the program has a state; and then no turn
-/// lacks what it needs.
+/// Along a journal the machine has a system, with the code of a program, exactly where the program has a state; and
+/// then no turn lacks what it needs.
 pub fn code_runs_as_the_program_means()
-    ensures means { (g : Setting) (moves shares : Stmt → List ℕ) (pause : ℕ) → IsReady g moves shares → (es : List Entry) (t : System Plain)
-        → IsSystem plain (run_by g moves shares pause) es t → (n : ℕ) × (s : StateOf g) × IsAlong g pause (occurrences_from at_start es) n s }
-    ensures runs { (g : Setting) (moves shares : Stmt → List ℕ) (pause : ℕ) → IsReady g moves shares → (es : List Entry) → NameableFrom at_start es
+    ensures means { (g : Setting) (moves shares : Stmt → List ℕ) (pause : ℕ) → IsReady g moves shares
+        → (es : List Entry) (t : System Plain)
+        → IsSystem plain (run_by g moves shares pause) es t → (n : ℕ) × (s : StateOf g)
+        × IsAlong g pause (occurrences_from at_start es) n s }
+    ensures runs { (g : Setting) (moves shares : Stmt → List ℕ) (pause : ℕ) → IsReady g moves shares → (es : List Entry)
+        → NameableFrom at_start es
         → (n : ℕ) (s : StateOf g) → IsAlong g pause (occurrences_from at_start es) n s
         → (t : System Plain) × IsSystem plain (run_by g moves shares pause) es t }
-    ensures safe { (g : Setting) (moves shares : Stmt → List ℕ) (pause : ℕ) → IsReady g moves shares → (es : List Entry) (t : System Plain)
-        → IsSystem plain (run_by g moves shares pause) es t → (i : ℕ) (d : Config (Memory Plain)) → t.condition i ≡ Working d
+    ensures safe { (g : Setting) (moves shares : Stmt → List ℕ) (pause : ℕ) → IsReady g moves shares
+        → (es : List Entry) (t : System Plain)
+        → IsSystem plain (run_by g moves shares pause) es t → (i : ℕ) (d : Config (Memory Plain))
+        → t.condition i ≡ Working d
         → IsSafe (memory plain (run_by g moves shares pause)) (program_code g.program moves shares) d }
 {}
 
-/// The code of a program is sound: for every input, all limits and every journal each turn ends and lacks nothing, a fork can be
-/// carried out, a child that ends can be joined, and a message fits where it goes.
+/// The code of a program is sound: for every input, all limits and every journal each turn ends and lacks nothing, a
+/// fork can be carried out, a child that ends can be joined, and a message fits where it goes.
 pub fn code_is_sound()
-    ensures { (g : Setting) (moves shares : Stmt → List ℕ) → IsReady g moves shares → IsSound (program_code g.program moves shares) }
+    ensures { (g : Setting) (moves shares : Stmt → List ℕ) → IsReady g moves shares
+        → IsSound (program_code g.program moves shares) }
 {}
 
-/// Along a journal both come to the same output; the first process has ended in the one where it has in the other; and nobody
-/// runs in the program where nobody runs in its code and no fault stands.
+/// Along a journal both come to the same output; the first process has ended in the one where it has in the other; and
+/// nobody runs in the program where nobody runs in its code and no fault stands.
 pub fn code_ends_as_the_program_does()
-    ensures output { (g : Setting) (moves shares : Stmt → List ℕ) (pause : ℕ) (es : List Entry) (t : System Plain) (n : ℕ) (s : StateOf g)
+    ensures output { (g : Setting) (moves shares : Stmt → List ℕ) (pause : ℕ) (es : List Entry) (t : System Plain)
+        (n : ℕ) (s : StateOf g)
         → AreAlong g moves shares pause es t n s → OutputIs plain (run_by g moves shares pause) t (output_of g s) }
-    ensures done { (g : Setting) (moves shares : Stmt → List ℕ) (pause : ℕ) (es : List Entry) (t : System Plain) (n : ℕ) (s : StateOf g)
+    ensures done { (g : Setting) (moves shares : Stmt → List ℕ) (pause : ℕ) (es : List Entry) (t : System Plain) (n : ℕ)
+        (s : StateOf g)
         → AreAlong g moves shares pause es t n s → (d : Config (Memory Plain)) → t.condition 0 ≡ Over d → IsDone g s }
-    ensures over { (g : Setting) (moves shares : Stmt → List ℕ) (pause : ℕ) (es : List Entry) (t : System Plain) (n : ℕ) (s : StateOf g)
+    ensures over { (g : Setting) (moves shares : Stmt → List ℕ) (pause : ℕ) (es : List Entry) (t : System Plain) (n : ℕ)
+        (s : StateOf g)
         → AreAlong g moves shares pause es t n s → IsDone g s → (d : Config (Memory Plain)) × (t.condition 0 ≡ Over d) }
-    ensures idle { (g : Setting) (moves shares : Stmt → List ℕ) (pause : ℕ) (es : List Entry) (t : System Plain) (n : ℕ) (s : StateOf g)
-        → AreAlong g moves shares pause es t n s → t.faulted ≡ false → ((i : ℕ) (d : Config (Memory Plain)) → t.condition i ≡ Working d → ⊥) → IsIdle g s }
+    ensures idle { (g : Setting) (moves shares : Stmt → List ℕ) (pause : ℕ) (es : List Entry) (t : System Plain) (n : ℕ)
+        (s : StateOf g)
+        → AreAlong g moves shares pause es t n s → t.faulted ≡ false
+        → ((i : ℕ) (d : Config (Memory Plain)) → t.condition i ≡ Working d → ⊥) → IsIdle g s }
 {}
 
-/// Along a journal the same processes wait in both, with the same way and channel; so a deadlock of the one is a deadlock of the
-/// other. A fault stands in both where an entry of the journal says it, and then it is that process's and that fault.
+/// Along a journal the same processes wait in both, with the same way and channel; so a deadlock of the one is a
+/// deadlock of the other. A fault stands in both where an entry of the journal says it, and then it is that process's
+/// and that fault.
 pub fn code_waits_and_faults_as_the_program_does()
-    ensures waits { (g : Setting) (moves shares : Stmt → List ℕ) (pause : ℕ) (es : List Entry) (t : System Plain) (n : ℕ) (s : StateOf g)
+    ensures waits { (g : Setting) (moves shares : Stmt → List ℕ) (pause : ℕ) (es : List Entry) (t : System Plain)
+        (n : ℕ) (s : StateOf g)
         → AreAlong g moves shares pause es t n s → (w : Waiting) → WaitsAs t w → WaitsSo g s w }
-    ensures waiting { (g : Setting) (moves shares : Stmt → List ℕ) (pause : ℕ) (es : List Entry) (t : System Plain) (n : ℕ) (s : StateOf g)
+    ensures waiting { (g : Setting) (moves shares : Stmt → List ℕ) (pause : ℕ) (es : List Entry) (t : System Plain)
+        (n : ℕ) (s : StateOf g)
         → AreAlong g moves shares pause es t n s → (w : Waiting) → WaitsSo g s w → WaitsAs t w }
-    ensures stuck { (g : Setting) (moves shares : Stmt → List ℕ) (pause : ℕ) (es : List Entry) (t : System Plain) (n : ℕ) (s : StateOf g)
+    ensures stuck { (g : Setting) (moves shares : Stmt → List ℕ) (pause : ℕ) (es : List Entry) (t : System Plain)
+        (n : ℕ) (s : StateOf g)
         → AreAlong g moves shares pause es t n s → (ws : List Waiting) → IsStuck t ws → IsDeadlock g s ws }
-    ensures deadlock { (g : Setting) (moves shares : Stmt → List ℕ) (pause : ℕ) (es : List Entry) (t : System Plain) (n : ℕ) (s : StateOf g)
+    ensures deadlock { (g : Setting) (moves shares : Stmt → List ℕ) (pause : ℕ) (es : List Entry) (t : System Plain)
+        (n : ℕ) (s : StateOf g)
         → AreAlong g moves shares pause es t n s → (ws : List Waiting) → IsDeadlock g s ws → IsStuck t ws }
-    ensures fault { (g : Setting) (moves shares : Stmt → List ℕ) (pause : ℕ) (es : List Entry) (t : System Plain) (n : ℕ) (s : StateOf g)
-        → AreAlong g moves shares pause es t n s → (p : ℕ) (f : Fault) → HasFaultEntry es p f → HasFault g s ((births es).name p) f }
-    ensures faulted { (g : Setting) (moves shares : Stmt → List ℕ) (pause : ℕ) (es : List Entry) (t : System Plain) (n : ℕ) (s : StateOf g)
+    ensures fault { (g : Setting) (moves shares : Stmt → List ℕ) (pause : ℕ) (es : List Entry) (t : System Plain)
+        (n : ℕ) (s : StateOf g)
+        → AreAlong g moves shares pause es t n s → (p : ℕ) (f : Fault) → HasFaultEntry es p f
+        → HasFault g s ((births es).name p) f }
+    ensures faulted { (g : Setting) (moves shares : Stmt → List ℕ) (pause : ℕ) (es : List Entry) (t : System Plain)
+        (n : ℕ) (s : StateOf g)
         → AreAlong g moves shares pause es t n s → t.faulted ≡ true → (p : ℕ) × (f : Fault) × HasFaultEntry es p f }
-    ensures quiet { (g : Setting) (moves shares : Stmt → List ℕ) (pause : ℕ) (es : List Entry) (t : System Plain) (n : ℕ) (s : StateOf g)
+    ensures quiet { (g : Setting) (moves shares : Stmt → List ℕ) (pause : ℕ) (es : List Entry) (t : System Plain)
+        (n : ℕ) (s : StateOf g)
         → AreAlong g moves shares pause es t n s → t.faulted ≡ false → s.fault ≡ None }
 {}
 
-/// A legal history of the kernel over the code of a program is a run of the program along the journal of its notes. Where the
-/// control of the notes stands at an end, the program has come to the same one: done, a deadlock with all that wait, or the fault
-/// of the journal; and the output that a process holds is the program's.
+/// A legal history of the kernel over the code of a program is a run of the program along the journal of its notes.
+/// Where the control of the notes stands at an end, the program has come to the same one: done, a deadlock with all
+/// that wait, or the fault of the journal; and the output that a process holds is the program's.
 pub fn histories_end_as_the_program_does()
     ensures means { (g : Setting) (moves shares : Stmt → List ℕ) (pause : ℕ) → IsReady g moves shares → (ns : List Note)
-        → IsLegal plain (run_by g moves shares pause) ns → (n : ℕ) × (s : StateOf g) × IsAlong g pause (occurrences_from at_start (entries_of ns)) n s }
-    ensures output { (g : Setting) (moves shares : Stmt → List ℕ) (pause : ℕ) → IsReady g moves shares → (ns : List Note) (t : System Plain)
-        → Reaches plain (run_by g moves shares pause) control_at_start (opening plain (run_by g moves shares pause)) ns t
+        → IsLegal plain (run_by g moves shares pause) ns → (n : ℕ) × (s : StateOf g)
+        × IsAlong g pause (occurrences_from at_start (entries_of ns)) n s }
+    ensures output { (g : Setting) (moves shares : Stmt → List ℕ) (pause : ℕ) → IsReady g moves shares
+        → (ns : List Note) (t : System Plain)
+        → Reaches plain (run_by g moves shares pause) control_at_start (opening plain (run_by g moves shares pause)) ns
+        t
         → (n : ℕ) (s : StateOf g) → IsAlong g pause (occurrences_from at_start (entries_of ns)) n s
         → OutputIs plain (run_by g moves shares pause) t (output_of g s) }
-    ensures held { (g : Setting) (moves shares : Stmt → List ℕ) (pause : ℕ) → IsReady g moves shares → (ns : List Note) (t : System Plain)
-        → Reaches plain (run_by g moves shares pause) control_at_start (opening plain (run_by g moves shares pause)) ns t
+    ensures held { (g : Setting) (moves shares : Stmt → List ℕ) (pause : ℕ) → IsReady g moves shares
+        → (ns : List Note) (t : System Plain)
+        → Reaches plain (run_by g moves shares pause) control_at_start (opening plain (run_by g moves shares pause)) ns
+        t
         → (n : ℕ) (s : StateOf g) → IsAlong g pause (occurrences_from at_start (entries_of ns)) n s
-        → (q : ℕ) (m : Plain) (bs : List ℕ) → store_in (t.condition q) ≡ Some m → plain.output m ≡ Some bs → bs ≡ output_of g s }
+        → (q : ℕ) (m : Plain) (bs : List ℕ) → store_in (t.condition q) ≡ Some m → plain.output m ≡ Some bs
+        → bs ≡ output_of g s }
     ensures ends { (g : Setting) (moves shares : Stmt → List ℕ) (pause : ℕ) → IsReady g moves shares → (ns : List Note)
-        → IsLegal plain (run_by g moves shares pause) ns → (n : ℕ) (s : StateOf g) → IsAlong g pause (occurrences_from at_start (entries_of ns)) n s
+        → IsLegal plain (run_by g moves shares pause) ns → (n : ℕ) (s : StateOf g)
+        → IsAlong g pause (occurrences_from at_start (entries_of ns)) n s
         → (e : End) → StandsAt ns e → EndIs g s e }
 {}
 

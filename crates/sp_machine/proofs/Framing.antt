@@ -1,9 +1,12 @@
 -- The frames in memory, the newest last, and the frames of the definitions, the newest first.
-use Rattle.std.proofs.Common.{◌≡◌, ℕ, zero, suc, ◌+◌, ◌-◌, ◌<◌, ◌≤◌, List, [], ◌∷◌, ◌++◌, length, take, drop, get_or, refl, sym, ap, ◌∙◌, arith, append_assoc, ◌≢◌}
+use Rattle.std.proofs.Common.{◌≡◌, ℕ, zero, suc, ◌+◌, ◌-◌, ◌<◌, ◌≤◌, List, [], ◌∷◌, ◌++◌, length, take, drop, get_or}
+use Rattle.std.proofs.Common.{refl, sym, ap, ◌∙◌, arith, append_assoc, ◌≢◌}
 use Rattle.std.specs.Prelude.{map, reverse, Some, None, min}
 use Rattle.std.proofs.lemmas.Bool.{eq-eqb, ne_eqb}
 use Rattle.sp_cell.specs.declared.spot.Address.{Address}
-use Rattle.std.proofs.lemmas.List.{reverse-append, map-append, length-reverse, length-map, length-drop, take-append-drop, take_more, length-take-le, drop_all, take_all, length-append, append-nil, get_or-take, get_or_append_left, get_or-append_right}
+use Rattle.std.proofs.lemmas.List.{reverse-append, map-append, length-reverse, length-map, length-drop}
+use Rattle.std.proofs.lemmas.List.{take-append-drop, take_more, length-take-le, drop_all, take_all, length-append}
+use Rattle.std.proofs.lemmas.List.{append-nil, get_or-take, get_or_append_left, get_or-append_right}
 use Rattle.std.proofs.Math.Seq.{drop-append_seam}
 use Rattle.sp_code.specs.Memory.{Frame as PlainFrame, last_frames, frames_up, addr_in, deref_in, cell_at, referred}
 use Rattle.sp_machine.specs.declared.frames.Frame.{Frame}
@@ -29,40 +32,53 @@ both_parts xs ys = ap reverse (map-append frame_of xs ys) ∙ reverse-append (ma
 -- the oldest n frames
 last_plain : (ys : List Frame) (n : ℕ) → n ≤ length ys → last_frames n (plain_frames ys) ≡ plain_frames (take n ys)
 last_plain ys n h =
-    let parts : plain_frames ys ≡ plain_frames (drop n ys) ++ plain_frames (take n ys) = ap plain_frames (sym (take-append-drop n ys)) ∙ both_parts (take n ys) (drop n ys) in
-    let size : length (plain_frames ys) - n ≡ length (plain_frames (drop n ys)) = ap (λ k. k - n) (length_plain ys) ∙ sym (length_plain (drop n ys) ∙ length-drop n ys) in
-    ap (λ k. drop k (plain_frames ys)) size ∙ ap (drop (length (plain_frames (drop n ys)))) parts ∙ drop-append_seam (plain_frames (drop n ys)) (plain_frames (take n ys))
+    let parts : plain_frames ys ≡ plain_frames (drop n ys)
+    ++ plain_frames (take n ys) = ap plain_frames (sym (take-append-drop n ys))
+    ∙ both_parts (take n ys) (drop n ys) in
+    let size : length (plain_frames ys) - n ≡ length (plain_frames (drop n ys)) = ap (λ k. k - n) (length_plain ys)
+    ∙ sym (length_plain (drop n ys) ∙ length-drop n ys) in
+    ap (λ k. drop k (plain_frames ys)) size ∙ ap (drop (length (plain_frames (drop n ys)))) parts
+    ∙ drop-append_seam (plain_frames (drop n ys)) (plain_frames (take n ys))
 
 -- the frame at a place, counted from the oldest, is above those before it
-pub at_place : (ys : List Frame) (n : ℕ) (f : Frame) → n < length ys → f ≡ get_or ys n f → last_frames (n + 1) (plain_frames ys) ≡ frame_of f ∷ last_frames n (plain_frames ys)
+pub at_place : (ys : List Frame) (n : ℕ) (f : Frame) → n < length ys → f ≡ get_or ys n f
+    → last_frames (n + 1) (plain_frames ys) ≡ frame_of f ∷ last_frames n (plain_frames ys)
 at_place ys n f h e =
-    last_plain ys (n + 1) (omega (arith, h)) ∙ ap plain_frames (take_more ys n f h) ∙ with_newest (take n ys) (get_or ys n f)
+    last_plain ys (n + 1) (omega (arith, h)) ∙ ap plain_frames (take_more ys n f h)
+    ∙ with_newest (take n ys) (get_or ys n f)
     ∙ ap (λ (x : Frame). frame_of x ∷ plain_frames (take n ys)) (sym e)
     ∙ ap (λ (fs : List PlainFrame). frame_of f ∷ fs) (sym (last_plain ys n (omega (arith, h))))
 
 -- it is one of the shared frames, or one of the own ones
-pub at_shared : (xs zs : List Frame) (v n : ℕ) (f : Frame) → v ≤ length xs → n < v → f ≡ get_or xs n f → last_frames (n + 1) (plain_frames (take v xs ++ zs)) ≡ frame_of f ∷ last_frames n (plain_frames (take v xs ++ zs))
+pub at_shared : (xs zs : List Frame) (v n : ℕ) (f : Frame) → v ≤ length xs → n < v → f ≡ get_or xs n f
+    → last_frames (n + 1) (plain_frames (take v xs ++ zs)) ≡ frame_of f ∷ last_frames n (plain_frames (take v xs ++ zs))
 at_shared xs zs v n f h k e =
     at_place (take v xs ++ zs) n f (rw (length-append (take v xs) zs) (rw (length-take-le v xs h) (omega (arith, k))))
     (e ∙ sym (get_or_append_left (take v xs) zs f n (rw (length-take-le v xs h) k) ∙ get_or-take v xs n f k))
 
-pub at_own : (xs zs : List Frame) (v n : ℕ) (f : Frame) → v ≤ length xs → v ≤ n → n - v < length zs → f ≡ get_or zs (n - v) f → last_frames (n + 1) (plain_frames (take v xs ++ zs)) ≡ frame_of f ∷ last_frames n (plain_frames (take v xs ++ zs))
+pub at_own : (xs zs : List Frame) (v n : ℕ) (f : Frame) → v ≤ length xs → v ≤ n → n - v < length zs
+    → f ≡ get_or zs (n - v) f → last_frames (n + 1) (plain_frames (take v xs ++ zs)) ≡ frame_of f
+    ∷ last_frames n (plain_frames (take v xs ++ zs))
 at_own xs zs v n f h k l e =
-    at_place (take v xs ++ zs) n f (rw (length-append (take v xs) zs) (rw (length-take-le v xs h) (omega (arith, k, l))))
+    at_place (take v xs ++ zs) n f (rw (length-append (take v xs) zs)
+    (rw (length-take-le v xs h) (omega (arith, k, l))))
     (e ∙ sym (get_or-append_right (take v xs) zs v n f (length-take-le v xs h) k))
 
 drop_twice : {A : Type 0} → (a b : ℕ) (xs : List A) → drop a (drop b xs) ≡ drop (b + a) xs
 drop_twice a zero xs = let e : a ≡ 0 + a = omega arith in ap (λ k. drop k xs) e
 drop_twice a (suc b) [] = drop_all a [] (omega arith) ∙ sym (drop_all (suc b + a) [] (omega arith))
-drop_twice a (suc b) (x ∷ xs) = let e : suc (b + a) ≡ suc b + a = omega arith in drop_twice a b xs ∙ ap (λ k. drop k (x ∷ xs)) e
+drop_twice a (suc b) (x ∷ xs) = let e : suc (b + a) ≡ suc b + a = omega arith in
+    drop_twice a b xs ∙ ap (λ k. drop k (x ∷ xs)) e
 
 -- the oldest frames of the oldest ones
-pub last_twice : (fs : List PlainFrame) (n c : ℕ) → c ≤ length fs → last_frames n (last_frames c fs) ≡ last_frames (min n c) fs
+pub last_twice : (fs : List PlainFrame) (n c : ℕ) → c ≤ length fs
+    → last_frames n (last_frames c fs) ≡ last_frames (min n c) fs
 last_twice fs n c h =
     let less : length fs - (length fs - c) ≡ c = omega (arith, h) in
     let size : length (drop (length fs - c) fs) ≡ c = length-drop (length fs - c) fs ∙ less in
     let place : (length fs - c) + (c - n) ≡ length fs - min n c = omega (arith, h) in
-    ap (λ k. drop (k - n) (drop (length fs - c) fs)) size ∙ drop_twice (c - n) (length fs - c) fs ∙ ap (λ k. drop k fs) place
+    ap (λ k. drop (k - n) (drop (length fs - c) fs)) size ∙ drop_twice (c - n) (length fs - c) fs
+    ∙ ap (λ k. drop k fs) place
 
 pub none_last : (fs : List PlainFrame) → last_frames 0 fs ≡ []
 none_last fs = drop_all (length fs - 0) fs (omega arith)
@@ -75,26 +91,34 @@ up_none zero = refl
 up_none (suc k) = refl
 
 -- one level outward
-pub up_one : (fs : List PlainFrame) (k n : ℕ) (f : PlainFrame) → n < length fs → last_frames (n + 1) fs ≡ f ∷ last_frames n fs → frames_up (suc k) (last_frames (n + 1) fs) ≡ frames_up k (last_frames (min f.link n) fs)
+pub up_one : (fs : List PlainFrame) (k n : ℕ) (f : PlainFrame) → n < length fs
+    → last_frames (n + 1) fs ≡ f ∷ last_frames n fs
+    → frames_up (suc k) (last_frames (n + 1) fs) ≡ frames_up k (last_frames (min f.link n) fs)
 up_one fs k n f h e = ap (frames_up (suc k)) e ∙ ap (frames_up k) (last_twice fs f.link n (omega (arith, h)))
 
-pub length_parts : (xs zs : List Frame) (v : ℕ) → v ≤ length xs → v + length zs ≡ length (plain_frames (take v xs ++ zs))
-length_parts xs zs v h = sym (length_plain (take v xs ++ zs) ∙ length-append (take v xs) zs ∙ ap (λ k. k + length zs) (length-take-le v xs h))
+pub length_parts : (xs zs : List Frame) (v : ℕ) → v ≤ length xs
+    → v + length zs ≡ length (plain_frames (take v xs ++ zs))
+length_parts xs zs v h = sym (length_plain (take v xs ++ zs) ∙ length-append (take v xs) zs
+    ∙ ap (λ k. k + length zs) (length-take-le v xs h))
 
-pub within_parts : (xs zs : List Frame) (v place : ℕ) → v ≤ length xs → place < length (plain_frames (take v xs ++ zs)) → place < v + length zs
+pub within_parts : (xs zs : List Frame) (v place : ℕ) → v ≤ length xs → place < length (plain_frames (take v xs ++ zs))
+    → place < v + length zs
 within_parts xs zs v place h k = rw (length_parts xs zs v h) k
 
 pub one_plain : (xs ys : List Frame) (f : Frame) → ys ≡ f ∷ [] → plain_frames (take 0 xs ++ ys) ≡ frame_of f ∷ []
 one_plain xs ys f e = ap plain_frames e ∙ with_newest [] f ∙ ap (λ (fs : List PlainFrame). frame_of f ∷ fs) no_frames
 
-pub more_plain : (xs zs : List Frame) (v : ℕ) (f : Frame) → plain_frames (take v xs ++ (zs ++ f ∷ [])) ≡ frame_of f ∷ plain_frames (take v xs ++ zs)
+pub more_plain : (xs zs : List Frame) (v : ℕ) (f : Frame)
+    → plain_frames (take v xs ++ (zs ++ f ∷ [])) ≡ frame_of f ∷ plain_frames (take v xs ++ zs)
 more_plain xs zs v f = ap plain_frames (sym (append_assoc (take v xs) zs (f ∷ []))) ∙ with_newest (take v xs ++ zs) f
 
 -- the newest goes: an own one, or where there is none a shared one
-pub less_own : (xs zs : List Frame) (v : ℕ) (f : Frame) → drop 1 (plain_frames (take v xs ++ (zs ++ f ∷ []))) ≡ plain_frames (take v xs ++ zs)
+pub less_own : (xs zs : List Frame) (v : ℕ) (f : Frame)
+    → drop 1 (plain_frames (take v xs ++ (zs ++ f ∷ []))) ≡ plain_frames (take v xs ++ zs)
 less_own xs zs v f = ap (drop 1) (more_plain xs zs v f)
 
-pub less_shared : (xs : List Frame) (v : ℕ) → 0 < v → v ≤ length xs → drop 1 (plain_frames (take v xs ++ [])) ≡ plain_frames (take (v - 1) xs ++ [])
+pub less_shared : (xs : List Frame) (v : ℕ) → 0 < v → v ≤ length xs
+    → drop 1 (plain_frames (take v xs ++ [])) ≡ plain_frames (take (v - 1) xs ++ [])
 less_shared [] zero l h = absurd (omega (arith, l))
 less_shared [] (suc v) l h = absurd (omega (arith, h))
 less_shared (x ∷ xs) zero l h = absurd (omega (arith, l))
@@ -113,11 +137,15 @@ length_last fs gs n h e =
     sym (ap length e ∙ length-drop (length fs - n) fs ∙ size)
 
 -- the first of some frames
-pub addr_first : (fs gs : List PlainFrame) (n var : ℕ) (f : Frame) → 0 < n → gs ≡ last_frames n fs → last_frames (n - 1 + 1) fs ≡ frame_of f ∷ last_frames (n - 1) fs → addr_in gs var ≡ Some (cell_at f.number var)
-addr_first fs gs n var f h e k = ap (λ (x : List PlainFrame). addr_in x var) (let more : n ≡ n - 1 + 1 = omega (arith, h) in e ∙ ap (λ m. last_frames m fs) more ∙ k)
+pub addr_first : (fs gs : List PlainFrame) (n var : ℕ) (f : Frame) → 0 < n → gs ≡ last_frames n fs
+    → last_frames (n - 1 + 1) fs ≡ frame_of f ∷ last_frames (n - 1) fs → addr_in gs var ≡ Some (cell_at f.number var)
+addr_first fs gs n var f h e k = ap (λ (x : List PlainFrame). addr_in x var)
+    (let more : n ≡ n - 1 + 1 = omega (arith, h) in e ∙ ap (λ m. last_frames m fs) more ∙ k)
 
-pub deref_first : (fs gs : List PlainFrame) (n var : ℕ) (f : Frame) → 0 < n → gs ≡ last_frames n fs → last_frames (n - 1 + 1) fs ≡ frame_of f ∷ last_frames (n - 1) fs → deref_in gs var ≡ referred var f.references
-deref_first fs gs n var f h e k = ap (λ (x : List PlainFrame). deref_in x var) (let more : n ≡ n - 1 + 1 = omega (arith, h) in e ∙ ap (λ m. last_frames m fs) more ∙ k)
+pub deref_first : (fs gs : List PlainFrame) (n var : ℕ) (f : Frame) → 0 < n → gs ≡ last_frames n fs
+    → last_frames (n - 1 + 1) fs ≡ frame_of f ∷ last_frames (n - 1) fs → deref_in gs var ≡ referred var f.references
+deref_first fs gs n var f h e k = ap (λ (x : List PlainFrame). deref_in x var)
+    (let more : n ≡ n - 1 + 1 = omega (arith, h) in e ∙ ap (λ m. last_frames m fs) more ∙ k)
 
 abbrev first_or : PlainFrame → List PlainFrame → PlainFrame
 first_or d [] = d
@@ -130,12 +158,15 @@ pub none_shorter : (fs : List PlainFrame) → fs ≢ [] → 0 < length fs
 none_shorter [] h = absurd (h refl)
 none_shorter (f ∷ fs) h = omega arith
 
-pub newest_first : (fs gs : List PlainFrame) (n : ℕ) (f : Frame) (g : PlainFrame) → n ≡ length fs → 0 < n → last_frames (n - 1 + 1) fs ≡ frame_of f ∷ last_frames (n - 1) fs → fs ≡ g ∷ gs → g ≡ frame_of f
+pub newest_first : (fs gs : List PlainFrame) (n : ℕ) (f : Frame) (g : PlainFrame) → n ≡ length fs → 0 < n
+    → last_frames (n - 1 + 1) fs ≡ frame_of f ∷ last_frames (n - 1) fs → fs ≡ g ∷ gs → g ≡ frame_of f
 newest_first fs gs n f g h l k e =
     let more : length fs ≡ n - 1 + 1 = omega (arith, h, l) in
-    head_same g (frame_of f) gs (last_frames (n - 1) fs) (sym e ∙ sym (all_last fs) ∙ ap (λ m. last_frames m fs) more ∙ k)
+    head_same g (frame_of f) gs (last_frames (n - 1) fs)
+    (sym e ∙ sym (all_last fs) ∙ ap (λ m. last_frames m fs) more ∙ k)
 
-pub up_more : (fs : List PlainFrame) (up i count : ℕ) (f : PlainFrame) → i < up → count ≢ 0 → count ≤ length fs → last_frames (count - 1 + 1) fs ≡ f ∷ last_frames (count - 1) fs
+pub up_more : (fs : List PlainFrame) (up i count : ℕ) (f : PlainFrame) → i < up → count ≢ 0 → count ≤ length fs
+    → last_frames (count - 1 + 1) fs ≡ f ∷ last_frames (count - 1) fs
     → frames_up (up - i) (last_frames count fs) ≡ frames_up (up - (i + 1)) (last_frames (min f.link (count - 1)) fs)
 up_more fs up i count f h n l e =
     let one : up - i ≡ suc (up - (i + 1)) = omega (arith, h) in
@@ -145,15 +176,18 @@ up_more fs up i count f h n l e =
     ∙ up_one fs (up - (i + 1)) (count - 1) f inside e
 
 -- references one after another
-pub referred_here : (rs : List (ℕ × Address)) (x i : ℕ) (r : ℕ × Address) → i < length rs → r ≡ get_or rs i r → r.0 ≡ x → referred x (drop i rs) ≡ Some r.1
+pub referred_here : (rs : List (ℕ × Address)) (x i : ℕ) (r : ℕ × Address) → i < length rs → r ≡ get_or rs i r → r.0 ≡ x
+    → referred x (drop i rs) ≡ Some r.1
 referred_here [] x i r h e k = absurd (omega (arith, h))
 referred_here (q ∷ rs) x zero r h e k = rw (sym e) (rw (eq-eqb x r.0 (sym k)) refl)
 referred_here (q ∷ rs) x (suc i) r h e k = referred_here rs x i r (omega (arith, h)) e k
 
-pub referred_on : (rs : List (ℕ × Address)) (x i : ℕ) (r : ℕ × Address) → i < length rs → r ≡ get_or rs i r → r.0 ≢ x → referred x (drop i rs) ≡ referred x (drop (i + 1) rs)
+pub referred_on : (rs : List (ℕ × Address)) (x i : ℕ) (r : ℕ × Address) → i < length rs → r ≡ get_or rs i r → r.0 ≢ x
+    → referred x (drop i rs) ≡ referred x (drop (i + 1) rs)
 referred_on [] x i r h e k = absurd (omega (arith, h))
 referred_on (q ∷ rs) x zero r h e k = rw (sym e) (rw (ne_eqb x r.0 (λ w. k (sym w))) refl)
-referred_on (q ∷ rs) x (suc i) r h e k = let one : suc (i + 1) ≡ suc i + 1 = omega arith in referred_on rs x i r (omega (arith, h)) e k ∙ ap (λ n. referred x (drop n (q ∷ rs))) one
+referred_on (q ∷ rs) x (suc i) r h e k = let one : suc (i + 1) ≡ suc i + 1 = omega arith in
+    referred_on rs x i r (omega (arith, h)) e k ∙ ap (λ n. referred x (drop n (q ∷ rs))) one
 
 pub referred_end : (rs : List (ℕ × Address)) (x i : ℕ) → length rs ≤ i → referred x (drop i rs) ≡ None
 referred_end rs x i h = ap (referred x) (drop_all i rs h)
@@ -165,16 +199,21 @@ some_visible xs (suc v) h = omega arith
 -- ---- frames that are shared
 
 pub all_shared : (xs ys : List Frame) (v : ℕ) → ys ≡ [] → plain_frames (take v xs ++ ys) ≡ plain_frames (take v xs)
-all_shared xs ys v e = ap (λ (zs : List Frame). plain_frames (take v xs ++ zs)) e ∙ ap plain_frames (append-nil (take v xs))
+all_shared xs ys v e = ap (λ (zs : List Frame). plain_frames (take v xs ++ zs)) e
+    ∙ ap plain_frames (append-nil (take v xs))
 
-pub all_gathered : (xs ys zs : List Frame) (v n : ℕ) → n ≡ length zs → zs ≡ take v xs ++ ys → plain_frames (take v xs ++ ys) ≡ plain_frames (take n zs)
+pub all_gathered : (xs ys zs : List Frame) (v n : ℕ) → n ≡ length zs → zs ≡ take v xs ++ ys
+    → plain_frames (take v xs ++ ys) ≡ plain_frames (take n zs)
 all_gathered xs ys zs v n l e = ap plain_frames (sym e ∙ sym (take_all n zs (omega (arith, l))))
 
-pub still_shared : (xs ys zs ws : List Frame) (v n : ℕ) → n ≡ length zs → zs ≡ take v xs ++ ys → ws ≡ [] → plain_frames (take n zs ++ ws) ≡ plain_frames (take v xs ++ ys)
+pub still_shared : (xs ys zs ws : List Frame) (v n : ℕ) → n ≡ length zs → zs ≡ take v xs ++ ys → ws ≡ []
+    → plain_frames (take n zs ++ ws) ≡ plain_frames (take v xs ++ ys)
 still_shared xs ys zs ws v n l e w = all_shared zs ws n w ∙ sym (all_gathered xs ys zs v n l e)
 
-pub copied_more : (to : List Frame) (fs : List Frame) (i : ℕ) (f : Frame) → i < length fs → f ≡ get_or fs i f → (to ++ take i fs) ++ f ∷ [] ≡ to ++ take (i + 1) fs
-copied_more to fs i f h e = append_assoc to (take i fs) (f ∷ []) ∙ ap (λ (xs : List Frame). to ++ xs) (ap (λ (x : Frame). take i fs ++ x ∷ []) e ∙ sym (take_more fs i f h))
+pub copied_more : (to : List Frame) (fs : List Frame) (i : ℕ) (f : Frame) → i < length fs → f ≡ get_or fs i f
+    → (to ++ take i fs) ++ f ∷ [] ≡ to ++ take (i + 1) fs
+copied_more to fs i f h e = append_assoc to (take i fs) (f ∷ [])
+    ∙ ap (λ (xs : List Frame). to ++ xs) (ap (λ (x : Frame). take i fs ++ x ∷ []) e ∙ sym (take_more fs i f h))
 
 pub copied_all : (to : List Frame) (fs : List Frame) (i : ℕ) → length fs ≤ i → to ++ take i fs ≡ to ++ fs
 copied_all to fs i h = ap (λ (xs : List Frame). to ++ xs) (take_all i fs h)

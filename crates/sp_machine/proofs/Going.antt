@@ -21,7 +21,8 @@ module _ (g : Setting) where
   abbrev ops : m.Ops (Memory Plain)
   ops = memory plain g
 
-  pub comes_more : (n : ℕ) (c d e : m.Config (Memory Plain)) → ComesIn ops g.code n c d → m.one ops g.code d ≡ m.Goes e → ComesIn ops g.code (suc n) c e
+  pub comes_more : (n : ℕ) (c d e : m.Config (Memory Plain)) → ComesIn ops g.code n c d → m.one ops g.code d ≡ m.Goes e
+      → ComesIn ops g.code (suc n) c e
   comes_more zero c d e h k = (e, ap (m.one ops g.code) h ∙ k, refl)
   comes_more (suc n) c d e h k = (h.0, h.1, comes_more n h.0 d e h.2 k)
 
@@ -32,19 +33,29 @@ module _ (g : Setting) where
   went m.Stuck p q c n = absurd (n refl)
 
   -- how a turn that has begun ends
-  ended : (c d : m.Config (Memory Plain)) (t : Turn (Memory Plain)) (n : ℕ) → begins ops g.code c ≡ true → ComesIn ops g.code n c d → EndsSo ops g.code d t → IsTurn ops g.code c t
-  ended c d t n b h k = subst (λ (x : Bool). Begins x c t (Runs ops g.code c t)) (sym b) (d, record { steps = n; by = h }, k)
+  ended : (c d : m.Config (Memory Plain)) (t : Turn (Memory Plain)) (n : ℕ) → begins ops g.code c ≡ true
+      → ComesIn ops g.code n c d → EndsSo ops g.code d t → IsTurn ops g.code c t
+  ended c d t n b h k = subst (λ (x : Bool). Begins x c t (Runs ops g.code c t)) (sym b)
+      (d, record { steps = n; by = h }, k)
 
-  module _ (c : m.Config (Memory Plain)) (p q : State) (n : ℕ) (b : begins ops g.code c ≡ true) (h : ComesIn ops g.code n c (config_of p)) (x : State) (code : Parts) (lim : Limits) (is : c ≡ config_of x) (same : g ≡ setting_of x code lim) where
-    moved : (u : Turn (Memory Plain)) → IsTurn ops g.code c u → IsTurn (memory plain (setting_of x code lim)) code (config_of x) u
-    moved u k = subst (λ (y : m.Config (Memory Plain)). IsTurn (memory plain (setting_of x code lim)) code y u) is (subst (λ (y : Setting). IsTurn (memory plain y) y.code c u) same k)
+  module _ (c : m.Config (Memory Plain)) (p q : State) (n : ℕ) (b : begins ops g.code c ≡ true)
+      (h : ComesIn ops g.code n c (config_of p)) (x : State) (code : Parts) (lim : Limits) (is : c ≡ config_of x)
+      (same : g ≡ setting_of x code lim) where
+    moved : (u : Turn (Memory Plain)) → IsTurn ops g.code c u
+        → IsTurn (memory plain (setting_of x code lim)) code (config_of x) u
+    moved u k = subst (λ (y : m.Config (Memory Plain)). IsTurn (memory plain (setting_of x code lim)) code y u) is
+        (subst (λ (y : Setting). IsTurn (memory plain y) y.code c u) same k)
 
     -- the turn that ended at an instruction with this stop
-    stopped_so : (s : Stop) (t : m.Stop) (d : m.Config (Memory Plain)) → m.one ops g.code (config_of p) ≡ m.Stops t d → StopIs s q t → config_of q ≡ d → IsTurnOf x code lim q s
+    stopped_so : (s : Stop) (t : m.Stop) (d : m.Config (Memory Plain)) → m.one ops g.code (config_of p) ≡ m.Stops t d
+        → StopIs s q t → config_of q ≡ d → IsTurnOf x code lim q s
     stopped_so s t d e i w = by s i
       where
-        done : (z : m.Stop) → t ≡ z → IsTurn (memory plain (setting_of x code lim)) code (config_of x) (Stopped z (config_of q))
-        done z k = moved (Stopped z (config_of q)) (ended c (config_of p) (Stopped z (config_of q)) n b h (e ∙ ap (λ (y : m.Stop). m.Stops y d) k ∙ ap (m.Stops z) (sym w)))
+        done : (z : m.Stop) → t ≡ z → IsTurn (memory plain (setting_of x code lim)) code (config_of x)
+            (Stopped z (config_of q))
+        done z k = moved (Stopped z (config_of q))
+            (ended c (config_of p) (Stopped z (config_of q)) n b h
+            (e ∙ ap (λ (y : m.Stop). m.Stops y d) k ∙ ap (m.Stops z) (sym w)))
 
         by : (s : Stop) → StopIs s q t → IsTurnOf x code lim q s
         by (stop.Fork table v k) i = (done (m.Forks table v k) i.0, i.1)
@@ -56,11 +67,14 @@ module _ (g : Setting) where
         by (stop.Fault f) i = absurd i
         by stop.Memory i = absurd i
 
-    faulted_so : (s : Stop) (f : Fault) → m.one ops g.code (config_of p) ≡ m.Fails f → FaultIs s f → config_of q ≡ config_of p → IsTurnOf x code lim q s
+    faulted_so : (s : Stop) (f : Fault) → m.one ops g.code (config_of p) ≡ m.Fails f → FaultIs s f
+        → config_of q ≡ config_of p → IsTurnOf x code lim q s
     faulted_so s f e i w = by s i
       where
-        done : (z : Fault) → z ≡ f → IsTurn (memory plain (setting_of x code lim)) code (config_of x) (Faulted z (config_of q))
-        done z k = moved (Faulted z (config_of q)) (ended c (config_of p) (Faulted z (config_of q)) n b h (e ∙ ap m.Fails (sym k), w))
+        done : (z : Fault) → z ≡ f → IsTurn (memory plain (setting_of x code lim)) code (config_of x)
+            (Faulted z (config_of q))
+        done z k = moved (Faulted z (config_of q))
+            (ended c (config_of p) (Faulted z (config_of q)) n b h (e ∙ ap m.Fails (sym k), w))
 
         by : (s : Stop) → FaultIs s f → IsTurnOf x code lim q s
         by (stop.Fork table v k) i = absurd i
@@ -72,7 +86,8 @@ module _ (g : Setting) where
         by (stop.Fault z) i = (done z i, tt)
         by stop.Memory i = absurd i
 
-    stopped : (s : Stop) (o : m.One (Memory Plain)) → m.one ops g.code (config_of p) ≡ o → o ≢ m.Stuck → Came o p q (Some s) → IsTurnOf x code lim q s
+    stopped : (s : Stop) (o : m.One (Memory Plain)) → m.one ops g.code (config_of p) ≡ o → o ≢ m.Stuck
+        → Came o p q (Some s) → IsTurnOf x code lim q s
     stopped s (m.Goes d) e live came = absurd came
     stopped s (m.Stops t d) e live came = stopped_so s t d e came.0 came.1
     stopped s (m.Fails f) e live came = faulted_so s f e came.0 came.1
@@ -82,21 +97,32 @@ module _ (x : State) (code : Parts) (lim : Limits) (p : State) (input : p.input 
   same_next : next_of p code lim ≡ m.one (memory plain (setting_of x code lim)) code (config_of p)
   same_next = ap (λ (g : Setting). m.one (memory plain g) code (config_of p)) (ap (λ i. run_of code i.value lim) input)
 
-  pub safe_next : (n : ℕ) → IsSafe (memory plain (setting_of x code lim)) code (config_of x) → begins (memory plain (setting_of x code lim)) code (config_of x) ≡ true → ComesIn (memory plain (setting_of x code lim)) code n (config_of x) (config_of p) → next_of p code lim ≢ m.Stuck
+  pub safe_next : (n : ℕ) → IsSafe (memory plain (setting_of x code lim)) code (config_of x)
+      → begins (memory plain (setting_of x code lim)) code (config_of x) ≡ true
+      → ComesIn (memory plain (setting_of x code lim)) code n (config_of x) (config_of p) → next_of p code lim ≢ m.Stuck
   safe_next n safe b h e = safe b (config_of p) (record { steps = n; by = h }) (sym same_next ∙ e)
 
-  module _ (q : State) (n : ℕ) (safe : IsSafe (memory plain (setting_of x code lim)) code (config_of x)) (b : begins (memory plain (setting_of x code lim)) code (config_of x) ≡ true) (h : ComesIn (memory plain (setting_of x code lim)) code n (config_of x) (config_of p)) where
-    goes_to : Came (next_of p code lim) p q None → m.one (memory plain (setting_of x code lim)) code (config_of p) ≡ m.Goes (config_of q)
+  module _ (q : State) (n : ℕ) (safe : IsSafe (memory plain (setting_of x code lim)) code (config_of x))
+      (b : begins (memory plain (setting_of x code lim)) code (config_of x) ≡ true)
+      (h : ComesIn (memory plain (setting_of x code lim)) code n (config_of x) (config_of p)) where
+    goes_to : Came (next_of p code lim) p q None
+        → m.one (memory plain (setting_of x code lim)) code (config_of p) ≡ m.Goes (config_of q)
     goes_to c = sym same_next ∙ went (setting_of x code lim) (next_of p code lim) p q c (safe_next n safe b h)
 
-    pub on_it : Came (next_of p code lim) p q None → ComesIn (memory plain (setting_of x code lim)) code (suc n) (config_of x) (config_of q)
+    pub on_it : Came (next_of p code lim) p q None
+        → ComesIn (memory plain (setting_of x code lim)) code (suc n) (config_of x) (config_of q)
     on_it c = comes_more (setting_of x code lim) n (config_of x) (config_of p) (config_of q) h (goes_to c)
 
-    pub smaller : IsRankedFrom x code lim → Came (next_of p code lim) p q None → left_by code.instrs (ticks_left (setting_of x code lim)) (config_of q) < left_by code.instrs (ticks_left (setting_of x code lim)) (config_of p)
-    smaller ranked c = falls (memory plain (setting_of x code lim)) code (ticks_left (setting_of x code lim)) (spends plain (setting_of x code lim)) (config_of p) (config_of q) (ranked (config_of p) (record { steps = n; by = h })) (goes_to c)
+    pub smaller : IsRankedFrom x code lim → Came (next_of p code lim) p q None
+        → left_by code.instrs (ticks_left (setting_of x code lim)) (config_of q)
+        < left_by code.instrs (ticks_left (setting_of x code lim)) (config_of p)
+    smaller ranked c = falls (memory plain (setting_of x code lim)) code (ticks_left (setting_of x code lim))
+        (spends plain (setting_of x code lim)) (config_of p) (config_of q)
+        (ranked (config_of p) (record { steps = n; by = h })) (goes_to c)
 
     pub ends_it : (s : Stop) → Came (next_of p code lim) p q (Some s) → IsTurnOf x code lim q s
-    ends_it s c = stopped (setting_of x code lim) (config_of x) p q n b h x code lim refl refl s (next_of p code lim) (sym same_next) (safe_next n safe b h) c
+    ends_it s c = stopped (setting_of x code lim) (config_of x) p q n b h x code lim refl refl s (next_of p code lim)
+        (sym same_next) (safe_next n safe b h) c
 
 -- what a turn did, whatever the state keeps of why it stopped
 pub turned_with : (x : State) (code : Parts) (lim : Limits) (q : State) (t s : Stop) → IsTurnOf x code lim q s

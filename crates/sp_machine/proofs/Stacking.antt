@@ -1,7 +1,9 @@
 -- The entries of a stack: those of functions that are being called, and those of a call.
-use Rattle.std.proofs.Common.{◌≡◌, ◌≢◌, ℕ, zero, suc, ◌+◌, ◌-◌, ◌≤◌, ◌<◌, List, [], ◌∷◌, ◌++◌, length, take, drop, true, false, refl, sym, ap, ◌∙◌, subst, arith}
+use Rattle.std.proofs.Common.{◌≡◌, ◌≢◌, ℕ, zero, suc, ◌+◌, ◌-◌, ◌≤◌, ◌<◌, List, [], ◌∷◌, ◌++◌, length, take, drop, true}
+use Rattle.std.proofs.Common.{false, refl, sym, ap, ◌∙◌, subst, arith}
 use Rattle.std.specs.Prelude.{reverse}
-use Rattle.std.proofs.lemmas.List.{length-reverse, length-drop, reverse-append, reverse-reverse, take-append-drop, take-append-le, take_all}
+use Rattle.std.proofs.lemmas.List.{length-reverse, length-drop, reverse-append, reverse-reverse, take-append-drop}
+use Rattle.std.proofs.lemmas.List.{take-append-le, take_all}
 use Rattle.sp_code.specs.Machine.{outside}
 use Rattle.sp_machine.specs.declared.stack.Operand.{Operand}
 use Rattle.sp_machine.specs.declared.stack.Operand.TheVariants as operand
@@ -44,15 +46,20 @@ outside_no (operand.Reply r ∷ os) h = refl
 top_is : (xs : List Operand) (k : ℕ) → k ≤ length xs → drop (length xs - k) xs ≡ reverse (take k (reverse xs))
 top_is xs k h =
     let size : length (drop (length xs - k) xs) ≡ length xs - (length xs - k) = length-drop (length xs - k) xs in
-    let front : length (reverse (drop (length xs - k) xs)) ≡ length (drop (length xs - k) xs) = length-reverse (drop (length xs - k) xs) in
-    let both : reverse xs ≡ reverse (drop (length xs - k) xs) ++ reverse (take (length xs - k) xs) = ap reverse (sym (take-append-drop (length xs - k) xs)) ∙ reverse-append (take (length xs - k) xs) (drop (length xs - k) xs) in
+    let front : length (reverse (drop (length xs - k) xs)) ≡ length (drop (length xs - k) xs) =
+    length-reverse (drop (length xs - k) xs) in
+    let both : reverse xs ≡ reverse (drop (length xs - k) xs)
+    ++ reverse (take (length xs - k) xs) = ap reverse (sym (take-append-drop (length xs - k) xs))
+    ∙ reverse-append (take (length xs - k) xs) (drop (length xs - k) xs) in
     let enough : k ≤ length (reverse (drop (length xs - k) xs)) = omega (arith, h, size, front) in
     let most : length (reverse (drop (length xs - k) xs)) ≤ k = omega (arith, h, size, front) in
     sym (ap (λ ys. reverse (take k ys)) both
-    ∙ ap reverse (take-append-le k (reverse (drop (length xs - k) xs)) (reverse (take (length xs - k) xs)) enough ∙ take_all k (reverse (drop (length xs - k) xs)) most)
+    ∙ ap reverse (take-append-le k (reverse (drop (length xs - k) xs)) (reverse (take (length xs - k) xs)) enough
+    ∙ take_all k (reverse (drop (length xs - k) xs)) most)
     ∙ reverse-reverse (drop (length xs - k) xs))
 
-pub top_part : (xs : List Operand) (k : ℕ) → k ≤ length (reverse xs) → take (length xs - (length xs - k)) (drop (length xs - k) xs) ≡ reverse (take k (reverse xs))
+pub top_part : (xs : List Operand) (k : ℕ) → k ≤ length (reverse xs)
+    → take (length xs - (length xs - k)) (drop (length xs - k) xs) ≡ reverse (take k (reverse xs))
 top_part xs k h =
     let enough : k ≤ length xs = subst (λ n. k ≤ n) (length-reverse xs) h in
     let size : length (drop (length xs - k) xs) ≡ length xs - (length xs - k) = length-drop (length xs - k) xs in
@@ -62,7 +69,9 @@ pub drop_more : (xs ys : List Operand) (i : ℕ) (o : Operand) → drop i xs ≡
 drop_more [] ys zero o e = absurd cc
 drop_more [] ys (suc i) o e = absurd cc
 drop_more (x ∷ xs) ys zero o e = ap (λ (zs : List Operand). drop 1 zs) e
-drop_more (x ∷ xs) ys (suc i) o e = let one : suc i + 1 ≡ suc (i + 1) = omega arith in ap (λ n. drop n (x ∷ xs)) one ∙ drop_more xs ys i o e
+drop_more (x ∷ xs) ys (suc i) o e = let one : suc i + 1 ≡ suc (i + 1) = omega arith in
+    ap (λ n. drop n (x ∷ xs)) one ∙ drop_more xs ys i o e
 
 pub some_left : (xs : List Operand) (i : ℕ) → i < length xs → drop i xs ≢ []
-some_left xs i h e = let size : length (drop i xs) ≡ length xs - i = length-drop i xs in let none : length (drop i xs) ≡ 0 = ap length e in absurd (omega (arith, h, size, none))
+some_left xs i h e = let size : length (drop i xs) ≡ length xs - i = length-drop i xs in
+    let none : length (drop i xs) ≡ 0 = ap length e in absurd (omega (arith, h, size, none))

@@ -1,3 +1,4 @@
+-- None of this belongs to what the program promises: it is for contracts between crates.
 -- What a process gets that waits at its stop. The contract of `resume` promises it; that what it gets fits is
 -- required, and the kernel shows it.
 use Rattle.std.specs.Prelude.{[], ◌∷◌}

@@ -1,3 +1,4 @@
+-- None of this belongs to what the program promises: it is for contracts between crates.
 -- The operations on one ordinal, by the names that the machine gives them. The contract of `convert` cites it.
 use Rattle.std.specs.Prelude.{ℤ}
 use Rattle.sp_tree.specs.declared.operators.UnaryOp.TheVariants as sign

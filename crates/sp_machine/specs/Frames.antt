@@ -1,3 +1,4 @@
+-- None of this belongs to what the program promises: it is for contracts between crates.
 -- The frames of a process as the machine's definition sees them. The contracts of frames, layouts and forks cite it.
 use Rattle.std.specs.Prelude.{List, map, reverse}
 use Rattle.sp_code.specs.Memory.{Frame as PlainFrame, Home as PlainHome, OfBlock, OfIndex}
@@ -10,7 +11,13 @@ home_of (home.Block b) = OfBlock b
 home_of (home.Index x) = OfIndex x
 
 abbrev pub frame_of : Frame → PlainFrame
-frame_of f = record { owner = f.owner; number = f.number; home = home_of f.home; link = f.link; references = f.references }
+frame_of f = record {
+  owner = f.owner;
+  number = f.number;
+  home = home_of f.home;
+  link = f.link;
+  references = f.references;
+}
 
 -- the newest first
 unfoldable pub plain_frames : List Frame → List PlainFrame

@@ -1,6 +1,8 @@
+-- None of this belongs to what the program promises: it is for contracts between crates.
 -- A process in memory as the definitions see it, and what one instruction and one turn of it do. Each instruction's
 -- contract here is `Came` of the definition's instruction, and the kernel and the runner cite the turn.
-use Rattle.std.specs.Prelude.{◌≡◌, ℕ, ◌+◌, ◌≤◌, ℤ, pos, ◌+ℤ◌, ◌≤ℤ◌, List, Option, Some, None, Bool, not, if◌then◌else◌, slice_get}
+use Rattle.std.specs.Prelude.{◌≡◌, ℕ, ◌+◌, ◌≤◌, ℤ, pos, ◌+ℤ◌, ◌≤ℤ◌, List, Option, Some, None, Bool, not, if◌then◌else◌}
+use Rattle.std.specs.Prelude.{slice_get}
 use Rattle.sp_base.specs.declared.fault.Fault.{Fault}
 use Rattle.sp_base.specs.declared.limits.Limits.{Limits}
 use Rattle.sp_cell.specs.declared.spot.Address.{Address}
@@ -23,7 +25,15 @@ use Rattle.sp_machine.specs.Entries.{entries_of}
 
 -- the memory of the machine's definition
 abbrev pub memory_of : State → Memory Plain
-memory_of p = record { process = p.number; frames = p.frames; depth = p.depth; ticks = p.ticks; since = p.since; cells = p.cells; store = p.store }
+memory_of p = record {
+  process = p.number;
+  frames = p.frames;
+  depth = p.depth;
+  ticks = p.ticks;
+  since = p.since;
+  cells = p.cells;
+  store = p.store;
+}
 
 -- the process at its next instruction
 abbrev pub config_of : State → m.Config (Memory Plain)
@@ -35,7 +45,8 @@ setting_of p code lim = run_of code p.input.value lim
 
 -- the first process of a run; limits make no difference to it
 abbrev pub start_of : Parts → List ℕ → m.Config (Memory Plain)
-start_of code input = first plain (run_of code input (record { ticks = 0; depth = 0; cells = 0; processes = 0; channels = 0; entries = 0; output = 0 }))
+start_of code input = first plain (run_of code input
+    (record { ticks = 0; depth = 0; cells = 0; processes = 0; channels = 0; entries = 0; output = 0 }))
 
 -- what waits for an answer goes there
 abbrev pub target_of : State → Address
@@ -54,16 +65,18 @@ next_of p code lim = does (slice_get code.instrs p.pc) p code lim
 -- whether the two last operands are equal, or whether they differ, is told, and the process goes on behind it
 abbrev pub compared : Bool → State → Parts → Limits → m.One (Memory Plain)
 compared different p code lim = m.on_equals (entries_of p.stack)
-    (λ b st. m.told (memory plain (setting_of p code lim)) code (if different then not b else b) (p.pc + 1) st (memory_of p))
+    (λ b st. m.told (memory plain (setting_of p code lim)) code (if different then not b else b) (p.pc + 1) st
+    (memory_of p))
 
 -- the process keeps its number and its input
 abbrev pub Stays : State → State → Type 0
 Stays p q = (q.number ≡ p.number) × (q.input ≡ p.input)
 
--- a process that stopped at a fork keeps its table and its first value; its children's depth and their values are no larger than
--- the machine's numbers
+-- a process that stopped at a fork keeps its table and its first value; its children's depth and their values are no
+-- larger than the machine's numbers
 abbrev pub IsAtFork : State → ℕ → ℤ → ℕ → Type 0
-IsAtFork q table value count = (q.table ≡ table) × ((q.first ≡ value) × ((q.depth + 1 ≤ 4294967295) × ((value +ℤ pos count) ≤ℤ pos 9223372036854775808)))
+IsAtFork q table value count = (q.table ≡ table)
+    × ((q.first ≡ value) × ((q.depth + 1 ≤ 4294967295) × ((value +ℤ pos count) ≤ℤ pos 9223372036854775808)))
 
 -- a process that stopped so is at this stop of the definition
 abbrev pub StopIs : Stop → State → m.Stop → Type 0

@@ -1,3 +1,4 @@
+-- None of this belongs to what the program promises: it is for contracts between crates.
 -- Items that are read and values that are written, by the machine's own names. The contracts of `io` cite it.
 use Rattle.std.specs.Prelude.{◌≡◌, ℕ, ◌+◌, ℤ, List, [], ◌∷◌, length, Bool, true, false, nat_lt}
 use Rattle.std.specs.Fmt.{signed_decimal}
@@ -29,5 +30,6 @@ is_cut shown.Truth = true
 
 -- bytes were written, or they would pass the limit
 abbrev pub Emits : Bool → ℕ → List ℕ → Plain → Plain → Type 0
-Emits true limit t s u = (nat_lt limit (length (bytes_in (plain.output s)) + length t) ≡ false) × (u ≡ plain.appended s t)
+Emits true limit t s u = (nat_lt limit (length (bytes_in (plain.output s)) + length t) ≡ false)
+    × (u ≡ plain.appended s t)
 Emits false limit t s u = (nat_lt limit (length (bytes_in (plain.output s)) + length t) ≡ true) × (u ≡ s)

@@ -51,7 +51,8 @@ impl State {
         limits: &Limits,
     ) -> Result<Option<Interrupt>, Memory>
         requires { self.old.pc + 1 < 4294967296 }
-        ensures came { IfOk result (λ s. CameBy (does (Some (instr.Const value)) self.old code.now limits.now) self.old self.new s) }
+        ensures came { IfOk result (λ s. CameBy (does (Some (instr.Const value)) self.old code.now limits.now) self.old
+            self.new s) }
         ensures same { Stays self.old self.new }
     {
         self.stack.push(Operand::Number(value))?;
@@ -67,7 +68,8 @@ impl State {
         limits: &Limits,
     ) -> Result<Option<Interrupt>, Memory>
         requires next { self.old.pc + 1 < 4294967296 }
-        requires safe { on_one (memory plain (setting_of self.old code.now limits.now)) code.now (converted conversion) self.old.pc
+        requires safe { on_one (memory plain (setting_of self.old code.now limits.now)) code.now (converted conversion)
+            self.old.pc
             (entries_of self.old.stack) (memory_of self.old) ≢ Stuck }
         ensures came { IfOk result (λ s. CameBy
             (on_one (memory plain (setting_of self.old code.now limits.now)) code.now (converted conversion) self.old.pc
@@ -181,7 +183,8 @@ impl State {
         requires safe { on_two (memory plain (setting_of self.old code.now limits.now)) code.now op self.old.pc
             (entries_of self.old.stack) (memory_of self.old) ≢ Stuck }
         ensures came { IfOk result (λ s. CameBy
-            (on_two (memory plain (setting_of self.old code.now limits.now)) code.now op self.old.pc (entries_of self.old.stack)
+            (on_two (memory plain (setting_of self.old code.now limits.now)) code.now op self.old.pc
+            (entries_of self.old.stack)
             (memory_of self.old)) self.old self.new s) }
         ensures same { Stays self.old self.new }
     {

@@ -1,6 +1,7 @@
 //! The instructions that call blocks and return from them.
 
-ghost use Rattle.std.specs.Prelude.{◌≡◌, ◌≢◌, ◌+◌, ◌<◌, ◌≤◌, ◌∷◌, [], IfOk, OnOk, Some, true, length, sum, reverse, take, drop};
+ghost use Rattle.std.specs.Prelude.{◌≡◌, ◌≢◌, ◌+◌, ◌<◌, ◌≤◌, ◌∷◌, [], IfOk, OnOk, Some, true, length, sum, reverse};
+ghost use Rattle.std.specs.Prelude.{take, drop};
 ghost use Rattle.sp_cell.specs.Frame.{HasNextFrame};
 ghost use Rattle.sp_code.specs.Formals.{HaveFormals, BeginsWithFormals};
 ghost use Rattle.sp_code.specs.Machine.{Stuck, entered, called, fit_formals};
@@ -90,7 +91,8 @@ impl State {
         requires formals { BeginsWithFormals layout.now }
         requires few { length layout.now.formals ≤ length layout.now.sizes }
         requires arguments { length layout.now.formals ≤ length self.old.stack }
-        requires fit { fit_formals layout.now.formals (entries_of (reverse (take (length layout.now.formals) self.old.stack))) ≡ true }
+        requires fit { fit_formals layout.now.formals
+            (entries_of (reverse (take (length layout.now.formals) self.old.stack))) ≡ true }
         requires number { HasNextFrame self.old.store }
         requires cells { cells ≡ sum layout.now.sizes }
         requires ticks { self.old.ticks + 1 < 18446744073709551616 }
@@ -132,7 +134,8 @@ impl State {
         limits: &Limits,
     ) -> Result<Option<Interrupt>, Memory>
         ensures came { IfOk result (λ s. CameBy
-            (entered (memory plain (setting_of self.old code.now limits.now)) code.now layout.now to (entries_of self.old.stack)
+            (entered (memory plain (setting_of self.old code.now limits.now)) code.now layout.now to
+            (entries_of self.old.stack)
             (memory_of self.old)) self.old self.new s) }
         ensures same { Stays self.old self.new }
     {
@@ -160,7 +163,8 @@ impl State {
         requires sizes { length layout.now.sizes ≤ 4294967294 }
         requires formals { BeginsWithFormals layout.now }
         requires few { length layout.now.formals ≤ length layout.now.sizes }
-        requires safe { called (memory plain (setting_of self.old code.now limits.now)) code.now layout.now up (self.old.pc + 1)
+        requires safe { called (memory plain (setting_of self.old code.now limits.now)) code.now layout.now up
+            (self.old.pc + 1)
             (entries_of self.old.stack) (memory_of self.old) ≢ Stuck }
         ensures came { IfOk result (λ s. CameBy
             (called (memory plain (setting_of self.old code.now limits.now)) code.now layout.now up (self.old.pc + 1)
@@ -195,7 +199,8 @@ impl State {
         requires blocks { HasDistinctBlocks code.now.layouts }
         requires formals { HaveFormals code.now.layouts }
         requires safe { does (Some (instr.Call block up)) self.old code.now limits.now ≢ Stuck }
-        ensures came { IfOk result (λ s. CameBy (does (Some (instr.Call block up)) self.old code.now limits.now) self.old self.new s) }
+        ensures came { IfOk result (λ s. CameBy (does (Some (instr.Call block up)) self.old code.now limits.now)
+            self.old self.new s) }
         ensures same { Stays self.old self.new }
     {
         let _parts = code.parts();
@@ -210,7 +215,8 @@ impl State {
     fn close_frame(&mut self, code: &Code, limits: &Limits)
         requires blocks { HasDistinctBlocks code.now.layouts }
         requires may { may_close plain (setting_of self.old code.now limits.now) self.old.frames self.old.store ≡ true }
-        ensures closed { memory_of self.new ≡ without_frame plain (setting_of self.old code.now limits.now) self.old.frames (memory_of self.old) }
+        ensures closed { memory_of self.new ≡ without_frame plain (setting_of self.old code.now limits.now)
+            self.old.frames (memory_of self.old) }
         ensures rest { (self.new.stack ≡ self.old.stack) × (self.new.pc ≡ self.old.pc) }
         ensures same { Stays self.old self.new }
     {
@@ -224,11 +230,16 @@ impl State {
 
     // Returns from a block.
     #[tactic(auto, using(sp_code::proofs::StoreLaws::has_held))]
-    pub(crate) fn give_back(&mut self, code: &Code, limits: &Limits) -> Result<Option<Interrupt>, Memory>
+    pub(crate) fn give_back(
+        &mut self,
+        code: &Code,
+        limits: &Limits,
+    ) -> Result<Option<Interrupt>, Memory>
         requires blocks { HasDistinctBlocks code.now.layouts }
         requires formals { HaveFormals code.now.layouts }
         requires safe { does (Some instr.Return) self.old code.now limits.now ≢ Stuck }
-        ensures came { IfOk result (λ s. CameBy (does (Some instr.Return) self.old code.now limits.now) self.old self.new s) }
+        ensures came { IfOk result (λ s. CameBy (does (Some instr.Return) self.old code.now limits.now) self.old
+            self.new s) }
         ensures same { Stays self.old self.new }
     {
         match self.stack.pop() {

@@ -1,6 +1,7 @@
 //! Forks: what a process hands to its children, and how the children begin.
 
-ghost use Rattle.std.specs.Prelude.{◌≡◌, ℕ, ◌+◌, ◌<◌, ◌≤◌, IfOk, OnOk, OnErr, IsSome, pos, ◌+ℤ◌, ◌≤ℤ◌, length, get_or, take, slice_get, ◌≢◌};
+ghost use Rattle.std.specs.Prelude.{◌≡◌, ℕ, ◌+◌, ◌<◌, ◌≤◌, IfOk, OnOk, OnErr, IsSome, pos, ◌+ℤ◌, ◌≤ℤ◌, length, get_or};
+ghost use Rattle.std.specs.Prelude.{take, slice_get, ◌≢◌};
 ghost use Rattle.std.specs.Option.{option_copied};
 ghost use Rattle.sp_cell.specs.declared.spot.Handing.{Handing};
 ghost use Rattle.sp_cell.specs.Map.{Plain};
@@ -8,7 +9,8 @@ ghost use Rattle.sp_cell.specs.Fork.{index_frame};
 ghost use Rattle.sp_cell.specs.Frame.{above, frames};
 ghost use Rattle.sp_code.specs.PlainStore.{plain};
 ghost use Rattle.sp_code.specs.Sound.{HasDistinctBlocks, CanSplit};
-ghost use Rattle.sp_code.specs.System.{place_of, first_number, spot_by, spot_in, spot_from, spot_of, spots_of, plan_from, child_or, table_or};
+ghost use Rattle.sp_code.specs.System.{place_of, first_number, spot_by, spot_in, spot_from, spot_of, spots_of};
+ghost use Rattle.sp_code.specs.System.{plan_from, child_or, table_or};
 ghost use Rattle.sp_code.specs.Tables.{child_at};
 ghost use Rattle.sp_store.specs.Layout.{FramesBelow};
 ghost use Rattle.sp_machine.specs.Children.{handed_to, with_frame, IsBornSo, AreBornSo, AreNewborn, plan_by};
@@ -27,8 +29,8 @@ use sp_store::Store;
 use std::alloc::Global;
 use std::sync::Arc;
 
-/// The place of a variable of the tree in a frame, counted from the first one. More places than a number can tell count as
-/// want of memory.
+/// The place of a variable of the tree in a frame, counted from the first one. More places than a number can tell count
+/// as want of memory.
 #[tactic(auto, using(crate::proofs::Placing::place_here, crate::proofs::Placing::place_on, crate::proofs::Placing::place_end))]
 fn place_of(variable: u32, first: u32, variables: &[u32]) -> Result<Option<u32>, Memory>
     ensures { IfOk result (λ r. r ≡ place_of variable first variables.now) }
@@ -179,7 +181,8 @@ fn above_all(spots: &[Spot]) -> u64
 
 /// The number of the frame of a child's index: the least above the frames of all that the child is handed.
 fn index_frame(handing: &Handing) -> u64
-    requires { FramesBelow handing.now.moved 18446744073709551615 × FramesBelow handing.now.shared 18446744073709551615 }
+    requires { FramesBelow handing.now.moved 18446744073709551615
+        × FramesBelow handing.now.shared 18446744073709551615 }
     ensures { result ≡ index_frame handing.now }
 {
     let moved = above_all(handing.moved.items());
@@ -196,7 +199,8 @@ fn handing_of(
     child: Option<&ChildTable>,
 ) -> Result<Handing, Memory>
     requires blocks { HasDistinctBlocks code.now.layouts }
-    ensures { IfOk result (λ h. h ≡ handed_to code.now.layouts frames.now value (child_or (option_copied child.entry))) }
+    ensures { IfOk result (λ h. h ≡ handed_to code.now.layouts frames.now value
+        (child_or (option_copied child.entry))) }
 {
     match child {
         Some(child) => {
@@ -247,7 +251,8 @@ impl State {
     ) -> Result<Frames, Memory>
         requires visible { visible ≤ length shared.now.value }
         requires frames { self.now.frames ≡ plain_frames (take visible shared.now.value) }
-        requires below { IsSome index → FramesBelow handing.now.moved 18446744073709551615 × FramesBelow handing.now.shared 18446744073709551615 }
+        requires below { IsSome index → FramesBelow handing.now.moved 18446744073709551615
+            × FramesBelow handing.now.shared 18446744073709551615 }
         ensures { IfOk result (λ fs. fs ≡ with_frame number handing.now index self.now.frames) }
     {
         let alloc = *self.text.allocator();
@@ -310,8 +315,10 @@ impl State {
         requires deeper { self.now.depth + 1 ≤ 4294967295 }
         requires numbers { number + length plan.now ≤ 4294967295 }
         requires below { (k : ℕ) (h : Handing) → k < length plan.now → h ≡ get_or plan.now k h
-            → IsSome (child_or (child_at table.now k)).index → FramesBelow h.moved 18446744073709551615 × FramesBelow h.shared 18446744073709551615 }
-        ensures { IfOk result (λ cs. (length cs.items ≡ length plan.now) × AreBornSo cs.items plan.now table.now number self.now (length plan.now)) }
+            → IsSome (child_or (child_at table.now k)).index → FramesBelow h.moved 18446744073709551615
+            × FramesBelow h.shared 18446744073709551615 }
+        ensures { IfOk result (λ cs. (length cs.items ≡ length plan.now)
+            × AreBornSo cs.items plan.now table.now number self.now (length plan.now)) }
     {
         let mut children = Vec::new(*self.text.allocator());
         let mut k = 0u32;
@@ -336,10 +343,14 @@ impl State {
         requires values { (self.old.first +ℤ pos count) ≤ℤ pos 9223372036854775808 }
         requires deeper { self.old.depth + 1 ≤ 4294967295 }
         requires numbers { number + count ≤ 4294967295 }
-        requires can { CanSplit self.old.store (plan_from code.now.layouts self.old.frames table.now self.old.first 0 count) }
+        requires can { CanSplit self.old.store
+            (plan_from code.now.layouts self.old.frames table.now self.old.first 0 count) }
         ensures children { IfOk result (λ cs. AreNewborn code.now self.old table.now number count cs) }
         ensures parent { OnOk result (self.new
-            ≡ record self.old { store = plain.handed self.old.store (plan_from code.now.layouts self.old.frames table.now self.old.first 0 count) }) }
+            ≡ record self.old {
+              store = plain.handed self.old.store
+                  (plan_from code.now.layouts self.old.frames table.now self.old.first 0 count);
+            }) }
         ensures err { OnErr result (self.new ≡ self.old) }
     {
         let plan = self.plan(code, table, count)?;
@@ -362,8 +373,10 @@ impl State {
         requires deeper { self.old.depth + 1 ≤ 4294967295 }
         requires numbers { number + count ≤ 4294967295 }
         requires can { CanSplit self.old.store (plan_by code.now self.old count) }
-        ensures children { IfOk result (λ cs. AreNewborn code.now self.old (table_or (slice_get code.now.forks self.old.table)) number count cs) }
-        ensures parent { OnOk result (self.new ≡ record self.old { store = plain.handed self.old.store (plan_by code.now self.old count) }) }
+        ensures children { IfOk result (λ cs. AreNewborn code.now self.old
+            (table_or (slice_get code.now.forks self.old.table)) number count cs) }
+        ensures parent { OnOk result (self.new
+            ≡ record self.old { store = plain.handed self.old.store (plan_by code.now self.old count) }) }
         ensures err { OnErr result (self.new ≡ self.old) }
     {
         match code.table(self.table) {
@@ -398,7 +411,8 @@ fn give_stores(children: &mut Vec<Proc>, stores: List<Store>)
 fn give_store(children: &mut Vec<Proc>, place: usize, store: Store)
     requires { place < length children.old.items }
     ensures len { length children.new.items ≡ length children.old.items }
-    ensures here { (d : State) → get_or children.new.items place d ≡ record (get_or children.old.items place d) { store = store } }
+    ensures here { (d : State) → get_or children.new.items place d
+        ≡ record (get_or children.old.items place d) { store = store } }
     ensures others { (k : ℕ) (d : State) → k ≢ place → get_or children.new.items k d ≡ get_or children.old.items k d }
 {
     let child = &mut children[place];

@@ -55,7 +55,8 @@ impl State {
     ) -> Result<Option<Interrupt>, Memory>
         requires next { self.old.pc + 1 < 4294967296 }
         requires safe { does (Some (instr.Jump to)) self.old code.now limits.now ≢ Stuck }
-        ensures came { IfOk result (λ s. CameBy (does (Some (instr.Jump to)) self.old code.now limits.now) self.old self.new s) }
+        ensures came { IfOk result (λ s. CameBy (does (Some (instr.Jump to)) self.old code.now limits.now) self.old
+            self.new s) }
         ensures same { Stays self.old self.new }
     {
         self.pc = to;
@@ -71,7 +72,8 @@ impl State {
     ) -> Result<Option<Interrupt>, Memory>
         requires next { self.old.pc + 1 < 4294967296 }
         requires safe { does (Some (instr.Jumpf to)) self.old code.now limits.now ≢ Stuck }
-        ensures came { IfOk result (λ s. CameBy (does (Some (instr.Jumpf to)) self.old code.now limits.now) self.old self.new s) }
+        ensures came { IfOk result (λ s. CameBy (does (Some (instr.Jumpf to)) self.old code.now limits.now) self.old
+            self.new s) }
         ensures same { Stays self.old self.new }
     {
         match self.stack.pop_number() {
@@ -97,7 +99,8 @@ impl State {
     ) -> Result<Option<Interrupt>, Memory>
         requires next { self.old.pc + 1 < 4294967296 }
         requires safe { does (Some (instr.Casej value to)) self.old code.now limits.now ≢ Stuck }
-        ensures came { IfOk result (λ s. CameBy (does (Some (instr.Casej value to)) self.old code.now limits.now) self.old self.new s) }
+        ensures came { IfOk result (λ s. CameBy (does (Some (instr.Casej value to)) self.old code.now limits.now)
+            self.old self.new s) }
         ensures same { Stays self.old self.new }
     {
         match self.stack.pop_number() {
@@ -115,10 +118,15 @@ impl State {
     }
 
     // Goes on where the operand is true.
-    pub(crate) fn assume(&mut self, code: &Code, limits: &Limits) -> Result<Option<Interrupt>, Memory>
+    pub(crate) fn assume(
+        &mut self,
+        code: &Code,
+        limits: &Limits,
+    ) -> Result<Option<Interrupt>, Memory>
         requires next { self.old.pc + 1 < 4294967296 }
         requires safe { does (Some instr.Assume) self.old code.now limits.now ≢ Stuck }
-        ensures came { IfOk result (λ s. CameBy (does (Some instr.Assume) self.old code.now limits.now) self.old self.new s) }
+        ensures came { IfOk result (λ s. CameBy (does (Some instr.Assume) self.old code.now limits.now) self.old
+            self.new s) }
         ensures same { Stays self.old self.new }
     {
         match self.stack.pop_number() {
@@ -137,7 +145,8 @@ impl State {
     pub(crate) fn tick(&mut self, code: &Code, limits: &Limits) -> Result<Option<Interrupt>, Memory>
         requires next { self.old.pc + 1 < 4294967296 }
         requires safe { does (Some instr.Tick) self.old code.now limits.now ≢ Stuck }
-        ensures came { IfOk result (λ s. CameBy (does (Some instr.Tick) self.old code.now limits.now) self.old self.new s) }
+        ensures came { IfOk result (λ s. CameBy (does (Some instr.Tick) self.old code.now limits.now) self.old self.new
+            s) }
         ensures same { Stays self.old self.new }
     {
         if self.ticks >= limits.ticks {
@@ -161,7 +170,8 @@ impl State {
         limits: &Limits,
     ) -> Result<Option<Interrupt>, Memory>
         requires next { self.old.pc + 1 < 4294967296 }
-        requires safe { begins_loop (memory plain (setting_of self.old code.now limits.now)) code.now down var to self.old.pc
+        requires safe { begins_loop (memory plain (setting_of self.old code.now limits.now)) code.now down var to
+            self.old.pc
             (entries_of self.old.stack) (memory_of self.old) ≢ Stuck }
         ensures came { IfOk result (λ s. CameBy
             (begins_loop (memory plain (setting_of self.old code.now limits.now)) code.now down var to self.old.pc
@@ -197,7 +207,8 @@ impl State {
         limits: &Limits,
     ) -> Result<Option<Interrupt>, Memory>
         requires next { self.old.pc + 1 < 4294967296 }
-        requires safe { ends_loop (memory plain (setting_of self.old code.now limits.now)) code.now down var to self.old.pc
+        requires safe { ends_loop (memory plain (setting_of self.old code.now limits.now)) code.now down var to
+            self.old.pc
             (entries_of self.old.stack) (memory_of self.old) ≢ Stuck }
         ensures came { IfOk result (λ s. CameBy
             (ends_loop (memory plain (setting_of self.old code.now limits.now)) code.now down var to self.old.pc

@@ -1,6 +1,7 @@
 //! The frames of a process, and the addresses of variables in them by level and number.
 
-ghost use Rattle.std.specs.Prelude.{◌≡◌, ◌≢◌, ◌<◌, ◌≤◌, ◌+◌, ◌∷◌, ◌++◌, [], List, length, min, take, drop, IfOk, OnOk, OnErr};
+ghost use Rattle.std.specs.Prelude.{◌≡◌, ◌≢◌, ◌<◌, ◌≤◌, ◌+◌, ◌∷◌, ◌++◌, [], List, length, min, take, drop, IfOk, OnOk};
+ghost use Rattle.std.specs.Prelude.{OnErr};
 ghost use Rattle.sp_code.specs.Memory.{Frame as PlainFrame, last_frames, frames_up, addr_in, deref_in, referred};
 ghost use Rattle.sp_machine.specs.Frames.{plain_frames, frame_of, home_of};
 
@@ -33,8 +34,8 @@ pub struct Frame {
     pub(crate) references: List<(u32, Address)>,
 }
 
-/// The live frames of a process, the newest last in memory: the visible ones of those that it shares with others, and then its
-/// own. Contracts see the newest first, as the definitions do.
+/// The live frames of a process, the newest last in memory: the visible ones of those that it shares with others, and
+/// then its own. Contracts see the newest first, as the definitions do.
 #[derive(Drop)]
 pub struct Frames {
     shared: Arc<List<Frame>>,
@@ -212,7 +213,8 @@ impl Frames {
     #[tactic(auto, using(crate::proofs::Framing::newest_first, crate::proofs::Framing::none_shorter))]
     pub(crate) fn newest(&self) -> (u64, Home)
         requires { self.now ≢ [] }
-        ensures { (f : PlainFrame) (fs : List PlainFrame) → self.now ≡ f ∷ fs → (f.number ≡ result.0) × (f.home ≡ home_of result.1) }
+        ensures { (f : PlainFrame) (fs : List PlainFrame) → self.now ≡ f ∷ fs → (f.number ≡ result.0)
+            × (f.home ≡ home_of result.1) }
     {
         let count = self.len();
         let frame = self.at(count - 1);

@@ -1,6 +1,7 @@
 //! The instructions that read the input and write the output.
 
-ghost use Rattle.std.specs.Prelude.{◌≡◌, ◌≢◌, ◌+◌, ◌<◌, ◌++◌, IfOk, OnOk, Some, None, true, pos, take, drop, replicate, if◌then◌else◌};
+ghost use Rattle.std.specs.Prelude.{◌≡◌, ◌≢◌, ◌+◌, ◌<◌, ◌++◌, IfOk, OnOk, Some, None, true, pos, take, drop, replicate};
+ghost use Rattle.std.specs.Prelude.{if◌then◌else◌};
 ghost use Rattle.sp_tree.specs.Items.{padded};
 ghost use Rattle.sp_cell.specs.declared.cell.Cell.TheVariants.{Ordinal};
 ghost use Rattle.sp_cell.specs.Map.{HasCells};
@@ -122,8 +123,8 @@ fn emit(store: &mut Store, blanks: u64, text: &[u8], limits: &Limits) -> Result<
     Ok(true)
 }
 
-/// Writes a text right in a width, which cuts it if `cut`. `false` where the output would pass its limit; then nothing is
-/// written.
+/// Writes a text right in a width, which cuts it if `cut`. `false` where the output would pass its limit; then nothing
+/// is written.
 fn emit_wide(
     store: &mut Store,
     cut: bool,
@@ -132,7 +133,8 @@ fn emit_wide(
     limits: &Limits,
 ) -> Result<bool, Memory>
     requires { is_held (plain.output store.old) ≡ true }
-    ensures { IfOk result (λ b. Emits b limits.now.output (padded width (if cut then take width text.now else text.now)) store.old
+    ensures { IfOk result (λ b. Emits b limits.now.output (padded width (if cut then take width text.now else text.now))
+        store.old
         store.new) }
 {
     let shown = cut_to(cut, width, text);
@@ -162,7 +164,8 @@ impl State {
     #[tactic(auto, using(crate::proofs::Positions::position_held, crate::proofs::Positions::position_is, crate::proofs::Positions::position_not_undefined, crate::proofs::Positions::position_not_channel, crate::proofs::Positions::left_held))]
     fn left(&self) -> &[u8]
         requires { left_after self.now.input.value (position_in (plain.piece self.now.store position_at.spot)) ≢ None }
-        ensures { left_after self.now.input.value (position_in (plain.piece self.now.store position_at.spot)) ≡ Some result.now }
+        ensures { left_after self.now.input.value (position_in (plain.piece self.now.store position_at.spot))
+            ≡ Some result.now }
     {
         match self.store.load(input_address()) {
             Cell::Ordinal(place) => bytes_from(self.input.bytes(), place.unsigned_abs()),
@@ -170,15 +173,16 @@ impl State {
         }
     }
 
-    /// So many bytes of the input are taken. A place that no cell can hold counts as want of memory; only code that writes over
-    /// the place in the input comes to one.
+    /// So many bytes of the input are taken. A place that no cell can hold counts as want of memory; only code that
+    /// writes over the place in the input comes to one.
     #[tactic(auto, using(crate::proofs::Positions::position_held, crate::proofs::Positions::position_is, crate::proofs::Positions::position_not_undefined, crate::proofs::Positions::position_not_channel, crate::proofs::Positions::left_held, sp_code::proofs::StoreLaws::cells_same))]
     fn advance(&mut self, bytes: usize) -> Result<(), Memory>
         requires { left_after self.old.input.value (position_in (plain.piece self.old.store position_at.spot)) ≢ None }
         ensures taken { OnOk result (self.new
             ≡ record self.old {
               store = put_cell plain position_at
-                  (Ordinal (pos (or_zero (position_in (plain.piece self.old.store position_at.spot)) + bytes))) self.old.store;
+                  (Ordinal (pos (or_zero (position_in (plain.piece self.old.store position_at.spot)) + bytes)))
+                  self.old.store;
             }) }
         ensures same { Stays self.old self.new }
     {
@@ -196,7 +200,8 @@ impl State {
 
     /// A value of so many bytes of the input goes to an address.
     fn take(&mut self, at: Address, value: i64, bytes: usize) -> Result<(), Memory>
-        requires input { left_after self.old.input.value (position_in (plain.piece self.old.store position_at.spot)) ≢ None }
+        requires input { left_after self.old.input.value (position_in (plain.piece self.old.store position_at.spot))
+            ≢ None }
         requires has { HasCells self.old.store.map at 1 }
         ensures taken { OnOk result (self.new
             ≡ record self.old {
@@ -219,7 +224,8 @@ impl State {
         limits: &Limits,
     ) -> Result<Option<Interrupt>, Memory>
         requires next { self.old.pc + 1 < 4294967296 }
-        requires safe { reads (memory plain (setting_of self.old code.now limits.now)) code.now (item_in item) (self.old.pc + 1)
+        requires safe { reads (memory plain (setting_of self.old code.now limits.now)) code.now (item_in item)
+            (self.old.pc + 1)
             (entries_of self.old.stack) (memory_of self.old) ≢ Stuck }
         ensures came { IfOk result (λ s. CameBy
             (reads (memory plain (setting_of self.old code.now limits.now)) code.now (item_in item) (self.old.pc + 1)
@@ -240,10 +246,15 @@ impl State {
     }
 
     // Drops the rest of the line.
-    pub(crate) fn read_line(&mut self, code: &Code, limits: &Limits) -> Result<Option<Interrupt>, Memory>
+    pub(crate) fn read_line(
+        &mut self,
+        code: &Code,
+        limits: &Limits,
+    ) -> Result<Option<Interrupt>, Memory>
         requires next { self.old.pc + 1 < 4294967296 }
         requires safe { does (Some instr.Readln) self.old code.now limits.now ≢ Stuck }
-        ensures came { IfOk result (λ s. CameBy (does (Some instr.Readln) self.old code.now limits.now) self.old self.new s) }
+        ensures came { IfOk result (λ s. CameBy (does (Some instr.Readln) self.old code.now limits.now) self.old
+            self.new s) }
         ensures same { Stays self.old self.new }
     {
         let bytes = line_length(self.left());
@@ -260,7 +271,8 @@ impl State {
     ) -> Result<Option<Interrupt>, Memory>
         requires next { self.old.pc + 1 < 4294967296 }
         requires safe { does (Some instr.Eof) self.old code.now limits.now ≢ Stuck }
-        ensures came { IfOk result (λ s. CameBy (does (Some instr.Eof) self.old code.now limits.now) self.old self.new s) }
+        ensures came { IfOk result (λ s. CameBy (does (Some instr.Eof) self.old code.now limits.now) self.old self.new
+            s) }
         ensures same { Stays self.old self.new }
     {
         let over = self.left().len() == 0;
@@ -277,7 +289,8 @@ impl State {
     ) -> Result<Option<Interrupt>, Memory>
         requires next { self.old.pc + 1 < 4294967296 }
         requires safe { does (Some instr.Eoln) self.old code.now limits.now ≢ Stuck }
-        ensures came { IfOk result (λ s. CameBy (does (Some instr.Eoln) self.old code.now limits.now) self.old self.new s) }
+        ensures came { IfOk result (λ s. CameBy (does (Some instr.Eoln) self.old code.now limits.now) self.old self.new
+            s) }
         ensures same { Stays self.old self.new }
     {
         let over = is_at_line_end(self.left());
@@ -294,7 +307,8 @@ impl State {
         limits: &Limits,
     ) -> Result<Option<Interrupt>, Memory>
         requires next { self.old.pc + 1 < 4294967296 }
-        requires safe { writes (memory plain (setting_of self.old code.now limits.now)) code.now (text_of shown) (self.old.pc + 1)
+        requires safe { writes (memory plain (setting_of self.old code.now limits.now)) code.now (text_of shown)
+            (self.old.pc + 1)
             (entries_of self.old.stack) (memory_of self.old) ≢ Stuck }
         ensures came { IfOk result (λ s. CameBy
             (writes (memory plain (setting_of self.old code.now limits.now)) code.now (text_of shown) (self.old.pc + 1)
@@ -322,10 +336,12 @@ impl State {
         limits: &Limits,
     ) -> Result<Option<Interrupt>, Memory>
         requires next { self.old.pc + 1 < 4294967296 }
-        requires safe { writes_wide (memory plain (setting_of self.old code.now limits.now)) code.now (is_cut shown) (text_of shown)
+        requires safe { writes_wide (memory plain (setting_of self.old code.now limits.now)) code.now (is_cut shown)
+            (text_of shown)
             (self.old.pc + 1) (entries_of self.old.stack) (memory_of self.old) ≢ Stuck }
         ensures came { IfOk result (λ s. CameBy
-            (writes_wide (memory plain (setting_of self.old code.now limits.now)) code.now (is_cut shown) (text_of shown)
+            (writes_wide (memory plain (setting_of self.old code.now limits.now)) code.now (is_cut shown)
+            (text_of shown)
             (self.old.pc + 1) (entries_of self.old.stack) (memory_of self.old)) self.old self.new s) }
         ensures same { Stays self.old self.new }
     {
@@ -371,7 +387,8 @@ impl State {
     ) -> Result<Option<Interrupt>, Memory>
         requires next { self.old.pc + 1 < 4294967296 }
         requires safe { does (Some (instr.WriteText number)) self.old code.now limits.now ≢ Stuck }
-        ensures came { IfOk result (λ s. CameBy (does (Some (instr.WriteText number)) self.old code.now limits.now) self.old self.new s) }
+        ensures came { IfOk result (λ s. CameBy (does (Some (instr.WriteText number)) self.old code.now limits.now)
+            self.old self.new s) }
         ensures same { Stays self.old self.new }
     {
         match code.text(number) {
@@ -395,7 +412,8 @@ impl State {
     ) -> Result<Option<Interrupt>, Memory>
         requires next { self.old.pc + 1 < 4294967296 }
         requires safe { does (Some (instr.WritewText number)) self.old code.now limits.now ≢ Stuck }
-        ensures came { IfOk result (λ s. CameBy (does (Some (instr.WritewText number)) self.old code.now limits.now) self.old self.new s) }
+        ensures came { IfOk result (λ s. CameBy (does (Some (instr.WritewText number)) self.old code.now limits.now)
+            self.old self.new s) }
         ensures same { Stays self.old self.new }
     {
         match self.stack.pop_number() {
@@ -423,10 +441,15 @@ impl State {
     }
 
     // Writes a line feed.
-    pub(crate) fn new_line(&mut self, code: &Code, limits: &Limits) -> Result<Option<Interrupt>, Memory>
+    pub(crate) fn new_line(
+        &mut self,
+        code: &Code,
+        limits: &Limits,
+    ) -> Result<Option<Interrupt>, Memory>
         requires next { self.old.pc + 1 < 4294967296 }
         requires safe { does (Some instr.Writeln) self.old code.now limits.now ≢ Stuck }
-        ensures came { IfOk result (λ s. CameBy (does (Some instr.Writeln) self.old code.now limits.now) self.old self.new s) }
+        ensures came { IfOk result (λ s. CameBy (does (Some instr.Writeln) self.old code.now limits.now) self.old
+            self.new s) }
         ensures same { Stays self.old self.new }
     {
         if !emit(&mut self.store, 0, b"\n", limits)? {

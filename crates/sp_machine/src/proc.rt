@@ -81,10 +81,10 @@ impl Proc {
         &self.state.store
     }
 
-    /// Runs the process to its next stop, or until it is due. `Stop::Fault` comes exactly where an instruction has the fault.
-    /// Before it stops with `Open` or `Receive`, the piece to which the answer goes is own. `Stop::Memory` is want of memory:
-    /// the process can't go on then. It also comes where the place in the input would be more than a cell can hold, which only
-    /// code that writes over the input's place brings about.
+    /// Runs the process to its next stop, or until it is due. `Stop::Fault` comes exactly where an instruction has the
+    /// fault. Before it stops with `Open` or `Receive`, the piece to which the answer goes is own. `Stop::Memory` is
+    /// want of memory: the process can't go on then. It also comes where the place in the input would be more than a
+    /// cell can hold, which only code that writes over the input's place brings about.
     pub fn turn(&mut self, code: &Code, limits: &Limits) -> Stop
         requires ranked { IsRankedFrom self.old code.now limits.now }
         requires blocks { HasDistinctBlocks code.now.layouts }
@@ -112,15 +112,18 @@ impl Proc {
         self.state.resume(answer);
     }
 
-    /// The children of the fork at which the process stopped, with the numbers from `number` on. What the fork's table moves to them
-    /// is away here after it, and what it shares is shared. Where memory is refused, the process is as before.
+    /// The children of the fork at which the process stopped, with the numbers from `number` on. What the fork's table
+    /// moves to them is away here after it, and what it shares is shared. Where memory is refused, the process is as
+    /// before.
     pub fn split(&mut self, code: &Code, count: u32, number: u32) -> Result<List<Proc>, Memory>
         requires blocks { HasDistinctBlocks code.now.layouts }
         requires fork { IsAtFork self.old self.old.table self.old.first count }
         requires numbers { number + count ≤ 4294967295 }
         requires can { CanSplit self.old.store (plan_by code.now self.old count) }
-        ensures children { IfOk result (λ cs. AreNewborn code.now self.old (table_or (slice_get code.now.forks self.old.table)) number count cs) }
-        ensures parent { OnOk result (self.new ≡ record self.old { store = plain.handed self.old.store (plan_by code.now self.old count) }) }
+        ensures children { IfOk result (λ cs. AreNewborn code.now self.old
+            (table_or (slice_get code.now.forks self.old.table)) number count cs) }
+        ensures parent { OnOk result (self.new
+            ≡ record self.old { store = plain.handed self.old.store (plan_by code.now self.old count) }) }
         ensures err { OnErr result (self.new ≡ self.old) }
     {
         self.state.split(code, count, number)

@@ -1,6 +1,7 @@
 //! The stack of operands of a process.
 
-ghost use Rattle.std.specs.Prelude.{◌≡◌, ◌≤◌, ◌∷◌, [], Some, None, OnOk, OnErr, MatchOption, length, reverse, take, drop};
+ghost use Rattle.std.specs.Prelude.{◌≡◌, ◌≤◌, ◌∷◌, [], Some, None, OnOk, OnErr, MatchOption, length, reverse, take};
+ghost use Rattle.std.specs.Prelude.{drop};
 ghost use Rattle.sp_code.specs.Machine.{outside};
 ghost use Rattle.sp_machine.specs.Entries.{entries_of, counted, pointer_in, HasNoNumber, HasNoChannel, HasNoPointer};
 ghost use Rattle.sp_machine.specs.declared.stack.Operand.TheVariants.{Number, Channel, Pointer};

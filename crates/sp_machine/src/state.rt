@@ -50,8 +50,8 @@ pub(crate) enum Interrupt {
 /// Why a turn ended.
 #[derive(Drop)]
 pub enum Stop {
-    /// At a fork with this table, and for a `forall` the first value of its range. `count` is the number of its children, or
-    /// 18,446,744,073,709,551,615 where that number is greater.
+    /// At a fork with this table, and for a `forall` the first value of its range. `count` is the number of its
+    /// children, or 18,446,744,073,709,551,615 where that number is greater.
     Fork {
         table: u32,
         first: i64,

@@ -15,7 +15,8 @@ impl State {
     pub(crate) fn push_on(&mut self, entry: Operand) -> Result<Option<Interrupt>, Memory>
         requires { self.old.pc + 1 < 4294967296 }
         ensures came { (p : State) → IfOk result (λ s. CameBy
-            (Goes (At (self.old.pc + 1) (entry_of entry ∷ entries_of self.old.stack) (memory_of self.old))) p self.new s) }
+            (Goes (At (self.old.pc + 1) (entry_of entry ∷ entries_of self.old.stack) (memory_of self.old))) p self.new
+            s) }
         ensures same { Stays self.old self.new }
     {
         self.stack.push(entry)?;
@@ -25,7 +26,8 @@ impl State {
 
     /// Stays at an instruction that has a fault, with the operand that it had on top.
     pub(crate) fn fail(&mut self, entry: Operand, fault: Fault) -> Result<Option<Interrupt>, Memory>
-        ensures came { (p : State) → config_of p ≡ At self.old.pc (entry_of entry ∷ entries_of self.old.stack) (memory_of self.old)
+        ensures came { (p : State) → config_of p
+            ≡ At self.old.pc (entry_of entry ∷ entries_of self.old.stack) (memory_of self.old)
             → IfOk result (λ s. CameBy (Fails fault) p self.new s) }
         ensures same { Stays self.old self.new }
     {

@@ -1,6 +1,7 @@
 //! Instructions at which a turn stops: opens, sends, receives and forks.
 
-ghost use Rattle.std.specs.Prelude.{◌≡◌, ◌≢◌, ◌+◌, ◌<◌, ◌≤◌, ◌∷◌, [], IfOk, Some, true, length, int_le, pos, ◌+ℤ◌, ◌≤ℤ◌};
+ghost use Rattle.std.specs.Prelude.{◌≡◌, ◌≢◌, ◌+◌, ◌<◌, ◌≤◌, ◌∷◌, [], IfOk, Some, true, length, int_le, pos, ◌+ℤ◌};
+ghost use Rattle.std.specs.Prelude.{◌≤ℤ◌};
 ghost use Rattle.sp_code.specs.Machine.{Stuck, At, Forks, values_in};
 ghost use Rattle.sp_code.specs.declared.instr.Instr.TheVariants as instr;
 ghost use Rattle.sp_machine.specs.Procs.{does, CameBy, Stays, StopIs, config_of, memory_of};
@@ -34,7 +35,8 @@ impl State {
     pub(crate) fn open(&mut self, code: &Code, limits: &Limits) -> Result<Option<Interrupt>, Memory>
         requires next { self.old.pc + 1 < 4294967296 }
         requires safe { does (Some instr.Open) self.old code.now limits.now ≢ Stuck }
-        ensures came { IfOk result (λ s. CameBy (does (Some instr.Open) self.old code.now limits.now) self.old self.new s) }
+        ensures came { IfOk result (λ s. CameBy (does (Some instr.Open) self.old code.now limits.now) self.old self.new
+            s) }
         ensures same { Stays self.old self.new }
     {
         match self.stack.pop_pointer() {
@@ -58,7 +60,8 @@ impl State {
     ) -> Result<Option<Interrupt>, Memory>
         requires next { self.old.pc + 1 < 4294967296 }
         requires safe { does (Some (instr.Send message)) self.old code.now limits.now ≢ Stuck }
-        ensures came { IfOk result (λ s. CameBy (does (Some (instr.Send message)) self.old code.now limits.now) self.old self.new s) }
+        ensures came { IfOk result (λ s. CameBy (does (Some (instr.Send message)) self.old code.now limits.now) self.old
+            self.new s) }
         ensures same { Stays self.old self.new }
     {
         let cells = match self.stack.pop() {
@@ -99,7 +102,8 @@ impl State {
     ) -> Result<Option<Interrupt>, Memory>
         requires next { self.old.pc + 1 < 4294967296 }
         requires safe { does (Some (instr.Receive message)) self.old code.now limits.now ≢ Stuck }
-        ensures came { IfOk result (λ s. CameBy (does (Some (instr.Receive message)) self.old code.now limits.now) self.old self.new s) }
+        ensures came { IfOk result (λ s. CameBy (does (Some (instr.Receive message)) self.old code.now limits.now)
+            self.old self.new s) }
         ensures same { Stays self.old self.new }
     {
         match self.stack.pop_pointer() {
@@ -126,7 +130,8 @@ impl State {
     ) -> Result<Option<Interrupt>, Memory>
         requires next { self.old.pc + 1 < 4294967296 }
         requires safe { does (Some (instr.Fork table)) self.old code.now limits.now ≢ Stuck }
-        ensures came { IfOk result (λ s. CameBy (does (Some (instr.Fork table)) self.old code.now limits.now) self.old self.new s) }
+        ensures came { IfOk result (λ s. CameBy (does (Some (instr.Fork table)) self.old code.now limits.now) self.old
+            self.new s) }
         ensures same { Stays self.old self.new }
     {
         let most = limits.depth;
@@ -171,7 +176,8 @@ impl State {
     ) -> Result<Option<Interrupt>, Memory>
         requires next { self.old.pc + 1 < 4294967296 }
         requires safe { does (Some (instr.Forall table)) self.old code.now limits.now ≢ Stuck }
-        ensures came { IfOk result (λ s. CameBy (does (Some (instr.Forall table)) self.old code.now limits.now) self.old self.new s) }
+        ensures came { IfOk result (λ s. CameBy (does (Some (instr.Forall table)) self.old code.now limits.now) self.old
+            self.new s) }
         ensures same { Stays self.old self.new }
     {
         match self.stack.pop_number() {
@@ -207,7 +213,8 @@ impl State {
 
     // Stops at the end of its code.
     pub(crate) fn end(&mut self, code: &Code, limits: &Limits) -> Result<Option<Interrupt>, Memory>
-        ensures came { IfOk result (λ s. CameBy (does (Some instr.End) self.old code.now limits.now) self.old self.new s) }
+        ensures came { IfOk result (λ s. CameBy (does (Some instr.End) self.old code.now limits.now) self.old self.new
+            s) }
         ensures same { Stays self.old self.new }
     {
         self.stopped = Stop::End;

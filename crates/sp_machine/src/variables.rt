@@ -38,7 +38,8 @@ impl State {
     ) -> Result<Option<Interrupt>, Memory>
         requires next { self.old.pc + 1 < 4294967296 }
         requires safe { does (Some (instr.Addr up var)) self.old code.now limits.now ≢ Stuck }
-        ensures came { IfOk result (λ s. CameBy (does (Some (instr.Addr up var)) self.old code.now limits.now) self.old self.new s) }
+        ensures came { IfOk result (λ s. CameBy (does (Some (instr.Addr up var)) self.old code.now limits.now) self.old
+            self.new s) }
         ensures same { Stays self.old self.new }
     {
         match self.frames.address(up, var) {
@@ -57,7 +58,8 @@ impl State {
     ) -> Result<Option<Interrupt>, Memory>
         requires next { self.old.pc + 1 < 4294967296 }
         requires safe { does (Some (instr.Deref up var)) self.old code.now limits.now ≢ Stuck }
-        ensures came { IfOk result (λ s. CameBy (does (Some (instr.Deref up var)) self.old code.now limits.now) self.old self.new s) }
+        ensures came { IfOk result (λ s. CameBy (does (Some (instr.Deref up var)) self.old code.now limits.now) self.old
+            self.new s) }
         ensures same { Stays self.old self.new }
     {
         match self.frames.reference(up, var) {
@@ -77,7 +79,8 @@ impl State {
     ) -> Result<Option<Interrupt>, Memory>
         requires next { self.old.pc + 1 < 4294967296 }
         requires safe { does (Some (instr.Index low high size)) self.old code.now limits.now ≢ Stuck }
-        ensures came { IfOk result (λ s. CameBy (does (Some (instr.Index low high size)) self.old code.now limits.now) self.old self.new s) }
+        ensures came { IfOk result (λ s. CameBy (does (Some (instr.Index low high size)) self.old code.now limits.now)
+            self.old self.new s) }
         ensures same { Stays self.old self.new }
     {
         match self.stack.pop_number() {
@@ -109,7 +112,8 @@ impl State {
     ) -> Result<Option<Interrupt>, Memory>
         requires next { self.old.pc + 1 < 4294967296 }
         requires safe { does (Some (instr.Field cells)) self.old code.now limits.now ≢ Stuck }
-        ensures came { IfOk result (λ s. CameBy (does (Some (instr.Field cells)) self.old code.now limits.now) self.old self.new s) }
+        ensures came { IfOk result (λ s. CameBy (does (Some (instr.Field cells)) self.old code.now limits.now) self.old
+            self.new s) }
         ensures same { Stays self.old self.new }
     {
         match self.stack.pop_pointer() {
@@ -128,7 +132,8 @@ impl State {
     pub(crate) fn load(&mut self, code: &Code, limits: &Limits) -> Result<Option<Interrupt>, Memory>
         requires next { self.old.pc + 1 < 4294967296 }
         requires safe { does (Some instr.Load) self.old code.now limits.now ≢ Stuck }
-        ensures came { IfOk result (λ s. CameBy (does (Some instr.Load) self.old code.now limits.now) self.old self.new s) }
+        ensures came { IfOk result (λ s. CameBy (does (Some instr.Load) self.old code.now limits.now) self.old self.new
+            s) }
         ensures same { Stays self.old self.new }
     {
         match self.stack.pop_pointer() {
@@ -152,7 +157,8 @@ impl State {
     ) -> Result<Option<Interrupt>, Memory>
         requires next { self.old.pc + 1 < 4294967296 }
         requires safe { does (Some instr.Loadc) self.old code.now limits.now ≢ Stuck }
-        ensures came { IfOk result (λ s. CameBy (does (Some instr.Loadc) self.old code.now limits.now) self.old self.new s) }
+        ensures came { IfOk result (λ s. CameBy (does (Some instr.Loadc) self.old code.now limits.now) self.old self.new
+            s) }
         ensures same { Stays self.old self.new }
     {
         match self.stack.pop_pointer() {
@@ -165,10 +171,15 @@ impl State {
     }
 
     // Assigns an ordinal or a channel.
-    pub(crate) fn assign(&mut self, code: &Code, limits: &Limits) -> Result<Option<Interrupt>, Memory>
+    pub(crate) fn assign(
+        &mut self,
+        code: &Code,
+        limits: &Limits,
+    ) -> Result<Option<Interrupt>, Memory>
         requires next { self.old.pc + 1 < 4294967296 }
         requires safe { does (Some instr.Store) self.old code.now limits.now ≢ Stuck }
-        ensures came { IfOk result (λ s. CameBy (does (Some instr.Store) self.old code.now limits.now) self.old self.new s) }
+        ensures came { IfOk result (λ s. CameBy (does (Some instr.Store) self.old code.now limits.now) self.old self.new
+            s) }
         ensures same { Stays self.old self.new }
     {
         let cell = match self.stack.pop() {
@@ -195,7 +206,8 @@ impl State {
     ) -> Result<Option<Interrupt>, Memory>
         requires next { self.old.pc + 1 < 4294967296 }
         requires safe { does (Some (instr.Copy cells)) self.old code.now limits.now ≢ Stuck }
-        ensures came { IfOk result (λ s. CameBy (does (Some (instr.Copy cells)) self.old code.now limits.now) self.old self.new s) }
+        ensures came { IfOk result (λ s. CameBy (does (Some (instr.Copy cells)) self.old code.now limits.now) self.old
+            self.new s) }
         ensures same { Stays self.old self.new }
     {
         match self.stack.pop_pointer() {
@@ -220,7 +232,8 @@ impl State {
     ) -> Result<Option<Interrupt>, Memory>
         requires next { self.old.pc + 1 < 4294967296 }
         requires safe { does (Some (instr.Pack cells)) self.old code.now limits.now ≢ Stuck }
-        ensures came { IfOk result (λ s. CameBy (does (Some (instr.Pack cells)) self.old code.now limits.now) self.old self.new s) }
+        ensures came { IfOk result (λ s. CameBy (does (Some (instr.Pack cells)) self.old code.now limits.now) self.old
+            self.new s) }
         ensures same { Stays self.old self.new }
     {
         match self.stack.pop_pointer() {

@@ -1,6 +1,7 @@
 -- A fork hands over rights: each child gets those of its statement's variables, and keeps the invariant behind
 -- disjointness with them.
-use Rattle.std.proofs.Common.{◌≡◌, ◌≢◌, inl, inr, ℕ, zero, suc, ◌==◌, ◌&&◌, Bool, true, false, List, [], ◌∷◌, length, Option, Some, None, refl, sym, ap, ◌∙◌, subst, arith, if◌then◌else◌, eqb-true, eq-eqb}
+use Rattle.std.proofs.Common.{◌≡◌, ◌≢◌, inl, inr, ℕ, zero, suc, ◌==◌, ◌&&◌, Bool, true, false, List, [], ◌∷◌, length}
+use Rattle.std.proofs.Common.{Option, Some, None, refl, sym, ap, ◌∙◌, subst, arith, if◌then◌else◌, eqb-true, eq-eqb}
 use Rattle.std.specs.Prelude.{slice_get, ℤ}
 use Rattle.sp_base.proofs.Facts.{first_true, second_true}
 use Rattle.sp_tree.specs.declared.checked.Role.{Role}
@@ -11,7 +12,8 @@ use Rattle.sp_meaning.specs.Own.{Loc, Cell, Input, Output, OfIndex, Frame, Item,
 use Rattle.sp_meaning.specs.Deeds.{Birth, push, with_index}
 use Rattle.sp_tree.specs.Uses.{Use, Target, Seen, CallOf, ParallelOf, ForallOf, Stop, In_stmt}
 use Rattle.sp_tree.specs.Sets.{IsUsed, Reach}
-use Rattle.sp_meaning.specs.Owning.{find, Linked, cell_of, reference_of, stands_by, stands_at, stands, Touches, Right, Sound, Fit, Aimed, Used, IsClearOf, Born}
+use Rattle.sp_meaning.specs.Owning.{find, Linked, cell_of, reference_of, stands_by, stands_at, stands, Touches, Right}
+use Rattle.sp_meaning.specs.Owning.{Sound, Fit, Aimed, Used, IsClearOf, Born}
 use Rattle.sp_meaning.proofs.Keys.{name_test}
 use Rattle.sp_meaning.proofs.Rights.{All, IsAbove, Fair_rights}
 use Rattle.sp_meaning.proofs.Deeding.{push_good}
@@ -33,12 +35,14 @@ module _ (p : Program) (W R : Loc → Type 0) where
   used_if_aimed fs None l h = h
   used_if_aimed fs (Some s) l h = (h.0, inl h.1, h.2)
 
-  clear_with : (fs : List Frame) (s : Stmt) (ts : List Stmt) → IsClearOf p fs s ts → (j : ℕ) (l : Loc) → (Aimed p fs s l → UsedAt fs (slice_get ts j) l → ⊥) × (Used p fs s l → AimedAt fs (slice_get ts j) l → ⊥)
+  clear_with : (fs : List Frame) (s : Stmt) (ts : List Stmt) → IsClearOf p fs s ts → (j : ℕ) (l : Loc)
+      → (Aimed p fs s l → UsedAt fs (slice_get ts j) l → ⊥) × (Used p fs s l → AimedAt fs (slice_get ts j) l → ⊥)
   clear_with fs s [] c j l = (λ h k. k, λ h k. k)
   clear_with fs s (t ∷ ts) c zero l = c.0 l
   clear_with fs s (t ∷ ts) c (suc j) l = clear_with fs s ts c.1 j l
 
-  born_clear : (fs : List Frame) (ss : List Stmt) (bs : List Birth) → Born p W R fs ss bs → (i j : ℕ) (l : Loc) → i ≢ j → AimedAt fs (slice_get ss i) l → UsedAt fs (slice_get ss j) l → ⊥
+  born_clear : (fs : List Frame) (ss : List Stmt) (bs : List Birth) → Born p W R fs ss bs → (i j : ℕ) (l : Loc) → i ≢ j
+      → AimedAt fs (slice_get ss i) l → UsedAt fs (slice_get ss j) l → ⊥
   born_clear fs [] bs b i j l n h k = h
   born_clear fs (s ∷ ss) [] b i j l n h k = b
   born_clear fs (s ∷ ss) (c ∷ bs) b zero zero l n h k = n refl
@@ -46,7 +50,8 @@ module _ (p : Program) (W R : Loc → Type 0) where
   born_clear fs (s ∷ ss) (c ∷ bs) b (suc i) zero l n h k = (clear_with fs s ss b.2 i l).1 k h
   born_clear fs (s ∷ ss) (c ∷ bs) b (suc i) (suc j) l n h k = born_clear fs ss bs b.3 i j l (λ e. n (ap suc e)) h k
 
-  used_right : (fs : List Frame) (s : Stmt) (l : Loc) → ((l : Loc) → W l → R l) → Sound p W R fs (In_stmt s) → Used p fs s l → R l
+  used_right : (fs : List Frame) (s : Stmt) (l : Loc) → ((l : Loc) → W l → R l) → Sound p W R fs (In_stmt s)
+      → Used p fs s l → R l
   used_right fs s l reads so h = go h.1
     where
       go : IsUsed p (In_stmt s) h.0 → R l
@@ -54,10 +59,12 @@ module _ (p : Program) (W R : Loc → Type 0) where
       go (inr t) = so.allowed t.0 (Seen h.0) t.1 h.0 l (refl, h.2)
 
   -- the children's rights are the parent's
-  born_right : (fs : List Frame) (ss : List Stmt) (bs : List Birth) → ((l : Loc) → W l → R l) → Born p W R fs ss bs → (i : ℕ) (l : Loc) → (AimedAt fs (slice_get ss i) l → W l) × (UsedAt fs (slice_get ss i) l → R l)
+  born_right : (fs : List Frame) (ss : List Stmt) (bs : List Birth) → ((l : Loc) → W l → R l) → Born p W R fs ss bs
+      → (i : ℕ) (l : Loc) → (AimedAt fs (slice_get ss i) l → W l) × (UsedAt fs (slice_get ss i) l → R l)
   born_right fs [] bs reads b i l = (λ h. absurd h, λ h. absurd h)
   born_right fs (s ∷ ss) [] reads b i l = absurd b
-  born_right fs (s ∷ ss) (c ∷ bs) reads b zero l = (λ h. b.1.allowed h.1.0 (Target h.0) h.1.1 h.0 l (refl, h.2), λ h. used_right fs s l reads b.1 h)
+  born_right fs (s ∷ ss) (c ∷ bs) reads b zero l =
+      (λ h. b.1.allowed h.1.0 (Target h.0) h.1.1 h.0 l (refl, h.2), λ h. used_right fs s l reads b.1 h)
   born_right fs (s ∷ ss) (c ∷ bs) reads b (suc i) l = born_right fs ss bs reads b.3 i l
 
 -- the index of a forall hides nothing
@@ -68,8 +75,10 @@ module _ (p : Program) (fs : List Frame) (q : Name) (ix : Option (ℕ × ℤ)) w
       new : ℕ × ℤ → Frame
       new y = record { owner = q; number = length fs; home = OfIndex y.0 y.1; link = length fs; references = [] }
 
-      found : (b : ℕ) (y : ℕ × ℤ) → find (is_block b) (length (new y ∷ fs)) (new y ∷ fs) ≡ find (is_block b) (length fs) fs
-      found b y = ap (λ c. if c then find (is_block b) (length fs) fs else find (is_block b) (length (new y ∷ fs)) fs) (eq-eqb (length (new y ∷ fs)) (length (new y ∷ fs)) refl)
+      found : (b : ℕ) (y : ℕ × ℤ) → find (is_block b) (length (new y ∷ fs)) (new y ∷ fs)
+          ≡ find (is_block b) (length fs) fs
+      found b y = ap (λ c. if c then find (is_block b) (length fs) fs else find (is_block b) (length (new y ∷ fs)) fs)
+          (eq-eqb (length (new y ∷ fs)) (length (new y ∷ fs)) refl)
 
       by_role : (i : Variable) (r : Role) (y : ℕ × ℤ) → stands_by (new y ∷ fs) x i r ≡ stands_by fs x i r
       by_role i role.Console y = refl
@@ -103,7 +112,9 @@ module _ (p : Program) (fs : List Frame) (q : Name) (ix : Option (ℕ × ℤ)) w
       go (Some y) = (refl, refl, tt, l)
 
 -- with the rights of its statement, a child's statement is sound
-module _ (p : Program) (W R V T : Loc → Type 0) (fs : List Frame) (q : Name) (ix : Option (ℕ × ℤ)) (s : Stmt) (so : Sound p W R fs (In_stmt s)) (aims : (l : Loc) → Aimed p fs s l → V l) (uses : (l : Loc) → Used p fs s l → T l) where
+module _ (p : Program) (W R V T : Loc → Type 0) (fs : List Frame) (q : Name) (ix : Option (ℕ × ℤ)) (s : Stmt)
+    (so : Sound p W R fs (In_stmt s)) (aims : (l : Loc) → Aimed p fs s l → V l)
+    (uses : (l : Loc) → Used p fs s l → T l) where
   abbrev inner : List Frame
   inner = with_index q ix fs
 
@@ -118,27 +129,34 @@ module _ (p : Program) (W R V T : Loc → Type 0) (fs : List Frame) (q : Name) (
   pub child_sound : Sound p V T inner (In_stmt s)
   child_sound = record {
     allowed = λ bs u r x l t. may bs u r x l (index_touches p fs q ix u x l t);
-    apart = λ bs cs u v r k x y l n a b. so.apart bs cs u v r k x y l n (index_touches p fs q ix u x l a) (index_touches p fs q ix v y l b);
+    apart = λ bs cs u v r k x y l n a b. so.apart bs cs u v r k x y l n (index_touches p fs q ix u x l a)
+        (index_touches p fs q ix v y l b);
     kept = so.kept;
   }
 
   pub child_fit : Linked fs → (todo : List Item) → todo ≡ push s [] → Fit p V T inner inner todo
-  child_fit l todo e = subst (λ z. Fit p V T inner inner z) (sym e) (push_good p V T inner inner s [] child_sound (record { linked = index_linked p fs q ix l; ready = tt; ends = refl }))
+  child_fit l todo e = subst (λ z. Fit p V T inner inner z) (sym e)
+      (push_good p V T inner inner s [] child_sound
+      (record { linked = index_linked p fs q ix l; ready = tt; ends = refl }))
 
 -- the rights after fork k of q
 module _ (p : Program) (W R : Name → Loc → Type 0) (q : Name) (k : ℕ) (fs : List Frame) (ss : List Stmt) where
-
   abbrev pub writes_after : Name → Loc → Type 0
   writes_after [] l = W [] l
-  writes_after ((m, i) ∷ r) l = Pick (same_name q r && (m == k)) (AimedAt p (All W q) (All R q) fs (slice_get ss i) l) (W ((m, i) ∷ r) l)
+  writes_after ((m, i) ∷ r) l = Pick (same_name q r && (m == k)) (AimedAt p (All W q) (All R q) fs (slice_get ss i) l)
+      (W ((m, i) ∷ r) l)
 
   abbrev pub reads_after : Name → Loc → Type 0
   reads_after [] l = R [] l
-  reads_after ((m, i) ∷ r) l = Pick (same_name q r && (m == k)) (UsedAt p (All W q) (All R q) fs (slice_get ss i) l) (R ((m, i) ∷ r) l)
+  reads_after ((m, i) ∷ r) l = Pick (same_name q r && (m == k)) (UsedAt p (All W q) (All R q) fs (slice_get ss i) l)
+      (R ((m, i) ∷ r) l)
 
   -- names in question
   pub it_is : (r : Name) (m : ℕ) → (same_name q r && (m == k)) ≡ true → (q ≡ r) × (m ≡ k)
-  it_is r m e = ((name_test q r).0 (first_true (same_name q r) (m == k) e), eqb-true m k (second_true (same_name q r) (m == k) e))
+  it_is r m e = (
+    (name_test q r).0 (first_true (same_name q r) (m == k) e),
+    eqb-true m k (second_true (same_name q r) (m == k) e),
+  )
 
   module _ (fair : Fair_rights W R) (new : (i : ℕ) (l : Loc) → R ((k, i) ∷ q) l → ⊥) where
     no_old : (r : Name) (m i : ℕ) (l : Loc) → (q ≡ r) × (m ≡ k) → R ((m, i) ∷ r) l → ⊥
@@ -148,7 +166,8 @@ module _ (p : Program) (W R : Name → Loc → Type 0) (q : Name) (k : ℕ) (fs 
     grow_writes [] l h = h
     grow_writes ((m, i) ∷ r) l h = go (same_name q r && (m == k)) refl
       where
-        go : (b : Bool) → (same_name q r && (m == k)) ≡ b → Pick b (AimedAt p (All W q) (All R q) fs (slice_get ss i) l) (W ((m, i) ∷ r) l)
+        go : (b : Bool) → (same_name q r && (m == k)) ≡ b
+            → Pick b (AimedAt p (All W q) (All R q) fs (slice_get ss i) l) (W ((m, i) ∷ r) l)
         go true e = absurd (no_old r m i l (it_is r m e) (fair.reads ((m, i) ∷ r) l h))
         go false e = h
 
@@ -156,7 +175,8 @@ module _ (p : Program) (W R : Name → Loc → Type 0) (q : Name) (k : ℕ) (fs 
     grow_reads [] l h = h
     grow_reads ((m, i) ∷ r) l h = go (same_name q r && (m == k)) refl
       where
-        go : (b : Bool) → (same_name q r && (m == k)) ≡ b → Pick b (UsedAt p (All W q) (All R q) fs (slice_get ss i) l) (R ((m, i) ∷ r) l)
+        go : (b : Bool) → (same_name q r && (m == k)) ≡ b
+            → Pick b (UsedAt p (All W q) (All R q) fs (slice_get ss i) l) (R ((m, i) ∷ r) l)
         go true e = absurd (no_old r m i l (it_is r m e) h)
         go false e = h
 
@@ -179,28 +199,32 @@ module _ (p : Program) (W R : Name → Loc → Type 0) (q : Name) (k : ℕ) (fs 
       above_all r m i Input h = tt
       above_all r m i Output h = tt
 
-      right : (i : ℕ) (l : Loc) → (AimedAt p (All W q) (All R q) fs (slice_get ss i) l → All W q l) × (UsedAt p (All W q) (All R q) fs (slice_get ss i) l → All R q l)
+      right : (i : ℕ) (l : Loc) → (AimedAt p (All W q) (All R q) fs (slice_get ss i) l → All W q l)
+          × (UsedAt p (All W q) (All R q) fs (slice_get ss i) l → All R q l)
       right i l = born_right p (All W q) (All R q) fs ss bs reads_all born i l
 
       reads' : (r : Name) (l : Loc) → writes_after r l → reads_after r l
       reads' [] l h = fair.reads [] l h
       reads' ((m, i) ∷ r) l h = go (same_name q r && (m == k)) h
         where
-          go : (b : Bool) → Pick b (AimedAt p (All W q) (All R q) fs (slice_get ss i) l) (W ((m, i) ∷ r) l) → Pick b (UsedAt p (All W q) (All R q) fs (slice_get ss i) l) (R ((m, i) ∷ r) l)
+          go : (b : Bool) → Pick b (AimedAt p (All W q) (All R q) fs (slice_get ss i) l) (W ((m, i) ∷ r) l)
+              → Pick b (UsedAt p (All W q) (All R q) fs (slice_get ss i) l) (R ((m, i) ∷ r) l)
           go true h = used_if_aimed p (All W q) (All R q) fs (slice_get ss i) l h
           go false h = fair.reads ((m, i) ∷ r) l h
 
       less_write' : (r : Name) (m i : ℕ) (l : Loc) → writes_after ((m, i) ∷ r) l → All writes_after r l
       less_write' r m i l h = go (same_name q r && (m == k)) refl h
         where
-          go : (b : Bool) → (same_name q r && (m == k)) ≡ b → Pick b (AimedAt p (All W q) (All R q) fs (slice_get ss i) l) (W ((m, i) ∷ r) l) → All writes_after r l
+          go : (b : Bool) → (same_name q r && (m == k)) ≡ b
+              → Pick b (AimedAt p (All W q) (All R q) fs (slice_get ss i) l) (W ((m, i) ∷ r) l) → All writes_after r l
           go true e h = all_writes r l (subst (λ z. All W z l) (it_is r m e).0 ((right i l).0 h))
           go false e h = all_writes r l (fair.less_write r m i l h)
 
       less_read' : (r : Name) (m i : ℕ) (l : Loc) → reads_after ((m, i) ∷ r) l → All reads_after r l
       less_read' r m i l h = go (same_name q r && (m == k)) refl h
         where
-          go : (b : Bool) → (same_name q r && (m == k)) ≡ b → Pick b (UsedAt p (All W q) (All R q) fs (slice_get ss i) l) (R ((m, i) ∷ r) l) → All reads_after r l
+          go : (b : Bool) → (same_name q r && (m == k)) ≡ b
+              → Pick b (UsedAt p (All W q) (All R q) fs (slice_get ss i) l) (R ((m, i) ∷ r) l) → All reads_after r l
           go true e h = all_reads r l (subst (λ z. All R z l) (it_is r m e).0 ((right i l).1 h))
           go false e h = all_reads r l (fair.less_read r m i l h)
 
@@ -208,16 +232,24 @@ module _ (p : Program) (W R : Name → Loc → Type 0) (q : Name) (k : ℕ) (fs 
       above' [] l h = fair.above [] l h
       above' ((m, i) ∷ r) l h = go (same_name q r && (m == k)) refl h
         where
-          go : (b : Bool) → (same_name q r && (m == k)) ≡ b → Pick b (UsedAt p (All W q) (All R q) fs (slice_get ss i) l) (R ((m, i) ∷ r) l) → IsAbove ((m, i) ∷ r) l
+          go : (b : Bool) → (same_name q r && (m == k)) ≡ b
+              → Pick b (UsedAt p (All W q) (All R q) fs (slice_get ss i) l) (R ((m, i) ∷ r) l) → IsAbove ((m, i) ∷ r) l
           go true e h = above_all r m i l (subst (λ z. All R z l) (it_is r m e).0 ((right i l).1 h))
           go false e h = fair.above ((m, i) ∷ r) l h
 
       apart' : (r : Name) (m i j : ℕ) (l : Loc) → i ≢ j → writes_after ((m, i) ∷ r) l → reads_after ((m, j) ∷ r) l → ⊥
       apart' r m i j l n h g = go (same_name q r && (m == k)) h g
         where
-          go : (b : Bool) → Pick b (AimedAt p (All W q) (All R q) fs (slice_get ss i) l) (W ((m, i) ∷ r) l) → Pick b (UsedAt p (All W q) (All R q) fs (slice_get ss j) l) (R ((m, j) ∷ r) l) → ⊥
+          go : (b : Bool) → Pick b (AimedAt p (All W q) (All R q) fs (slice_get ss i) l) (W ((m, i) ∷ r) l)
+              → Pick b (UsedAt p (All W q) (All R q) fs (slice_get ss j) l) (R ((m, j) ∷ r) l) → ⊥
           go true h g = born_clear p (All W q) (All R q) fs ss bs born i j l n h g
           go false h g = fair.apart r m i j l n h g
 
       pub fair_after : Fair_rights writes_after reads_after
-      fair_after = record { reads = reads'; above = above'; less_write = less_write'; less_read = less_read'; apart = apart' }
+      fair_after = record {
+        reads = reads';
+        above = above';
+        less_write = less_write';
+        less_read = less_read';
+        apart = apart';
+      }

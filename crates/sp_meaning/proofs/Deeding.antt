@@ -1,39 +1,71 @@
 -- What a step of statements, calls and items reads and writes is the process's to read and write, and what it comes
 -- to is fair.
-use Rattle.std.proofs.Common.{◌≡◌, ◌≢◌, ◌⊎◌, inl, inr, ⊎_elim, sym, ap, ◌∙◌, subst, arith, ◌==◌, eqb-true, eq-eqb, ℕ, zero, suc, ◌+◌, ◌≤◌, Bool, true, false, List, [], ◌∷◌, ◌++◌, length, Option, Some, None, refl, if◌then◌else◌}
+use Rattle.std.proofs.Common.{◌≡◌, ◌≢◌, ◌⊎◌, inl, inr, ⊎_elim, sym, ap, ◌∙◌, subst, arith, ◌==◌, eqb-true, eq-eqb, ℕ}
+use Rattle.std.proofs.Common.{zero, suc, ◌+◌, ◌≤◌, Bool, true, false, List, [], ◌∷◌, ◌++◌, length, Option, Some, None}
+use Rattle.std.proofs.Common.{refl, if◌then◌else◌}
 use Rattle.std.specs.Prelude.{◌+ℤ◌, ◌-ℤ◌, ℤ, pos, nat_abs, slice_get, nat_lt, int_le, int_lt, take}
 use Rattle.std.proofs.lemmas.Option.{same_Some}
-use Rattle.sp_tree.specs.Plain.{Expr, Typed, Actuals, Var, Program, Variable, Block, Stmt, Empty, Assign, Call, Sequence, If, IfElse, While, Repeat, For, Case, Parallel, Forall, Assume, ReadValue, ReadLine, WriteValue, WriteText, WriteLine, Open, Send, Receive, Stmts, No, And, On, Arms, NoArm, Or}
+use Rattle.sp_tree.specs.Plain.{Expr, Typed, Actuals, Var, Program, Variable, Block, Stmt, Empty, Assign, Call}
+use Rattle.sp_tree.specs.Plain.{Sequence, If, IfElse, While, Repeat, For, Case, Parallel, Forall, Assume, ReadValue}
+use Rattle.sp_tree.specs.Plain.{ReadLine, WriteValue, WriteText, WriteLine, Open, Send, Receive, Stmts, No, And, On}
+use Rattle.sp_tree.specs.Plain.{Arms, NoArm, Or}
 use Rattle.sp_base.specs.declared.fault.Fault.{Fault}
 use Rattle.sp_base.specs.declared.fault.Fault.TheVariants as fault
 use Rattle.sp_meaning.specs.Asking.{Asking, Done, Loads, Puts}
 use Rattle.sp_meaning.specs.Values.{Value, Ordinal, Chan, initials}
-use Rattle.sp_meaning.specs.Own.{Setting, Cell, Input, OfBlock, seek, reach, reached, Loc, Output, Held, Tree, Written, Address, Frame, Own, Who, Item, Do, First, Again, Test, Leave, Break, Came, Got, Bad, Lost, Long, Work, bind, give, fail, lost, become, put, assign, tick, deepen, widen, is_block, bytes_in, fetch}
+use Rattle.sp_meaning.specs.Own.{Setting, Cell, Input, OfBlock, seek, reach, reached, Loc, Output, Held, Tree, Written}
+use Rattle.sp_meaning.specs.Own.{Address, Frame, Own, Who, Item, Do, First, Again, Test, Leave, Break, Came, Got, Bad}
+use Rattle.sp_meaning.specs.Own.{Lost, Long, Work, bind, give, fail, lost, become, put, assign, tick, deepen, widen}
+use Rattle.sp_meaning.specs.Own.{is_block, bytes_in, fetch}
 use Rattle.sp_meaning.specs.Texts.{Taken, Takes as Took, Fails as Refuses_it, padded, line_length}
 use Rattle.sp_meaning.specs.Eval.{value, ordinal_of, address, Place, At, Fixed, Given, ValueOf, PlaceOf, Calls}
 use Rattle.sp_tree.specs.Cells.{variables_of}
-use Rattle.sp_meaning.specs.Deeds.{Birth, Deed, Stepped, Ticked, Opened, Forked, Offered, push, push_all, children, indexed_children, has, arm_for, is_range, goes_on, next_value, in_width, begins, lay_one, lay, copy_in, pushed_frame, enclosing, enter, without_frame, leave, write, advance, take_in, width, peek, turn_of, fork, chosen, start, act, settle, left_by, answer_of, call_by, rest_by, all, deed_by, deed, size_of_frame, references, taken_by, shown}
+use Rattle.sp_meaning.specs.Deeds.{Birth, Deed, Stepped, Ticked, Opened, Forked, Offered, push, push_all, children}
+use Rattle.sp_meaning.specs.Deeds.{indexed_children, has, arm_for, is_range, goes_on, next_value, in_width, begins}
+use Rattle.sp_meaning.specs.Deeds.{lay_one, lay, copy_in, pushed_frame, enclosing, enter, without_frame, leave, write}
+use Rattle.sp_meaning.specs.Deeds.{advance, take_in, width, peek, turn_of, fork, chosen, start, act, settle, left_by}
+use Rattle.sp_meaning.specs.Deeds.{answer_of, call_by, rest_by, all, deed_by, deed, size_of_frame, references, taken_by}
+use Rattle.sp_meaning.specs.Deeds.{shown}
 use Rattle.sp_meaning.specs.Deeds as deeds
 use Rattle.sp_tree.specs.declared.checked.Role.TheVariants as role
 use Rattle.sp_meaning.specs.Model.{Name, Message, Takes}
-use Rattle.sp_tree.specs.Uses.{Use, Target, Seen, CallOf, ParallelOf, ForallOf, Stop, In_expr, In_target, In_call, In_width, In_stmt, In_stmts, In_arms, In_loop, IsOther}
+use Rattle.sp_tree.specs.Uses.{Use, Target, Seen, CallOf, ParallelOf, ForallOf, Stop, In_expr, In_target, In_call}
+use Rattle.sp_tree.specs.Uses.{In_width, In_stmt, In_stmts, In_arms, In_loop, IsOther}
 use Rattle.sp_tree.specs.Sets.{Reach, IsTarget, IsUsed}
 use Rattle.sp_tree.specs.Interference.{IsFreeOfInterference, KeepsI1, KeepsRules}
-use Rattle.sp_meaning.specs.Owning.{find, Linked, below, last_of, stands_by, stands_at, stands, cell_of, Touches, Gave, Sound, Ready, Fit, AreClear, IsClearOf, Born, Fair}
+use Rattle.sp_meaning.specs.Owning.{find, Linked, below, last_of, stands_by, stands_at, stands, cell_of, Touches, Gave}
+use Rattle.sp_meaning.specs.Owning.{Sound, Ready, Fit, AreClear, IsClearOf, Born, Fair}
 use Rattle.sp_meaning.proofs.Static.{sought}
-use Rattle.sp_meaning.proofs.Within.{reach_part, address_of_keeps, MayRead, Within, within_then, Keeps, Any, part, then_keeps, then_stays, give_keeps, give_stays, fail_stays, lost_stays, lost_keeps, or_lost_keeps, or_lost_stays, fetch_stays, assign_stays, ordinal_stays, channel_stays, kind_stays, read_stays, Of, place_of_keeps, CallsKeep, input_written, output_written, left_stays, value_stays, actuals_keeps, Writable, address_keeps, ordinal_of_stays}
+use Rattle.sp_meaning.proofs.Within.{reach_part, address_of_keeps, MayRead, Within, within_then, Keeps, Any, part}
+use Rattle.sp_meaning.proofs.Within.{then_keeps, then_stays, give_keeps, give_stays, fail_stays, lost_stays, lost_keeps}
+use Rattle.sp_meaning.proofs.Within.{or_lost_keeps, or_lost_stays, fetch_stays, assign_stays, ordinal_stays}
+use Rattle.sp_meaning.proofs.Within.{channel_stays, kind_stays, read_stays, Of, place_of_keeps, CallsKeep}
+use Rattle.sp_meaning.proofs.Within.{input_written, output_written, left_stays, value_stays, actuals_keeps, Writable}
+use Rattle.sp_meaning.proofs.Within.{address_keeps, ordinal_of_stays}
 use Rattle.sp_meaning.proofs.Entered.{fresh, fresh_linked, fresh_sound}
 
 -- begun by q with these frames it keeps within W and R, and its value and the frames then have this fact
-pub record From {A : Type 0} (q : Name) (W R : Loc → Type 0) (fs : List Frame) (G : A → List Frame → Type 0) (h : Work A) : Type 0 where
+pub record From {A : Type 0} (q : Name) (W R : Loc → Type 0) (fs : List Frame) (G : A → List Frame → Type 0)
+    (h : Work A) : Type 0 where
   pub by : (w : Who) (o : Own) → w.name ≡ q → o.frames ≡ fs → Within W R (λ a o1. G a o1.frames) (h w o)
 
 module _ (q : Name) (W R : Loc → Type 0) where
-  pub after : {A B : Type 0} {F : A → Type 0} {G : B → List Frame → Type 0} {fs : List Frame} (h : Work A) (g : A → Work B) → Keeps q W R fs F h → ((a : A) → F a → From q W R fs G (g a)) → From q W R fs G (bind h g)
-  after {F = F} {G = G} {fs = fs} h g a b = record { by = λ w o n e. within_then W R (λ x o1. (o1.frames ≡ fs) × F x) (λ x o1. G x o1.frames) (h w o) g w (a.by w o n e) (λ x o1 f. (b x f.1).by w o1 n f.0) }
+  pub after : {A B : Type 0} {F : A → Type 0} {G : B → List Frame → Type 0} {fs : List Frame} (h : Work A)
+      (g : A → Work B) → Keeps q W R fs F h → ((a : A) → F a → From q W R fs G (g a)) → From q W R fs G (bind h g)
+  after {F = F} {G = G} {fs = fs} h g a b = record {
+    by =
+        λ w o n e. within_then W R (λ x o1. (o1.frames ≡ fs) × F x) (λ x o1. G x o1.frames) (h w o) g w (a.by w o n e)
+        (λ x o1 f. (b x f.1).by w o1 n f.0);
+  }
 
-  pub after_from : {A B : Type 0} {F : A → List Frame → Type 0} {G : B → List Frame → Type 0} {fs : List Frame} (h : Work A) (g : A → Work B) → From q W R fs F h → ((a : A) (gs : List Frame) → F a gs → From q W R gs G (g a)) → From q W R fs G (bind h g)
-  after_from {F = F} {G = G} h g a b = record { by = λ w o n e. within_then W R (λ x o1. F x o1.frames) (λ x o1. G x o1.frames) (h w o) g w (a.by w o n e) (λ x o1 f. (b x o1.frames f).by w o1 n refl) }
+  pub after_from : {A B : Type 0} {F : A → List Frame → Type 0} {G : B → List Frame → Type 0} {fs : List Frame}
+      (h : Work A) (g : A → Work B) → From q W R fs F h → ((a : A) (gs : List Frame) → F a gs → From q W R gs G (g a))
+      → From q W R fs G (bind h g)
+  after_from {F = F} {G = G} h g a b = record {
+    by =
+        λ w o n e. within_then W R (λ x o1. F x o1.frames) (λ x o1. G x o1.frames) (h w o) g w (a.by w o n e)
+        (λ x o1 f. (b x o1.frames f).by w o1 n refl);
+  }
 
   pub gives : {A : Type 0} {G : A → List Frame → Type 0} {fs : List Frame} (a : A) → G a fs → From q W R fs G (give a)
   gives {G = G} a f = record { by = λ w o n e. subst (λ z. G a z) (sym e) f }
@@ -48,58 +80,84 @@ number a b = go (a == b) refl
     go true e = inl (eqb-true a b e)
     go false e = inr (λ f. let x : false ≡ true = sym e ∙ eq-eqb a b f in absurd (cc x))
 
-used_part : (p : Program) {Here Above : Use → Type 0} → ((u : Use) → Here u → Above u) → (x : ℕ) → IsUsed p Here x → IsUsed p Above x
+used_part : (p : Program) {Here Above : Use → Type 0} → ((u : Use) → Here u → Above u) → (x : ℕ) → IsUsed p Here x
+    → IsUsed p Above x
 used_part p i x (inl h) = inl (h.0, reach_part p i h.0 (Target x) h.1)
 used_part p i x (inr h) = inr (h.0, reach_part p i h.0 (Seen x) h.1)
 
-target_part : (p : Program) {Here Above : Use → Type 0} → ((u : Use) → Here u → Above u) → (x : ℕ) → IsTarget p Here x → IsTarget p Above x
+target_part : (p : Program) {Here Above : Use → Type 0} → ((u : Use) → Here u → Above u) → (x : ℕ) → IsTarget p Here x
+    → IsTarget p Above x
 target_part p i x h = (h.0, reach_part p i h.0 (Target x) h.1)
 
 -- two variables in use are two locations
-uses_apart : {p : Program} {W R : Loc → Type 0} {fs : List Frame} {Here : Use → Type 0} → Sound p W R fs Here → (x y : ℕ) (l : Loc) → x ≢ y → stands p fs x ≡ Some l → stands p fs y ≡ Some l → IsUsed p Here x → IsUsed p Here y → ⊥
+uses_apart : {p : Program} {W R : Loc → Type 0} {fs : List Frame} {Here : Use → Type 0} → Sound p W R fs Here
+    → (x y : ℕ) (l : Loc) → x ≢ y → stands p fs x ≡ Some l → stands p fs y ≡ Some l → IsUsed p Here x → IsUsed p Here y
+    → ⊥
 uses_apart s x y l n e d (inl a) (inl b) = s.apart a.0 b.0 (Target x) (Target y) a.1 b.1 x y l n (refl, e) (refl, d)
 uses_apart s x y l n e d (inl a) (inr b) = s.apart a.0 b.0 (Target x) (Seen y) a.1 b.1 x y l n (refl, e) (refl, d)
 uses_apart s x y l n e d (inr a) (inl b) = s.apart a.0 b.0 (Seen x) (Target y) a.1 b.1 x y l n (refl, e) (refl, d)
 uses_apart s x y l n e d (inr a) (inr b) = s.apart a.0 b.0 (Seen x) (Seen y) a.1 b.1 x y l n (refl, e) (refl, d)
 
 -- two statements of one whole whose variables are different use different locations
-clear : {p : Program} {W R : Loc → Type 0} {fs : List Frame} {Here : Use → Type 0} → Sound p W R fs Here → (s t : Stmt) → ((u : Use) → In_stmt s u → Here u) → ((u : Use) → In_stmt t u → Here u)
-    → ((x : ℕ) → IsTarget p (In_stmt s) x → IsUsed p (In_stmt t) x → ⊥) → ((x : ℕ) → IsUsed p (In_stmt s) x → IsTarget p (In_stmt t) x → ⊥) → AreClear p fs s t
+clear : {p : Program} {W R : Loc → Type 0} {fs : List Frame} {Here : Use → Type 0} → Sound p W R fs Here → (s t : Stmt)
+    → ((u : Use) → In_stmt s u → Here u) → ((u : Use) → In_stmt t u → Here u)
+    → ((x : ℕ) → IsTarget p (In_stmt s) x → IsUsed p (In_stmt t) x → ⊥)
+    → ((x : ℕ) → IsUsed p (In_stmt s) x → IsTarget p (In_stmt t) x → ⊥) → AreClear p fs s t
 clear {p} {fs = fs} so s t i j a b l = (
-  λ h k. ⊎_elim (λ (e : h.0 ≡ k.0). a k.0 (subst (λ z. IsTarget p (In_stmt s) z) e h.1) k.1) (λ (n : h.0 ≢ k.0). uses_apart so h.0 k.0 l n h.2 k.2 (inl (target_part p i h.0 h.1)) (used_part p j k.0 k.1)) (number h.0 k.0),
-  λ h k. ⊎_elim (λ (e : h.0 ≡ k.0). b k.0 (subst (λ z. IsUsed p (In_stmt s) z) e h.1) k.1) (λ (n : h.0 ≢ k.0). uses_apart so h.0 k.0 l n h.2 k.2 (used_part p i h.0 h.1) (inl (target_part p j k.0 k.1))) (number h.0 k.0),
+  λ h k. ⊎_elim (λ (e : h.0 ≡ k.0). a k.0 (subst (λ z. IsTarget p (In_stmt s) z) e h.1) k.1)
+      (λ (n : h.0 ≢ k.0). uses_apart so h.0 k.0 l n h.2 k.2 (inl (target_part p i h.0 h.1)) (used_part p j k.0 k.1))
+      (number h.0 k.0),
+  λ h k. ⊎_elim (λ (e : h.0 ≡ k.0). b k.0 (subst (λ z. IsUsed p (In_stmt s) z) e h.1) k.1)
+      (λ (n : h.0 ≢ k.0). uses_apart so h.0 k.0 l n h.2 k.2 (used_part p i h.0 h.1) (inl (target_part p j k.0 k.1)))
+      (number h.0 k.0),
 )
 
 abbrev pub list_of : Stmts → List Stmt
 list_of No = []
 list_of (And s rest) = s ∷ list_of rest
 
-clear_of : {p : Program} {W R : Loc → Type 0} {fs : List Frame} {Here : Use → Type 0} → Sound p W R fs Here → (s : Stmt) → ((u : Use) → In_stmt s u → Here u) → (ts : Stmts) → ((u : Use) → In_stmts ts u → Here u)
-    → ((x : ℕ) → IsTarget p (In_stmt s) x → IsUsed p (In_stmts ts) x → ⊥) → ((x : ℕ) → IsUsed p (In_stmt s) x → IsTarget p (In_stmts ts) x → ⊥) → IsClearOf p fs s (list_of ts)
+clear_of : {p : Program} {W R : Loc → Type 0} {fs : List Frame} {Here : Use → Type 0} → Sound p W R fs Here → (s : Stmt)
+    → ((u : Use) → In_stmt s u → Here u) → (ts : Stmts) → ((u : Use) → In_stmts ts u → Here u)
+    → ((x : ℕ) → IsTarget p (In_stmt s) x → IsUsed p (In_stmts ts) x → ⊥)
+    → ((x : ℕ) → IsUsed p (In_stmt s) x → IsTarget p (In_stmts ts) x → ⊥) → IsClearOf p fs s (list_of ts)
 clear_of so s i No j a b = tt
-clear_of {p} so s i (And t ts) j a b =
-    (clear so s t i (λ u h. j u (inl h)) (λ x h k. a x h (used_part p (λ u. inl) x k)) (λ x h k. b x h (target_part p (λ u. inl) x k)), clear_of so s i ts (λ u h. j u (inr h)) (λ x h k. a x h (used_part p (λ u. inr) x k)) (λ x h k. b x h (target_part p (λ u. inr) x k)))
+clear_of {p} so s i (And t ts) j a b = (
+  clear so s t i (λ u h. j u (inl h)) (λ x h k. a x h (used_part p (λ u. inl) x k))
+      (λ x h k. b x h (target_part p (λ u. inl) x k)),
+  clear_of so s i ts (λ u h. j u (inr h)) (λ x h k. a x h (used_part p (λ u. inr) x k))
+      (λ x h k. b x h (target_part p (λ u. inr) x k)),
+)
 
 -- by rule I1
-pub born_of : {p : Program} {W R : Loc → Type 0} {fs : List Frame} → (ss : Stmts) → Sound p W R fs (In_stmts ss) → KeepsI1 p ss → Born p W R fs (list_of ss) (children ss)
+pub born_of : {p : Program} {W R : Loc → Type 0} {fs : List Frame} → (ss : Stmts) → Sound p W R fs (In_stmts ss)
+    → KeepsI1 p ss → Born p W R fs (list_of ss) (children ss)
 born_of No so i = tt
-born_of (And s rest) so i = (refl, part (λ u. inl) so, clear_of so s (λ u. inl) rest (λ u. inr) i.0 i.1, born_of rest (part (λ u. inr) so) i.2)
+born_of (And s rest) so i = (
+  refl,
+  part (λ u. inl) so,
+  clear_of so s (λ u. inl) rest (λ u. inr) i.0 i.1,
+  born_of rest (part (λ u. inr) so) i.2,
+)
 
 abbrev pub copies : ℕ → Stmt → List Stmt
 copies zero s = []
 copies (suc n) s = s ∷ copies n s
 
 -- by rule I2
-clear_copies : (p : Program) (fs : List Frame) (s : Stmt) → ((x : ℕ) → IsTarget p (In_stmt s) x → ⊥) → (n : ℕ) → IsClearOf p fs s (copies n s)
+clear_copies : (p : Program) (fs : List Frame) (s : Stmt) → ((x : ℕ) → IsTarget p (In_stmt s) x → ⊥) → (n : ℕ)
+    → IsClearOf p fs s (copies n s)
 clear_copies p fs s i zero = tt
 clear_copies p fs s i (suc n) = (λ l. (λ h k. i h.0 h.1, λ h k. i k.0 k.1), clear_copies p fs s i n)
 
-pub born_copies : {p : Program} {W R : Loc → Type 0} {fs : List Frame} (x : ℕ) (s : Stmt) → Sound p W R fs (In_stmt s) → ((x : ℕ) → IsTarget p (In_stmt s) x → ⊥) → (m : ℤ) (n : ℕ) → Born p W R fs (copies n s) (indexed_children x s m n)
+pub born_copies : {p : Program} {W R : Loc → Type 0} {fs : List Frame} (x : ℕ) (s : Stmt) → Sound p W R fs (In_stmt s)
+    → ((x : ℕ) → IsTarget p (In_stmt s) x → ⊥) → (m : ℤ) (n : ℕ) → Born p W R fs (copies n s) (indexed_children x s m n)
 born_copies x s so i m zero = tt
-born_copies {p} {W} {R} {fs} x s so i m (suc n) = (refl, so, clear_copies p fs s i n, born_copies x s so i (m +ℤ pos 1) n)
+born_copies {p} {W} {R} {fs} x s so i m (suc n) =
+    (refl, so, clear_copies p fs s i n, born_copies x s so i (m +ℤ pos 1) n)
 
 -- the element statement of a forall: its index is no location
-module _ {p : Program} {W R : Loc → Type 0} {fs : List Frame} (x : ℕ) (from to : Expr) (s : Stmt) (so : Sound p W R fs (In_stmt (Forall x from to s))) where
+module _ {p : Program} {W R : Loc → Type 0} {fs : List Frame} (x : ℕ) (from to : Expr) (s : Stmt)
+    (so : Sound p W R fs (In_stmt (Forall x from to s))) where
   no_spot : (l : Loc) → stands p fs x ≡ Some l → ⊥
   no_spot l e =
       let i = (so.kept (ForallOf x s) (inl refl)).0 in
@@ -107,15 +165,19 @@ module _ {p : Program} {W R : Loc → Type 0} {fs : List Frame} (x : ℕ) (from 
       let h : None ≡ Some l = sym none ∙ e in absurd (cc h)
 
   other_or : (u : Use) → ((y : ℕ) (l : Loc) → Touches p fs u y l → ⊥) ⊎ IsOther x u
-  other_or (Target y) = ⊎_elim (λ (e : x ≡ y). inl (λ z l t. no_spot l (ap (stands p fs) (e ∙ t.0) ∙ t.1))) (λ (n : x ≢ y). inr n) (number x y)
-  other_or (Seen y) = ⊎_elim (λ (e : x ≡ y). inl (λ z l t. no_spot l (ap (stands p fs) (e ∙ t.0) ∙ t.1))) (λ (n : x ≢ y). inr n) (number x y)
+  other_or (Target y) = ⊎_elim (λ (e : x ≡ y). inl (λ z l t. no_spot l (ap (stands p fs) (e ∙ t.0) ∙ t.1)))
+      (λ (n : x ≢ y). inr n) (number x y)
+  other_or (Seen y) = ⊎_elim (λ (e : x ≡ y). inl (λ z l t. no_spot l (ap (stands p fs) (e ∙ t.0) ∙ t.1)))
+      (λ (n : x ≢ y). inr n) (number x y)
   other_or (CallOf f args) = inr tt
   other_or (ParallelOf ss) = inr tt
   other_or (ForallOf y t) = inr tt
   other_or Stop = inr tt
 
-  lifted : (bs : List ℕ) (u : Use) → Reach p (In_stmt s) bs u → (y : ℕ) (l : Loc) → Touches p fs u y l → Reach p (In_stmt (Forall x from to s)) bs u
-  lifted [] u r y l t = ⊎_elim (λ (h : (y : ℕ) (l : Loc) → Touches p fs u y l → ⊥). absurd (h y l t)) (λ (o : IsOther x u). inr (inr (inr (inl (r, o))))) (other_or u)
+  lifted : (bs : List ℕ) (u : Use) → Reach p (In_stmt s) bs u → (y : ℕ) (l : Loc) → Touches p fs u y l
+      → Reach p (In_stmt (Forall x from to s)) bs u
+  lifted [] u r y l t = ⊎_elim (λ (h : (y : ℕ) (l : Loc) → Touches p fs u y l → ⊥). absurd (h y l t))
+      (λ (o : IsOther x u). inr (inr (inr (inl (r, o))))) (other_or u)
   lifted (b ∷ bs) u r y l t = (r.0, inr (inr (inr (inl (r.1, tt)))), r.2, r.3, r.4, r.5)
 
   rules : (u : Use) → In_stmt s u → KeepsRules p u
@@ -134,11 +196,13 @@ module _ {p : Program} {W R : Loc → Type 0} {fs : List Frame} (x : ℕ) (from 
   }
 
 module _ (p : Program) (W R : Loc → Type 0) (z fs : List Frame) where
-  add_do : (s : Stmt) (todo : List Item) → Sound p W R fs (In_stmt s) → Fit p W R z fs todo → Fit p W R z fs (Do s ∷ todo)
+  add_do : (s : Stmt) (todo : List Item) → Sound p W R fs (In_stmt s) → Fit p W R z fs todo
+      → Fit p W R z fs (Do s ∷ todo)
   add_do s todo so f = record { linked = f.linked; ready = (so, f.ready); ends = f.ends }
 
   mutual
-    pub push_good : (s : Stmt) (todo : List Item) → Sound p W R fs (In_stmt s) → Fit p W R z fs todo → Fit p W R z fs (push s todo)
+    pub push_good : (s : Stmt) (todo : List Item) → Sound p W R fs (In_stmt s) → Fit p W R z fs todo
+        → Fit p W R z fs (push s todo)
     push_good Empty todo so f = f
     push_good (Assign v e) todo so f = add_do (Assign v e) todo so f
     push_good (Call g args) todo so f = add_do (Call g args) todo so f
@@ -161,9 +225,11 @@ module _ (p : Program) (W R : Loc → Type 0) (z fs : List Frame) where
     push_good (Send c e) todo so f = add_do (Send c e) todo so f
     push_good (Receive c v) todo so f = add_do (Receive c v) todo so f
 
-    pub push_all_good : (ss : Stmts) (todo : List Item) → Sound p W R fs (In_stmts ss) → Fit p W R z fs todo → Fit p W R z fs (push_all ss todo)
+    pub push_all_good : (ss : Stmts) (todo : List Item) → Sound p W R fs (In_stmts ss) → Fit p W R z fs todo
+        → Fit p W R z fs (push_all ss todo)
     push_all_good No todo so f = f
-    push_all_good (And s rest) todo so f = push_good s (push_all rest todo) (part (λ u. inl) so) (push_all_good rest todo (part (λ u. inr) so) f)
+    push_all_good (And s rest) todo so f = push_good s (push_all rest todo) (part (λ u. inl) so)
+        (push_all_good rest todo (part (λ u. inr) so) f)
 
 abbrev pub InArm : Arms → Option Stmt → Type 0
 InArm arms None = Unit {0}
@@ -197,45 +263,61 @@ last_shorter fs (Leave ∷ todo) = let a = last_shorter (below fs) todo in let b
 last_shorter fs (Break f ∷ todo) = last_shorter fs todo
 
 -- low: what stands in the process's frames from this number on is its own to write
-module _ (set : Setting) (q : Name) (W R : Loc → Type 0) (low : ℕ) (own : (n x : ℕ) → low ≤ n → W (Cell q n x)) (reads : (l : Loc) → W l → R l) (free : IsFreeOfInterference set.program) where
+module _ (set : Setting) (q : Name) (W R : Loc → Type 0) (low : ℕ) (own : (n x : ℕ) → low ≤ n → W (Cell q n x))
+    (reads : (l : Loc) → W l → R l) (free : IsFreeOfInterference set.program) where
   own_cell : (w : Who) (n x : ℕ) → low ≤ n → w.name ≡ q → W (Cell w.name n x)
   own_cell w n x h e = subst (λ z. W (Cell z n x)) (sym e) (own n x h)
 
   high_at : (z fs : List Frame) (todo : List Item) → low ≤ length z → Fit set.program W R z fs todo → low ≤ length fs
-  high_at z fs todo h f = let a = last_shorter fs todo in let b = ap (λ (y : List Frame). length y) f.ends in omega (arith, h, a, b)
+  high_at z fs todo h f = let a = last_shorter fs todo in let b = ap (λ (y : List Frame). length y) f.ends in
+      omega (arith, h, a, b)
 
   module _ (fs : List Frame) where
     pub tick_stays : Keeps q W R fs Any (tick set.limits)
     tick_stays = record { by = λ w o n e. go w o e (nat_lt o.ticks set.limits.ticks) }
       where
-        go : (w : Who) (o : Own) → o.frames ≡ fs → (b : Bool) → Within {A = Unit {0}} W R (λ a o1. (o1.frames ≡ fs) × Unit {0}) (if b then become (record o { ticks = o.ticks + 1 }) w o else fail fault.F10 w o)
+        go : (w : Who) (o : Own) → o.frames ≡ fs → (b : Bool)
+            → Within {A = Unit {0}} W R (λ a o1. (o1.frames ≡ fs) × Unit {0})
+            (if b then become (record o { ticks = o.ticks + 1 }) w o else fail fault.F10 w o)
         go w o e true = (e, tt)
         go w o e false = tt
 
     pub deepen_stays : Keeps q W R fs Any (deepen set.limits)
     deepen_stays = record { by = λ w o n e. go w o e (nat_lt o.depth set.limits.depth) }
       where
-        go : (w : Who) (o : Own) → o.frames ≡ fs → (b : Bool) → Within {A = Unit {0}} W R (λ a o1. (o1.frames ≡ fs) × Unit {0}) (if b then become (record o { depth = o.depth + 1 }) w o else fail fault.F11 w o)
+        go : (w : Who) (o : Own) → o.frames ≡ fs → (b : Bool)
+            → Within {A = Unit {0}} W R (λ a o1. (o1.frames ≡ fs) × Unit {0})
+            (if b then become (record o { depth = o.depth + 1 }) w o else fail fault.F11 w o)
         go w o e true = (e, tt)
         go w o e false = tt
 
     pub widen_stays : (m : ℕ) → Keeps q W R fs Any (widen set.limits m)
     widen_stays m = record { by = λ w o n e. go w o e (nat_lt set.limits.cells (o.cells + m)) }
       where
-        go : (w : Who) (o : Own) → o.frames ≡ fs → (b : Bool) → Within {A = Unit {0}} W R (λ a o1. (o1.frames ≡ fs) × Unit {0}) (if b then fail fault.F12 w o else become (record o { cells = o.cells + m }) w o)
+        go : (w : Who) (o : Own) → o.frames ≡ fs → (b : Bool)
+            → Within {A = Unit {0}} W R (λ a o1. (o1.frames ≡ fs) × Unit {0})
+            (if b then fail fault.F12 w o else become (record o { cells = o.cells + m }) w o)
         go w o e true = tt
         go w o e false = (e, tt)
 
     -- the frame of the enclosing block
     abbrev Encloses : Option ℕ → ℕ → Type 0
-    Encloses parent n = (c : ℕ) × (f : Frame) × (parent ≡ Some c) × (find (is_block c) (length fs) fs ≡ Some f) × (suc f.number ≡ n)
+    Encloses parent n = (c : ℕ) × (f : Frame) × (parent ≡ Some c) × (find (is_block c) (length fs) fs ≡ Some f)
+        × (suc f.number ≡ n)
 
     reach_keeps : Linked fs → (c : ℕ) → Keeps q W R fs (Encloses (Some c)) (reach (is_block c))
-    reach_keeps l c = record { by = λ w o n e. subst (λ z. Within W R (λ a o1. (o1.frames ≡ fs) × Encloses (Some c) a) (reached (seek (is_block c) (length z) z) w o)) (sym e) ((found (seek (is_block c) (length fs) fs) refl).by w o n e) }
+    reach_keeps l c = record {
+      by = λ w o n e. subst
+          (λ z. Within W R (λ a o1. (o1.frames ≡ fs) × Encloses (Some c) a)
+          (reached (seek (is_block c) (length z) z) w o)) (sym e)
+          ((found (seek (is_block c) (length fs) fs) refl).by w o n e);
+    }
       where
-        found : (gs : List Frame) → seek (is_block c) (length fs) fs ≡ gs → Keeps q W R fs (Encloses (Some c)) (reached gs)
+        found : (gs : List Frame) → seek (is_block c) (length fs) fs ≡ gs
+            → Keeps q W R fs (Encloses (Some c)) (reached gs)
         found [] s = lost_keeps q W R fs
-        found (f ∷ gs) s = let h = sought (is_block c) (length fs) fs f gs l s in give_keeps q W R fs (length (f ∷ gs)) (c, f, refl, h.0, sym h.1)
+        found (f ∷ gs) s = let h = sought (is_block c) (length fs) fs f gs l s in
+            give_keeps q W R fs (length (f ∷ gs)) (c, f, refl, h.0, sym h.1)
 
     pub enclosing_keeps : Linked fs → (parent : Option ℕ) → Keeps q W R fs (Encloses parent) (enclosing set parent)
     enclosing_keeps l None = lost_keeps q W R fs
@@ -247,12 +329,15 @@ module _ (set : Setting) (q : Name) (W R : Loc → Type 0) (low : ℕ) (own : (n
 
     pub lay_stays : (n : ℕ) → low ≤ n → (xs : List (ℕ × Variable)) → Keeps q W R fs Any (lay set n xs)
     lay_stays n h [] = give_stays q W R fs tt
-    lay_stays n h (x ∷ xs) = then_stays q W R fs (lay_one set n x (begins (initials set.program.kinds) x.1.role x.1.kind)) _ (lay_one_stays n h x _) (λ u. lay_stays n h xs)
+    lay_stays n h (x ∷ xs) = then_stays q W R fs
+        (lay_one set n x (begins (initials set.program.kinds) x.1.role x.1.kind)) _ (lay_one_stays n h x _)
+        (λ u. lay_stays n h xs)
 
     pub copy_stays : (n : ℕ) → low ≤ n → (xs : List ℕ) (gs : List Given) → Keeps q W R fs Any (copy_in set n xs gs)
     copy_stays n h [] gs = give_stays q W R fs tt
     copy_stays n h (x ∷ xs) [] = give_stays q W R fs tt
-    copy_stays n h (x ∷ xs) (ValueOf v ∷ gs) = record { by = λ w o m e. (own_cell w n x h m, (copy_stays n h xs gs).by w o m e) }
+    copy_stays n h (x ∷ xs) (ValueOf v ∷ gs) =
+        record { by = λ w o m e. (own_cell w n x h m, (copy_stays n h xs gs).by w o m e) }
     copy_stays n h (x ∷ xs) (PlaceOf a ∷ gs) = copy_stays n h xs gs
 
     leave_from : From q W R fs (λ (u : Unit {0}) gs. gs ≡ below fs) (leave set)
@@ -263,9 +348,14 @@ module _ (set : Setting) (q : Name) (W R : Loc → Type 0) (low : ℕ) (own : (n
         go (f ∷ gs) o e = refl
 
     write_stays : W Output → (bs : List ℕ) → Keeps q W R fs Any (write set bs)
-    write_stays out bs = record { by = λ w o n e. (reads Output out, λ h. go w o e h (nat_lt set.limits.output (length (bytes_in h) + length bs))) }
+    write_stays out bs = record {
+      by = λ w o n e.
+          (reads Output out, λ h. go w o e h (nat_lt set.limits.output (length (bytes_in h) + length bs)));
+    }
       where
-        go : (w : Who) (o : Own) → o.frames ≡ fs → (h : Held) → (b : Bool) → Within {A = Unit {0}} W R (λ a o1. (o1.frames ≡ fs) × Unit {0}) ((if b then fail fault.F16 else put Output (Written (bytes_in h ++ bs))) w o)
+        go : (w : Who) (o : Own) → o.frames ≡ fs → (h : Held) → (b : Bool)
+            → Within {A = Unit {0}} W R (λ a o1. (o1.frames ≡ fs) × Unit {0})
+            ((if b then fail fault.F16 else put Output (Written (bytes_in h ++ bs))) w o)
         go w o e h true = tt
         go w o e h false = (out, (e, tt))
 
@@ -273,35 +363,71 @@ module _ (set : Setting) (q : Name) (W R : Loc → Type 0) (low : ℕ) (own : (n
     advance_stays a n = record { by = λ w o m e. (reads Input a, λ h. (a, (e, tt))) }
 
     take_stays : W Input → (a : Address) → W a.spot → (x : Taken) → Keeps q W R fs Any (take_in set a x)
-    take_stays i a u (Took n bytes) = then_stays q W R fs (advance set bytes) _ (advance_stays i bytes) (λ z. assign_stays q W R fs a (Ordinal n) (reads a.spot u) u)
+    take_stays i a u (Took n bytes) = then_stays q W R fs (advance set bytes) _ (advance_stays i bytes)
+        (λ z. assign_stays q W R fs a (Ordinal n) (reads a.spot u) u)
     take_stays i a u (Refuses_it f) = fail_stays q W R fs _ f
 
     pub in_width_stays : (cut : Bool) (bs : List ℕ) (w : Option ℤ) → Keeps q W R fs Any (in_width cut bs w)
     in_width_stays cut bs None = give_stays q W R fs bs
     in_width_stays cut bs (Some m) = go (int_le m (pos 0))
       where
-        go : (b : Bool) → Keeps q W R fs Any (if b then fail fault.F1 else give (padded (nat_abs m) (if cut then take (nat_abs m) bs else bs)))
+        go : (b : Bool) → Keeps q W R fs Any
+            (if b then fail fault.F1 else give (padded (nat_abs m) (if cut then take (nat_abs m) bs else bs)))
         go true = fail_stays q W R fs _ fault.F1
         go false = give_stays q W R fs _
 
   -- after a call's arguments the body is sound in the new frames
   abbrev Enters : ℕ → List Frame → Block → List Frame → Type 0
-  Enters f fs b gs = (slice_get set.program.blocks f ≡ Some b) × Linked gs × Sound set.program W R gs (In_stmt b.body) × (new : Frame) × (gs ≡ new ∷ fs) × (new.owner ≡ q) × (new.home ≡ OfBlock f)
+  Enters f fs b gs = (slice_get set.program.blocks f ≡ Some b) × Linked gs × Sound set.program W R gs (In_stmt b.body)
+      × (new : Frame) × (gs ≡ new ∷ fs) × (new.owner ≡ q) × (new.home ≡ OfBlock f)
 
-  enter_from : (fs : List Frame) → low ≤ length fs → (f : ℕ) (args : Actuals) (gs : List Given) → Linked fs → Sound set.program W R fs (In_call f args) → Gave set.program fs args gs → From q W R fs (Enters f fs) (enter set f gs)
+  enter_from : (fs : List Frame) → low ≤ length fs → (f : ℕ) (args : Actuals) (gs : List Given) → Linked fs
+      → Sound set.program W R fs (In_call f args) → Gave set.program fs args gs
+      → From q W R fs (Enters f fs) (enter set f gs)
   enter_from fs high f args gs l s g =
-      after q W R _ _ (or_lost_keeps q W R fs (slice_get set.program.blocks f)) (λ b is. after q W R _ _ (tick_stays fs) (λ u _. after q W R _ _ (deepen_stays fs) (λ u _. after q W R _ _ (widen_stays fs (size_of_frame set f)) (λ u _.
-      after q W R _ _ (enclosing_keeps fs l b.parent) (λ link en. record { by = λ w o n e. (laid b is link en o.frames (subst (λ y. low ≤ length y) (sym e) high)).by w (pushed_frame set f link (references b.formals gs) w o) n (same b link en w o n e) })))))
+      after q W R _ _ (or_lost_keeps q W R fs (slice_get set.program.blocks f))
+      (λ b is. after q W R _ _ (tick_stays fs)
+      (λ u _. after q W R _ _ (deepen_stays fs)
+      (λ u _. after q W R _ _ (widen_stays fs (size_of_frame set f)) (λ u _.
+      after q W R _ _ (enclosing_keeps fs l b.parent)
+      (λ link en. record {
+        by = λ w o n e.
+            (laid b is link en o.frames (subst (λ y. low ≤ length y) (sym e) high)).by w
+            (pushed_frame set f link (references b.formals gs) w o) n (same b link en w o n e);
+      })))))
     where
       fresh_of : (b : Block) (link : ℕ) → Encloses fs b.parent link → Frame
       fresh_of b link en = fresh set.program q W R low own reads free fs f b args gs en.0 en.1
 
-      same : (b : Block) (link : ℕ) (en : Encloses fs b.parent link) (w : Who) (o : Own) → w.name ≡ q → o.frames ≡ fs → (pushed_frame set f link (references b.formals gs) w o).frames ≡ fresh_of b link en ∷ fs
-      same b link en w o n e = λ i. record { owner = n i; number = length (e i); home = OfBlock f; link = sym en.4 i; references = references b.formals gs } ∷ e i
+      same : (b : Block) (link : ℕ) (en : Encloses fs b.parent link) (w : Who) (o : Own) → w.name ≡ q → o.frames ≡ fs
+          → (pushed_frame set f link (references b.formals gs) w o).frames ≡ fresh_of b link en ∷ fs
+      same b link en w o n e = λ i. record {
+        owner = n i;
+        number = length (e i);
+        home = OfBlock f;
+        link = sym en.4 i;
+        references = references b.formals gs;
+      } ∷ e i
 
-      laid : (b : Block) → slice_get set.program.blocks f ≡ Some b → (link : ℕ) (en : Encloses fs b.parent link) (hs : List Frame) → low ≤ length hs → From q W R (fresh_of b link en ∷ fs) (Enters f fs) (bind (lay set (length hs) (variables_of f 0 set.program.variables)) (λ u. bind (copy_in set (length hs) b.formals gs) (λ u. give b)))
-      laid b is link en hs h = after q W R _ _ (lay_stays (fresh_of b link en ∷ fs) (length hs) h (variables_of f 0 set.program.variables)) (λ u _. after q W R _ _ (copy_stays (fresh_of b link en ∷ fs) (length hs) h b.formals gs) (λ u _.
-          gives q W R b (is, fresh_linked set.program q W R low own reads free fs f b args gs en.0 en.1 l is g (free.parents f b en.0 is en.2) en.3, fresh_sound set.program q W R low own reads free fs f b args gs en.0 en.1 l is g (free.parents f b en.0 is en.2) en.3 high s, fresh_of b link en, refl, refl, refl)))
+      laid : (b : Block) → slice_get set.program.blocks f ≡ Some b
+          → (link : ℕ) (en : Encloses fs b.parent link) (hs : List Frame) → low ≤ length hs
+          → From q W R (fresh_of b link en ∷ fs) (Enters f fs)
+          (bind (lay set (length hs) (variables_of f 0 set.program.variables))
+          (λ u. bind (copy_in set (length hs) b.formals gs) (λ u. give b)))
+      laid b is link en hs h = after q W R _ _
+          (lay_stays (fresh_of b link en ∷ fs) (length hs) h (variables_of f 0 set.program.variables))
+          (λ u _. after q W R _ _ (copy_stays (fresh_of b link en ∷ fs) (length hs) h b.formals gs) (λ u _.
+          gives q W R b (
+            is,
+            fresh_linked set.program q W R low own reads free fs f b args gs en.0 en.1 l is g
+                (free.parents f b en.0 is en.2) en.3,
+            fresh_sound set.program q W R low own reads free fs f b args gs en.0 en.1 l is g
+                (free.parents f b en.0 is en.2) en.3 high s,
+            fresh_of b link en,
+            refl,
+            refl,
+            refl,
+          )))
 
   module _ (fs z : List Frame) (high : low ≤ length fs) where
     abbrev IsSound : (Use → Type 0) → Type 0
@@ -320,20 +446,28 @@ module _ (set : Setting) (q : Name) (W R : Loc → Type 0) (low : ℕ) (own : (n
     beat : (todo : List Item) → Good todo → Step (bind (tick set.limits) (λ u. give (Ticked todo)))
     beat todo f = after q W R (tick set.limits) _ (tick_stays fs) (λ u _. gives q W R (Ticked todo) f)
 
-    add : (i : Item) (todo : List Item) → (Ready set.program W R fs todo → Ready set.program W R fs (i ∷ todo)) → last_of fs (i ∷ todo) ≡ last_of fs todo → Good todo → Good (i ∷ todo)
+    add : (i : Item) (todo : List Item) → (Ready set.program W R fs todo → Ready set.program W R fs (i ∷ todo))
+        → last_of fs (i ∷ todo) ≡ last_of fs todo → Good todo → Good (i ∷ todo)
     add i todo r e f = record { linked = f.linked; ready = r f.ready; ends = e ∙ f.ends }
 
-    turn_from : (x : ℕ) (n limit : ℤ) (down : Bool) (s : Stmt) (todo : List Item) → IsSound (In_loop x s) → Good todo → Step (turn_of set x n limit down s todo)
+    turn_from : (x : ℕ) (n limit : ℤ) (down : Bool) (s : Stmt) (todo : List Item) → IsSound (In_loop x s) → Good todo
+        → Step (turn_of set x n limit down s todo)
     turn_from x n limit down s todo so f =
-        after q W R _ _ (place_of_keeps q W R fs set x) (λ y e. after q W R _ _ (address_of_keeps q W R fs set (stands set.program fs x) y e) (λ a d.
+        after q W R _ _ (place_of_keeps q W R fs set x)
+        (λ y e. after q W R _ _ (address_of_keeps q W R fs set (stands set.program fs x) y e) (λ a d.
         let w : W a.spot = so.allowed [] (Target x) (inl refl) x a.spot (refl, d) in
         after q W R _ _ (assign_stays q W R fs a (Ordinal n) (reads a.spot w) w) (λ u _.
-        beat (push s (Again x limit down s ∷ todo)) (push_good set.program W R z fs s (Again x limit down s ∷ todo) (part (λ u. inr) so) (add (Again x limit down s) todo (λ r. (so, r)) refl f)))))
+        beat (push s (Again x limit down s ∷ todo))
+        (push_good set.program W R z fs s (Again x limit down s ∷ todo) (part (λ u. inr) so)
+        (add (Again x limit down s) todo (λ r. (so, r)) refl f)))))
 
-    fork_from : (ss : List Stmt) (bs : List Birth) (todo : List Item) → Born set.program W R fs ss bs → Good todo → Step (fork set bs todo)
+    fork_from : (ss : List Stmt) (bs : List Birth) (todo : List Item) → Born set.program W R fs ss bs → Good todo
+        → Step (fork set bs todo)
     fork_from ss bs todo b f = record { by = λ w o n e. go w o n e (nat_lt o.depth set.limits.depth) }
       where
-        go : (w : Who) (o : Own) → w.name ≡ q → o.frames ≡ fs → (c : Bool) → Within W R (λ d o1. Fair set.program W R z d o1.frames) ((if c then give (Forked bs todo) else fail fault.F11) w o)
+        go : (w : Who) (o : Own) → w.name ≡ q → o.frames ≡ fs → (c : Bool)
+            → Within W R (λ d o1. Fair set.program W R z d o1.frames)
+            ((if c then give (Forked bs todo) else fail fault.F11) w o)
         go w o n e true = subst (λ y. Fair set.program W R z (Forked bs todo) y) (sym e) (ss, b, f)
         go w o n e false = tt
 
@@ -344,25 +478,35 @@ module _ (set : Setting) (q : Name) (W R : Loc → Type 0) (low : ℕ) (own : (n
       test : (e : Expr) → IsSound (In_expr e) → Keeps q W R fs Any (ordinal_of set call e)
       test e so = ordinal_of_stays q W R fs set free reads call ok e so
 
-      target : (v : Var) → IsSound (In_target v) → Keeps q W R fs (Writable q W R fs set free reads) (address set call v)
+      target : (v : Var) → IsSound (In_target v)
+          → Keeps q W R fs (Writable q W R fs set free reads) (address set call v)
       target v so = address_keeps q W R fs set free reads call ok v so
 
       width_stays : (w : Option Expr) → IsSound (In_width w) → Keeps q W R fs Any (width set call w)
       width_stays None so = give_stays q W R fs None
       width_stays (Some e) so = then_stays q W R fs _ _ (test e so) (λ m. give_stays q W R fs (Some m))
 
-      printed : (bs : List ℕ) (todo : List Item) → W Output → Good todo → Step (bind (write set bs) (λ u. give (Stepped todo)))
+      printed : (bs : List ℕ) (todo : List Item) → W Output → Good todo
+          → Step (bind (write set bs) (λ u. give (Stepped todo)))
       printed bs todo out f = after q W R _ _ (write_stays fs out bs) (λ u _. went todo f)
 
       pub start_from : (s : Stmt) (todo : List Item) → IsSound (In_stmt s) → Good todo → Step (start set call s todo)
       start_from Empty todo so f = went todo f
-      start_from (Assign v e) todo so f = after q W R _ _ (target v (part (λ u. inl) so)) (λ a w. after q W R _ _ (expr e (part (λ u. inr) so)) (λ x _. after q W R _ _ (assign_stays q W R fs a x (reads a.spot w) w) (λ u _. went todo f)))
+      start_from (Assign v e) todo so f = after q W R _ _ (target v (part (λ u. inl) so))
+          (λ a w. after q W R _ _ (expr e (part (λ u. inr) so))
+          (λ x _. after q W R _ _ (assign_stays q W R fs a x (reads a.spot w) w) (λ u _. went todo f)))
       start_from (Call g args) todo so f =
-          after q W R _ _ (actuals_keeps q W R fs set free reads call ok args (part (λ u. inr) so)) (λ gs gave. after_from q W R _ _ (enter_from fs high g args gs f.linked so gave) (λ b hs h.
-          gives q W R (Ticked (push b.body (Leave ∷ todo))) (push_good set.program W R z hs b.body (Leave ∷ todo) h.2 (back hs b h))))
+          after q W R _ _ (actuals_keeps q W R fs set free reads call ok args (part (λ u. inr) so))
+          (λ gs gave. after_from q W R _ _ (enter_from fs high g args gs f.linked so gave) (λ b hs h.
+          gives q W R (Ticked (push b.body (Leave ∷ todo)))
+          (push_good set.program W R z hs b.body (Leave ∷ todo) h.2 (back hs b h))))
         where
           back : (hs : List Frame) (b : Block) → Enters g fs b hs → Fit set.program W R z hs (Leave ∷ todo)
-          back hs b h = record { linked = h.1; ready = subst (λ y. Ready set.program W R (below y) todo) (sym h.4) f.ready; ends = subst (λ y. last_of (below y) todo ≡ z) (sym h.4) f.ends }
+          back hs b h = record {
+            linked = h.1;
+            ready = subst (λ y. Ready set.program W R (below y) todo) (sym h.4) f.ready;
+            ends = subst (λ y. last_of (below y) todo ≡ z) (sym h.4) f.ends;
+          }
       start_from (Sequence ss) todo so f = went (push_all ss todo) (push_all_good set.program W R z fs ss todo so f)
       start_from (If e a) todo so f = after q W R _ _ (test e (part (λ u. inl) so)) (λ n _. go (int_le n (pos 0)))
         where
@@ -376,12 +520,19 @@ module _ (set : Setting) (q : Name) (W R : Loc → Type 0) (low : ℕ) (own : (n
           go false = went (push a todo) (push_good set.program W R z fs a todo (part (λ u i. inr (inl i)) so) f)
       start_from (While e s) todo so f = after q W R _ _ (test e (part (λ u. inl) so)) (λ n _. go (int_le n (pos 0)))
         where
-          go : (b : Bool) → Step (if b then give (Stepped todo) else bind (tick set.limits) (λ u. give (Ticked (push s (Do (While e s) ∷ todo)))))
+          go : (b : Bool) → Step (if b then give (Stepped todo) else
+              bind (tick set.limits) (λ u. give (Ticked (push s (Do (While e s) ∷ todo)))))
           go true = went todo f
-          go false = beat (push s (Do (While e s) ∷ todo)) (push_good set.program W R z fs s (Do (While e s) ∷ todo) (part (λ u. inr) so) (add_do set.program W R z fs (While e s) todo so f))
-      start_from (Repeat s e) todo so f = beat (push s (Test s e ∷ todo)) (push_good set.program W R z fs s (Test s e ∷ todo) (part (λ u. inr) so) (add (Test s e) todo (λ r. (so, r)) refl f))
+          go false = beat (push s (Do (While e s) ∷ todo))
+              (push_good set.program W R z fs s (Do (While e s) ∷ todo) (part (λ u. inr) so)
+              (add_do set.program W R z fs (While e s) todo so f))
+      start_from (Repeat s e) todo so f = beat (push s (Test s e ∷ todo))
+          (push_good set.program W R z fs s (Test s e ∷ todo) (part (λ u. inr) so)
+          (add (Test s e) todo (λ r. (so, r)) refl f))
       start_from (For x from down to s) todo so f =
-          after q W R _ _ (test from (part (λ u i. inr (inl i)) so)) (λ m _. after q W R _ _ (test to (part (λ u i. inr (inr (inl i))) so)) (λ n _. go m n (is_range down m n)))
+          after q W R _ _ (test from (part (λ u i. inr (inl i)) so))
+          (λ m _. after q W R _ _ (test to (part (λ u i. inr (inr (inl i))) so))
+          (λ n _. go m n (is_range down m n)))
         where
           loop : (u : Use) → In_loop x s u → In_stmt (For x from down to s) u
           loop u (inl e) = inl e
@@ -390,18 +541,24 @@ module _ (set : Setting) (q : Name) (W R : Loc → Type 0) (low : ℕ) (own : (n
           go : (m n : ℤ) → (b : Bool) → Step (give (Stepped (if b then First x m n down s ∷ todo else todo)))
           go m n true = went (First x m n down s ∷ todo) (add (First x m n down s) todo (λ r. (part loop so, r)) refl f)
           go m n false = went todo f
-      start_from (Case e arms) todo so f = after q W R _ _ (test e (part (λ u. inl) so)) (λ n _. go (arm_for n arms) (in_arm n arms))
+      start_from (Case e arms) todo so f = after q W R _ _ (test e (part (λ u. inl) so))
+          (λ n _. go (arm_for n arms) (in_arm n arms))
         where
           go : (x : Option Stmt) → InArm arms x → Step (chosen set x todo)
           go None h = fails q W R fault.F9
           go (Some s) h = went (push s todo) (push_good set.program W R z fs s todo (part (λ u i. inr (h u i)) so) f)
-      start_from (Parallel ss) todo so f = fork_from (list_of ss) (children ss) todo (born_of ss (part (λ u h. inr (inl h)) so) (so.kept (ParallelOf ss) (inl refl))) f
+      start_from (Parallel ss) todo so f = fork_from (list_of ss) (children ss) todo
+          (born_of ss (part (λ u h. inr (inl h)) so) (so.kept (ParallelOf ss) (inl refl))) f
       start_from (Forall x from to s) todo so f =
-          after q W R _ _ (test from (part (λ u i. inr (inl i)) so)) (λ m _. after q W R _ _ (test to (part (λ u i. inr (inr (inl i))) so)) (λ n _. go m (nat_abs ((n -ℤ m) +ℤ pos 1)) (int_lt n m)))
+          after q W R _ _ (test from (part (λ u i. inr (inl i)) so))
+          (λ m _. after q W R _ _ (test to (part (λ u i. inr (inr (inl i))) so))
+          (λ n _. go m (nat_abs ((n -ℤ m) +ℤ pos 1)) (int_lt n m)))
         where
-          go : (m : ℤ) (k : ℕ) → (b : Bool) → Step (if b then give (Stepped todo) else fork set (indexed_children x s m k) todo)
+          go : (m : ℤ) (k : ℕ) → (b : Bool) → Step
+              (if b then give (Stepped todo) else fork set (indexed_children x s m k) todo)
           go m k true = went todo f
-          go m k false = fork_from (copies k s) (indexed_children x s m k) todo (born_copies x s (element_sound x from to s so) (so.kept (ForallOf x s) (inl refl)).1 m k) f
+          go m k false = fork_from (copies k s) (indexed_children x s m k) todo
+              (born_copies x s (element_sound x from to s so) (so.kept (ForallOf x s) (inl refl)).1 m k) f
       start_from (Assume e) todo so f = after q W R _ _ (test e so) (λ n _. go (int_le n (pos 0)))
         where
           go : (b : Bool) → Step (if b then fail fault.F8 else give (Stepped todo))
@@ -409,31 +566,55 @@ module _ (set : Setting) (q : Name) (W R : Loc → Type 0) (low : ℕ) (own : (n
           go false = went todo f
       start_from (ReadValue v) todo so f =
           let i : W Input = input_written q W R fs set free reads so (inl refl) in
-          after q W R _ _ (target v (part (λ u h. inr (inl h)) so)) (λ a w. after q W R _ _ (kind_stays q W R fs set a.kind) (λ k _. after q W R _ _ (left_stays q W R fs set free reads (reads Input i)) (λ bs _.
-          after q W R _ _ (or_lost_stays q W R fs (taken_by k bs)) (λ x _. after q W R _ _ (take_stays fs i a w x) (λ u _. went todo f)))))
+          after q W R _ _ (target v (part (λ u h. inr (inl h)) so))
+          (λ a w. after q W R _ _ (kind_stays q W R fs set a.kind)
+          (λ k _. after q W R _ _ (left_stays q W R fs set free reads (reads Input i)) (λ bs _.
+          after q W R _ _ (or_lost_stays q W R fs (taken_by k bs))
+          (λ x _. after q W R _ _ (take_stays fs i a w x) (λ u _. went todo f)))))
       start_from ReadLine todo so f =
           let i : W Input = input_written q W R fs set free reads so (inl refl) in
-          after q W R _ _ (left_stays q W R fs set free reads (reads Input i)) (λ bs _. after q W R _ _ (advance_stays fs i (line_length bs)) (λ u _. went todo f))
+          after q W R _ _ (left_stays q W R fs set free reads (reads Input i))
+          (λ bs _. after q W R _ _ (advance_stays fs i (line_length bs)) (λ u _. went todo f))
       start_from (WriteValue (Typed k form) w) todo so f =
-          after q W R _ _ (test (Typed k form) (part (λ u i. inr (inl i)) so)) (λ n _. after q W R _ _ (width_stays w (part (λ u i. inr (inr (inl i))) so)) (λ m _. after q W R _ _ (kind_stays q W R fs set k) (λ t _.
-          after q W R _ _ (in_width_stays fs (shown t n).0 (shown t n).1 m) (λ bs _. printed bs todo (output_written q W R fs set free reads so (inl refl)) f))))
-      start_from (WriteText t w) todo so f = after q W R _ _ (width_stays w (part (λ u i. inr (inl i)) so)) (λ m _. after q W R _ _ (in_width_stays fs true t m) (λ bs _. printed bs todo (output_written q W R fs set free reads so (inl refl)) f))
+          after q W R _ _ (test (Typed k form) (part (λ u i. inr (inl i)) so))
+          (λ n _. after q W R _ _ (width_stays w (part (λ u i. inr (inr (inl i))) so))
+          (λ m _. after q W R _ _ (kind_stays q W R fs set k) (λ t _.
+          after q W R _ _ (in_width_stays fs (shown t n).0 (shown t n).1 m)
+          (λ bs _. printed bs todo (output_written q W R fs set free reads so (inl refl)) f))))
+      start_from (WriteText t w) todo so f =
+          after q W R _ _ (width_stays w (part (λ u i. inr (inl i)) so))
+          (λ m _. after q W R _ _ (in_width_stays fs true t m)
+          (λ bs _. printed bs todo (output_written q W R fs set free reads so (inl refl)) f))
       start_from WriteLine todo so f = printed (10 ∷ []) todo (output_written q W R fs set free reads so (inl refl)) f
-      start_from (Open v) todo so f = after q W R _ _ (target v (part (λ u. inl) so)) (λ a w. record { by = λ y o n e. (opened a w y).by y o n e })
+      start_from (Open v) todo so f = after q W R _ _ (target v (part (λ u. inl) so))
+          (λ a w. record { by = λ y o n e. (opened a w y).by y o n e })
         where
-          opened : (a : Address) → W a.spot → (y : Who) → Step (bind (assign a (Chan (record { owner = y.name; nth = y.opens }))) (λ u. give (Opened todo)))
-          opened a w y = after q W R _ _ (assign_stays q W R fs a (Chan (record { owner = y.name; nth = y.opens })) (reads a.spot w) w) (λ u _. gives q W R (Opened todo) f)
+          opened : (a : Address) → W a.spot → (y : Who)
+              → Step (bind (assign a (Chan (record { owner = y.name; nth = y.opens }))) (λ u. give (Opened todo)))
+          opened a w y = after q W R _ _ (assign_stays q W R fs a (Chan (record { owner = y.name; nth = y.opens }))
+              (reads a.spot w) w) (λ u _. gives q W R (Opened todo) f)
       start_from (Send c (Typed k form)) todo so f =
-          after q W R _ _ (expr c (part (λ u. inl) so)) (λ v _. after q W R _ _ (channel_stays q W R fs v) (λ to _. after q W R _ _ (expr (Typed k form) (part (λ u h. inr (inl h)) so)) (λ x _. gives q W R (Offered to k (Message (Tree x)) todo) (tt, f))))
+          after q W R _ _ (expr c (part (λ u. inl) so))
+          (λ v _. after q W R _ _ (channel_stays q W R fs v)
+          (λ to _. after q W R _ _ (expr (Typed k form) (part (λ u h. inr (inl h)) so))
+          (λ x _. gives q W R (Offered to k (Message (Tree x)) todo) (tt, f))))
       start_from (Receive c x) todo so f =
-          after q W R _ _ (expr c (part (λ u. inl) so)) (λ v _. after q W R _ _ (channel_stays q W R fs v) (λ to _. after q W R _ _ (target x (part (λ u h. inr (inl h)) so)) (λ a w. gives q W R (Offered to a.kind (Takes a) todo) (w, f))))
+          after q W R _ _ (expr c (part (λ u. inl) so))
+          (λ v _. after q W R _ _ (channel_stays q W R fs v)
+          (λ to _. after q W R _ _ (target x (part (λ u h. inr (inl h)) so))
+          (λ a w. gives q W R (Offered to a.kind (Takes a) todo) (w, f))))
 
       pub act_from : (i : Item) (todo : List Item) → Good (i ∷ todo) → Step (act set call i todo)
-      act_from (Do s) todo f = start_from s todo f.ready.0 (record { linked = f.linked; ready = f.ready.1; ends = f.ends })
-      act_from (First x m n down s) todo f = turn_from x m n down s todo f.ready.0 (record { linked = f.linked; ready = f.ready.1; ends = f.ends })
+      act_from (Do s) todo f = start_from s todo f.ready.0
+          (record { linked = f.linked; ready = f.ready.1; ends = f.ends })
+      act_from (First x m n down s) todo f =
+          turn_from x m n down s todo f.ready.0 (record { linked = f.linked; ready = f.ready.1; ends = f.ends })
       act_from (Again x n down s) todo f =
-          after q W R _ _ (place_of_keeps q W R fs set x) (λ y e. after q W R _ _ (read_stays q W R fs set y (may y e)) (λ v _. after q W R _ _ (ordinal_stays q W R fs v) (λ m _.
-          turn_from x (next_value down m) n down s todo f.ready.0 (record { linked = f.linked; ready = f.ready.1; ends = f.ends }))))
+          after q W R _ _ (place_of_keeps q W R fs set x)
+          (λ y e. after q W R _ _ (read_stays q W R fs set y (may y e))
+          (λ v _. after q W R _ _ (ordinal_stays q W R fs v) (λ m _.
+          turn_from x (next_value down m) n down s todo f.ready.0
+          (record { linked = f.linked; ready = f.ready.1; ends = f.ends }))))
         where
           may : (y : Place) → Of q W R fs (stands set.program fs x) y → MayRead q W R fs set y
           may (At a) e = reads a.spot (f.ready.0.allowed [] (Target x) (inl refl) x a.spot (refl, e))
@@ -446,23 +627,33 @@ module _ (set : Setting) (q : Name) (W R : Loc → Type 0) (low : ℕ) (own : (n
           go : (b : Bool) → Step (give (Stepped (if b then Do (Repeat s e) ∷ todo else todo)))
           go true = went (Do (Repeat s e) ∷ todo) (add_do set.program W R z fs (Repeat s e) todo f.ready.0 rest)
           go false = went todo rest
-      act_from Leave todo f = after_from q W R _ _ (leave_from fs) (λ u gs e. gives q W R (Stepped todo) (subst (λ y. Fit set.program W R z y todo) (sym e) (record { linked = linked_below fs f.linked; ready = f.ready; ends = f.ends })))
+      act_from Leave todo f = after_from q W R _ _ (leave_from fs)
+          (λ u gs e. gives q W R (Stepped todo)
+          (subst (λ y. Fit set.program W R z y todo) (sym e)
+          (record { linked = linked_below fs f.linked; ready = f.ready; ends = f.ends })))
       act_from (Break x) todo f = fails q W R x
 
   -- leaving loops
-  settle_from : (z fs : List Frame) (todo : List Item) → Fit set.program W R z fs todo → From q W R fs (λ xs gs. Fit set.program W R z gs xs) (settle set todo)
+  settle_from : (z fs : List Frame) (todo : List Item) → Fit set.program W R z fs todo
+      → From q W R fs (λ xs gs. Fit set.program W R z gs xs) (settle set todo)
   settle_from z fs [] f = gives q W R [] f
   settle_from z fs (Do s ∷ todo) f = gives q W R (Do s ∷ todo) f
   settle_from z fs (First x m n down s ∷ todo) f = gives q W R (First x m n down s ∷ todo) f
-  settle_from z fs (Again x n down s ∷ todo) f = after q W R _ _ peeks (λ v _. go (settle_from z fs todo (record { linked = f.linked; ready = f.ready.1; ends = f.ends })) (goes_on down n v))
+  settle_from z fs (Again x n down s ∷ todo) f =
+      after q W R _ _ peeks (λ v _. go (settle_from z fs todo
+      (record { linked = f.linked; ready = f.ready.1; ends = f.ends })) (goes_on down n v))
     where
       looks : (a : Address) → stands set.program fs x ≡ Some a.spot → Keeps q W R fs Any (fetch a)
       looks a e = fetch_stays q W R fs a (reads a.spot (f.ready.0.allowed [] (Target x) (inl refl) x a.spot (refl, e)))
 
       peeks : Keeps q W R fs Any (peek set x)
-      peeks = then_keeps q W R fs _ _ (place_of_keeps q W R fs set x) (λ y e. then_keeps q W R fs _ _ (address_of_keeps q W R fs set (stands set.program fs x) y e) (λ a d. looks a d))
+      peeks = then_keeps q W R fs _ _ (place_of_keeps q W R fs set x)
+          (λ y e. then_keeps q W R fs _ _ (address_of_keeps q W R fs set (stands set.program fs x) y e)
+          (λ a d. looks a d))
 
-      go : From q W R fs (λ xs gs. Fit set.program W R z gs xs) (settle set todo) → (b : Bool) → From q W R fs (λ xs gs. Fit set.program W R z gs xs) (if b then give (Again x n down s ∷ todo) else settle set todo)
+      go : From q W R fs (λ xs gs. Fit set.program W R z gs xs) (settle set todo) → (b : Bool)
+          → From q W R fs (λ xs gs. Fit set.program W R z gs xs)
+          (if b then give (Again x n down s ∷ todo) else settle set todo)
       go ih true = gives q W R (Again x n down s ∷ todo) f
       go ih false = ih
   settle_from z fs (Test s e ∷ todo) f = gives q W R (Test s e ∷ todo) f
@@ -470,14 +661,19 @@ module _ (set : Setting) (q : Name) (W R : Loc → Type 0) (low : ℕ) (own : (n
   settle_from z fs (Break x ∷ todo) f = gives q W R (Break x ∷ todo) f
 
   pub record AllKeep (n : ℕ) : Type 0 where
-    pub by : (z fs : List Frame) (todo : List Item) → low ≤ length z → Fit set.program W R z fs todo → From q W R fs (λ (xs : List Item) gs. gs ≡ z) (all set n todo)
+    pub by : (z fs : List Frame) (todo : List Item) → low ≤ length z → Fit set.program W R z fs todo
+        → From q W R fs (λ (xs : List Item) gs. gs ≡ z) (all set n todo)
 
-  at_same : {A : Type 0} (G : A → List Frame → Type 0) (fs gs : List Frame) (h : Work A) → gs ≡ fs → From q W R fs G h → From q W R gs G h
+  at_same : {A : Type 0} (G : A → List Frame → Type 0) (fs gs : List Frame) (h : Work A) → gs ≡ fs → From q W R fs G h
+      → From q W R gs G h
   at_same G fs gs h e f = subst (λ y. From q W R y G h) (sym e) f
 
   -- a function's result stands in its own frame
-  answer_stands : (new : Frame) (fs : List Frame) (f x : ℕ) → new.home ≡ OfBlock f → (i : Variable) → slice_get set.program.variables x ≡ Some i → i.role ≡ role.Answer → i.block ≡ f → stands set.program (new ∷ fs) x ≡ Some (Cell new.owner new.number x)
-  answer_stands new fs f x h i v r b = ap (stands_at (new ∷ fs) x) v ∙ ap (stands_by (new ∷ fs) x i) r ∙ ap (cell_of x) found
+  answer_stands : (new : Frame) (fs : List Frame) (f x : ℕ) → new.home ≡ OfBlock f → (i : Variable)
+      → slice_get set.program.variables x ≡ Some i → i.role ≡ role.Answer → i.block ≡ f
+      → stands set.program (new ∷ fs) x ≡ Some (Cell new.owner new.number x)
+  answer_stands new fs f x h i v r b = ap (stands_at (new ∷ fs) x) v ∙ ap (stands_by (new ∷ fs) x i) r
+      ∙ ap (cell_of x) found
     where
       outside : Option Frame
       outside = find (is_block i.block) new.link fs
@@ -486,11 +682,15 @@ module _ (set : Setting) (q : Name) (W R : Loc → Type 0) (low : ℕ) (own : (n
       further = find (is_block i.block) (length (new ∷ fs)) fs
 
       found : find (is_block i.block) (length (new ∷ fs)) (new ∷ fs) ≡ Some new
-      found = ap (λ c. if c then (if is_block i.block new.home then Some new else outside) else further) (eq-eqb (length (new ∷ fs)) (length (new ∷ fs)) refl) ∙ ap (λ c. if c then Some new else outside) (ap (is_block i.block) h ∙ eq-eqb i.block f b)
+      found = ap (λ c. if c then (if is_block i.block new.home then Some new else outside) else further)
+          (eq-eqb (length (new ∷ fs)) (length (new ∷ fs)) refl)
+          ∙ ap (λ c. if c then Some new else outside) (ap (is_block i.block) h ∙ eq-eqb i.block f b)
 
-  answer_stays : (fs hs : List Frame) → low ≤ length fs → (f : ℕ) (b : Block) → Enters f fs b hs → (x : Option ℕ) → b.answer ≡ x → Keeps q W R hs Any (answer_of set x)
+  answer_stays : (fs hs : List Frame) → low ≤ length fs → (f : ℕ) (b : Block) → Enters f fs b hs → (x : Option ℕ)
+      → b.answer ≡ x → Keeps q W R hs Any (answer_of set x)
   answer_stays fs hs high f b h None e = lost_stays q W R hs _
-  answer_stays fs hs high f b h (Some x) e = then_keeps q W R hs _ _ (place_of_keeps q W R hs set x) (λ y d. read_stays q W R hs set y (may y d))
+  answer_stays fs hs high f b h (Some x) e =
+      then_keeps q W R hs _ _ (place_of_keeps q W R hs set x) (λ y d. read_stays q W R hs set y (may y d))
     where
       it : (i : Variable) × (slice_get set.program.variables x ≡ Some i) × (i.role ≡ role.Answer) × (i.block ≡ f)
       it = free.answers f b x h.0 e
@@ -503,12 +703,17 @@ module _ (set : Setting) (q : Name) (W R : Loc → Type 0) (low : ℕ) (own : (n
 
       may : (y : Place) → Of q W R hs (stands set.program hs x) y → MayRead q W R hs set y
       may (At a) d =
-          let same : Cell h.3.owner h.3.number x ≡ a.spot = same_Some (Cell h.3.owner h.3.number x) a.spot (sym is ∙ d) in
+          let same : Cell h.3.owner h.3.number x ≡ a.spot =
+          same_Some (Cell h.3.owner h.3.number x) a.spot (sym is ∙ d) in
           reads a.spot (subst W same (subst (λ y. W (Cell y h.3.number x)) (sym h.5) (own h.3.number x number)))
       may (Fixed n) d = tt
 
-  pub call_keeps : (n : ℕ) → AllKeep n → (fs : List Frame) → low ≤ length fs → Linked fs → CallsKeep q W R fs set free reads (call_by set (all set n))
-  call_keeps n ih fs high l = record { by = λ f args gs so gave. record { by = λ w o m e. (whole f args gs so gave).by w o m e } }
+  pub call_keeps : (n : ℕ) → AllKeep n → (fs : List Frame) → low ≤ length fs → Linked fs
+      → CallsKeep q W R fs set free reads (call_by set (all set n))
+  call_keeps n ih fs high l = record {
+    by = λ f args gs so gave.
+        record { by = λ w o m e. (whole f args gs so gave).by w o m e };
+  }
     where
       Ended : Value → List Frame → Type 0
       Ended v gs = (gs ≡ fs) × Unit {0}
@@ -520,17 +725,25 @@ module _ (set : Setting) (q : Name) (W R : Loc → Type 0) (low : ℕ) (own : (n
       finish b = bind (answer_of set b.answer) (λ v. bind (leave set) (λ u. give v))
 
       finished : (f : ℕ) (b : Block) (hs : List Frame) → Enters f fs b hs → From q W R hs Ended (finish b)
-      finished f b hs h = after q W R _ _ (answer_stays fs hs high f b h b.answer refl) (λ v _. after_from q W R _ _ (leave_from hs) (λ u gs e. gives q W R v (e ∙ ap below h.4, tt)))
+      finished f b hs h = after q W R _ _ (answer_stays fs hs high f b h b.answer refl)
+          (λ v _. after_from q W R _ _ (leave_from hs) (λ u gs e. gives q W R v (e ∙ ap below h.4, tt)))
 
-      whole : (f : ℕ) (args : Actuals) (gs : List Given) → Sound set.program W R fs (In_call f args) → Gave set.program fs args gs → From q W R fs Ended (bind (enter set f gs) (λ b. bind (all set n (push b.body [])) (λ rest. finish b)))
+      whole : (f : ℕ) (args : Actuals) (gs : List Given) → Sound set.program W R fs (In_call f args)
+          → Gave set.program fs args gs → From q W R fs Ended
+          (bind (enter set f gs) (λ b. bind (all set n (push b.body [])) (λ rest. finish b)))
       whole f args gs so gave = after_from q W R _ _ (enter_from fs high f args gs l so gave) (λ b hs h.
-          after_from q W R _ _ (ih.by hs hs (push b.body []) (higher hs h.3 h.4) (push_good set.program W R hs hs b.body [] h.2 (record { linked = h.1; ready = tt; ends = refl }))) (λ rest is e. at_same Ended hs is (finish b) e (finished f b hs h)))
+          after_from q W R _ _ (ih.by hs hs (push b.body []) (higher hs h.3 h.4)
+          (push_good set.program W R hs hs b.body [] h.2 (record { linked = h.1; ready = tt; ends = refl })))
+          (λ rest is e. at_same Ended hs is (finish b) e (finished f b hs h)))
 
-  rest_by_from : (n : ℕ) → AllKeep n → (z fs : List Frame) (todo : List Item) → low ≤ length z → Fit set.program W R z fs todo → From q W R fs (λ (xs : List Item) gs. gs ≡ z) (rest_by set (all set n) todo)
+  rest_by_from : (n : ℕ) → AllKeep n → (z fs : List Frame) (todo : List Item) → low ≤ length z
+      → Fit set.program W R z fs todo → From q W R fs (λ (xs : List Item) gs. gs ≡ z) (rest_by set (all set n) todo)
   rest_by_from n ih z fs [] high f = gives q W R [] f.ends
-  rest_by_from n ih z fs (i ∷ todo) high f = let h = high_at z fs (i ∷ todo) high f in after_from q W R _ _ (act_from fs z h (call_by set (all set n)) (call_keeps n ih fs h f.linked) i todo f) go
+  rest_by_from n ih z fs (i ∷ todo) high f = let h = high_at z fs (i ∷ todo) high f in
+      after_from q W R _ _ (act_from fs z h (call_by set (all set n)) (call_keeps n ih fs h f.linked) i todo f) go
     where
-      go : (d : Deed) (gs : List Frame) → Fair set.program W R z d gs → From q W R gs (λ (xs : List Item) hs. hs ≡ z) (bind (left_by set d) (all set n))
+      go : (d : Deed) (gs : List Frame) → Fair set.program W R z d gs
+          → From q W R gs (λ (xs : List Item) hs. hs ≡ z) (bind (left_by set d) (all set n))
       go (Stepped todo1) gs h = record { by = λ w o m e. (ih.by z gs todo1 high h).by w o m e }
       go (Ticked todo1) gs h = record { by = λ w o m e. (ih.by z gs todo1 high h).by w o m e }
       go (Opened todo1) gs h = record { by = λ w o m e. tt }
@@ -540,17 +753,26 @@ module _ (set : Setting) (q : Name) (W R : Loc → Type 0) (low : ℕ) (own : (n
 
   pub all_keep : (n : ℕ) → AllKeep n
   all_keep zero = record { by = λ z fs todo high f. record { by = λ w o m e. tt } }
-  all_keep (suc n) = record { by = λ z fs todo high f. after_from q W R _ _ (settle_from z fs todo f) (λ todo1 gs g. rest_by_from n (all_keep n) z gs todo1 high g) }
+  all_keep (suc n) = record {
+    by = λ z fs todo high f. after_from q W R _ _ (settle_from z fs todo f)
+        (λ todo1 gs g. rest_by_from n (all_keep n) z gs todo1 high g);
+  }
 
   -- a step of a process reads R's locations and writes W's, and comes to what is fair
-  deed_above : (n : ℕ) (z fs : List Frame) (todo : List Item) → low ≤ length z → Fit set.program W R z fs todo → From q W R fs (Fair set.program W R z) (deed set n todo)
+  deed_above : (n : ℕ) (z fs : List Frame) (todo : List Item) → low ≤ length z → Fit set.program W R z fs todo
+      → From q W R fs (Fair set.program W R z) (deed set n todo)
   deed_above n z fs todo high f = after_from q W R _ _ (settle_from z fs todo f) go
     where
-      go : (todo1 : List Item) (gs : List Frame) → Fit set.program W R z gs todo1 → From q W R gs (Fair set.program W R z) (deed_by set (all set n) todo1)
+      go : (todo1 : List Item) (gs : List Frame) → Fit set.program W R z gs todo1
+          → From q W R gs (Fair set.program W R z) (deed_by set (all set n) todo1)
       go [] gs g = gives q W R deeds.Ended tt
-      go (i ∷ rest) gs g = let h = high_at z gs (i ∷ rest) high g in act_from gs z h (call_by set (all set n)) (call_keeps n (all_keep n) gs h g.linked) i rest g
+      go (i ∷ rest) gs g = let h = high_at z gs (i ∷ rest) high g in
+          act_from gs z h (call_by set (all set n)) (call_keeps n (all_keep n) gs h g.linked) i rest g
 
 -- where all that stands in the process's frames is its own to write
-pub deed_from : (set : Setting) (q : Name) (W R : Loc → Type 0) (own : (n x : ℕ) → W (Cell q n x)) (reads : (l : Loc) → W l → R l) (free : IsFreeOfInterference set.program) (n : ℕ) (z fs : List Frame) (todo : List Item) → Fit set.program W R z fs todo
+pub deed_from : (set : Setting) (q : Name) (W R : Loc → Type 0) (own : (n x : ℕ) → W (Cell q n x))
+    (reads : (l : Loc) → W l → R l) (free : IsFreeOfInterference set.program) (n : ℕ) (z fs : List Frame)
+    (todo : List Item) → Fit set.program W R z fs todo
     → From q W R fs (Fair set.program W R z) (deed set n todo)
-deed_from set q W R own reads free n z fs todo f = deed_above set q W R 0 (λ m x h. own m x) reads free n z fs todo (omega arith) f
+deed_from set q W R own reads free n z fs todo f =
+    deed_above set q W R 0 (λ m x h. own m x) reads free n z fs todo (omega arith) f

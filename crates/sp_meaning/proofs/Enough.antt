@@ -1,5 +1,6 @@
 -- What a step evaluates comes to an end within its bound.
-use Rattle.std.proofs.Common.{ℕ, ◌≤◌, Bool, true, false, List, [], ◌∷◌, Option, Some, None, length, arith, if◌then◌else◌}
+use Rattle.std.proofs.Common.{ℕ, ◌≤◌, Bool, true, false, List, [], ◌∷◌, Option, Some, None, length, arith}
+use Rattle.std.proofs.Common.{if◌then◌else◌}
 use Rattle.std.specs.Prelude.{ℤ, pos, ◌-ℤ◌, nat_abs, slice_get, int_le, ◌&&◌, ◌++◌}
 use Rattle.sp_base.specs.declared.fault.Fault.{Fault}
 use Rattle.sp_base.specs.declared.fault.Fault.TheVariants as fault
@@ -11,13 +12,21 @@ use Rattle.sp_tree.specs.declared.operators.BinaryOp.{BinaryOp}
 use Rattle.sp_tree.specs.declared.operators.BinaryOp.TheVariants as binary
 use Rattle.sp_tree.specs.declared.operators.StandardFn.{StandardFn}
 use Rattle.sp_tree.specs.declared.operators.StandardFn.TheVariants as standard
-use Rattle.sp_tree.specs.Plain.{Expr, Typed, ExprForm, Number, Read, Unary, Binary, Apply, Standard, AtInput, Var, Entire, Index, Field, Selectors, Whole, Select, ByValue, ByReference, Actuals, Nothing, Pass, Variable}
+use Rattle.sp_tree.specs.Plain.{Expr, Typed, ExprForm, Number, Read, Unary, Binary, Apply, Standard, AtInput, Var}
+use Rattle.sp_tree.specs.Plain.{Entire, Index, Field, Selectors, Whole, Select, ByValue, ByReference, Actuals, Nothing}
+use Rattle.sp_tree.specs.Plain.{Pass, Variable}
 use Rattle.sp_meaning.specs.Model.{Channel}
 use Rattle.sp_meaning.specs.Asking.{Asking, Done, Loads, Puts, and_then}
 use Rattle.sp_meaning.specs.Values.{Value, Undefined, Ordinal, Chan, Parts}
-use Rattle.sp_meaning.specs.Own.{Loc, Held, Address, Home, OfBlock, OfIndex, Frame, Setting, Own, Who, Came, Got, Bad, Lost, Long, Work, bind, go_on, give, fail, lost, mine, look, put, fetch, assign, or_lost, visible, seen, seek, reach, reached, is_block, is_index, referred}
-use Rattle.sp_meaning.specs.Eval.{Place, At, Fixed, Given, Calls, work_of, as_ordinal, ordinal, channel, channels_op, operate, standard_op, input_op, ordinal_read, channel_read, checked, element_at, field_kind, kind_at, indexed, fielded, read_at, address_of, index_in, place_by, place_of, left_of, value, form_value, place, selected, actuals, address, ordinal_of}
-use Rattle.sp_meaning.specs.Operators.{Worked, Yields, Faults, ranged, successor, predecessor, absolute, square, is_odd, unary_op, binary_op, least, greatest}
+use Rattle.sp_meaning.specs.Own.{Loc, Held, Address, Home, OfBlock, OfIndex, Frame, Setting, Own, Who, Came, Got, Bad}
+use Rattle.sp_meaning.specs.Own.{Lost, Long, Work, bind, go_on, give, fail, lost, mine, look, put, fetch, assign}
+use Rattle.sp_meaning.specs.Own.{or_lost, visible, seen, seek, reach, reached, is_block, is_index, referred}
+use Rattle.sp_meaning.specs.Eval.{Place, At, Fixed, Given, Calls, work_of, as_ordinal, ordinal, channel, channels_op}
+use Rattle.sp_meaning.specs.Eval.{operate, standard_op, input_op, ordinal_read, channel_read, checked, element_at}
+use Rattle.sp_meaning.specs.Eval.{field_kind, kind_at, indexed, fielded, read_at, address_of, index_in, place_by}
+use Rattle.sp_meaning.specs.Eval.{place_of, left_of, value, form_value, place, selected, actuals, address, ordinal_of}
+use Rattle.sp_meaning.specs.Operators.{Worked, Yields, Faults, ranged, successor, predecessor, absolute, square, is_odd}
+use Rattle.sp_meaning.specs.Operators.{unary_op, binary_op, least, greatest}
 
 -- it ends, with t ticks or more, and with this fact
 abbrev pub Ends : {A : Type 0} → ℕ → (A → Own → Type 0) → Asking Loc Held (Came A) → Type 0
@@ -28,7 +37,9 @@ Ends t F (Done Long) = ⊥
 Ends t F (Loads l more) = (h : Held) → Ends t F (more h)
 Ends t F (Puts l h more) = Ends t F more
 
-pub ends_then : {A B : Type 0} (t : ℕ) (F : A → Own → Type 0) (G : B → Own → Type 0) (x : Asking Loc Held (Came A)) (g : A → Work B) (w : Who) → Ends t F x → ((a : A) (o : Own) → t ≤ o.ticks → F a o → Ends t G (g a w o)) → Ends t G (and_then x (λ r. go_on g w r))
+pub ends_then : {A B : Type 0} (t : ℕ) (F : A → Own → Type 0) (G : B → Own → Type 0) (x : Asking Loc Held (Came A))
+    (g : A → Work B) (w : Who) → Ends t F x → ((a : A) (o : Own) → t ≤ o.ticks → F a o → Ends t G (g a w o))
+    → Ends t G (and_then x (λ r. go_on g w r))
 ends_then t F G (Done (Got a o)) g w h k = k a o h.0 h.1
 ends_then t F G (Done (Bad f)) g w h k = tt
 ends_then t F G (Done Lost) g w h k = tt
@@ -51,8 +62,12 @@ ends_weaker u t (Puts l v more) le h = ends_weaker u t more le h
 pub record Steady {A : Type 0} (t : ℕ) (h : Work A) : Type 0 where
   pub by : (w : Who) (o : Own) → t ≤ o.ticks → Ends t Any (h w o)
 
-pub then_steady : {A B : Type 0} (t : ℕ) (h : Work A) (g : A → Work B) → Steady t h → ((a : A) → Steady t (g a)) → Steady t (bind h g)
-then_steady t h g a b = record { by = λ w o le. ends_then t Any Any (h w o) g w (a.by w o le) (λ x o1 l1 u. (b x).by w o1 l1) }
+pub then_steady : {A B : Type 0} (t : ℕ) (h : Work A) (g : A → Work B) → Steady t h → ((a : A) → Steady t (g a))
+    → Steady t (bind h g)
+then_steady t h g a b = record {
+  by = λ w o le. ends_then t Any Any (h w o) g w (a.by w o le)
+      (λ x o1 l1 u. (b x).by w o1 l1);
+}
 
 module _ (t : ℕ) where
   pub give_steady : {A : Type 0} (a : A) → Steady t (give a)
@@ -179,7 +194,10 @@ module _ (t : ℕ) where
   element_steady a n kind.Boolean = lost_steady _
   element_steady a n kind.Char = lost_steady _
   element_steady a n (kind.Enumeration m) = lost_steady _
-  element_steady a n (kind.Array low high index element) = if_steady (int_le low n && int_le n high) (give (At (record { spot = a.spot; path = a.path ++ nat_abs (n -ℤ low) ∷ []; kind = element }))) (fail fault.F1) (give_steady _) (fail_steady _ fault.F1)
+  element_steady a n (kind.Array low high index element) =
+      if_steady (int_le low n && int_le n high)
+      (give (At (record { spot = a.spot; path = a.path ++ nat_abs (n -ℤ low) ∷ []; kind = element }))) (fail fault.F1)
+      (give_steady _) (fail_steady _ fault.F1)
   element_steady a n (kind.Fields fs) = lost_steady _
   element_steady a n (kind.Channel ks) = lost_steady _
 
@@ -192,11 +210,13 @@ module _ (t : ℕ) where
     indexed_steady (Fixed m) n = lost_steady _
 
     fielded_steady : (f : ℕ) (q : Place) → Steady t (fielded g f q)
-    fielded_steady f (At a) = then_steady t (kind_at g a.kind) _ (kind_steady a.kind) (λ k. then_steady t (or_lost (field_kind f k)) _ (or_lost_steady _) (λ u. give_steady _))
+    fielded_steady f (At a) = then_steady t (kind_at g a.kind) _ (kind_steady a.kind)
+        (λ k. then_steady t (or_lost (field_kind f k)) _ (or_lost_steady _) (λ u. give_steady _))
     fielded_steady f (Fixed m) = lost_steady _
 
     pub read_steady : (q : Place) → Steady t (read_at g q)
-    read_steady (At a) = then_steady t (kind_at g a.kind) _ (kind_steady a.kind) (λ k. then_steady t (fetch a) _ (fetch_steady a) (λ v. checked_steady k v))
+    read_steady (At a) = then_steady t (kind_at g a.kind) _ (kind_steady a.kind)
+        (λ k. then_steady t (fetch a) _ (fetch_steady a) (λ v. checked_steady k v))
     read_steady (Fixed n) = give_steady _
 
     pub address_of_steady : (q : Place) → Steady t (address_of g q)
@@ -209,14 +229,20 @@ module _ (t : ℕ) where
 
     place_by_steady : (x : ℕ) (i : Variable) (r : Role) → Steady t (place_by g x i r)
     place_by_steady x i role.Console = lost_steady _
-    place_by_steady x i role.Local = then_steady t (visible (is_block i.block)) _ (visible_steady _) (λ f. give_steady _)
-    place_by_steady x i role.Value = then_steady t (visible (is_block i.block)) _ (visible_steady _) (λ f. give_steady _)
-    place_by_steady x i role.Reference = then_steady t (visible (is_block i.block)) _ (visible_steady _) (λ f. then_steady t (or_lost (referred x f.references)) _ (or_lost_steady _) (λ a. give_steady _))
-    place_by_steady x i role.Index = then_steady t (visible (is_index x)) _ (visible_steady _) (λ f. index_in_steady f.home)
-    place_by_steady x i role.Answer = then_steady t (visible (is_block i.block)) _ (visible_steady _) (λ f. give_steady _)
+    place_by_steady x i role.Local = then_steady t (visible (is_block i.block)) _ (visible_steady _)
+        (λ f. give_steady _)
+    place_by_steady x i role.Value = then_steady t (visible (is_block i.block)) _ (visible_steady _)
+        (λ f. give_steady _)
+    place_by_steady x i role.Reference = then_steady t (visible (is_block i.block)) _ (visible_steady _)
+        (λ f. then_steady t (or_lost (referred x f.references)) _ (or_lost_steady _) (λ a. give_steady _))
+    place_by_steady x i role.Index = then_steady t (visible (is_index x)) _ (visible_steady _)
+        (λ f. index_in_steady f.home)
+    place_by_steady x i role.Answer = then_steady t (visible (is_block i.block)) _ (visible_steady _)
+        (λ f. give_steady _)
 
     pub place_of_steady : (x : ℕ) → Steady t (place_of g x)
-    place_of_steady x = then_steady t (or_lost (slice_get g.program.variables x)) _ (or_lost_steady _) (λ i. place_by_steady x i i.role)
+    place_of_steady x = then_steady t (or_lost (slice_get g.program.variables x)) _ (or_lost_steady _)
+        (λ i. place_by_steady x i i.role)
 
     pub left_steady : Steady t (left_of g)
     left_steady = then_steady t (look _) _ (look_steady _) (λ h. give_steady _)
@@ -234,27 +260,39 @@ module _ (t : ℕ) where
       form_steady : (call : Calls) → CallsEnd call → (k : ℕ) (e : ExprForm) → Steady t (form_value g call k e)
       form_steady call ok k (Number n) = give_steady _
       form_steady call ok k (Read v) = then_steady t (place g call v) _ (place_steady call ok v) (λ q. read_steady q)
-      form_steady call ok k (Unary op a) = then_steady t (as_ordinal (value g call a)) _ (as_ordinal_steady _ (value_steady call ok a)) (λ n. work_steady (unary_op op n))
-      form_steady call ok k (Binary op a b) = then_steady t (value g call a) _ (value_steady call ok a) (λ v. then_steady t (value g call b) _ (value_steady call ok b) (λ w. binary_steady op v w))
-      form_steady call ok k (Apply f args) = then_steady t (actuals g call args) _ (actuals_steady call ok args) (λ gs. ok.by f gs)
+      form_steady call ok k (Unary op a) = then_steady t (as_ordinal (value g call a)) _
+          (as_ordinal_steady _ (value_steady call ok a)) (λ n. work_steady (unary_op op n))
+      form_steady call ok k (Binary op a b) =
+          then_steady t (value g call a) _ (value_steady call ok a)
+          (λ v. then_steady t (value g call b) _ (value_steady call ok b) (λ w. binary_steady op v w))
+      form_steady call ok k (Apply f args) =
+          then_steady t (actuals g call args) _ (actuals_steady call ok args) (λ gs. ok.by f gs)
       form_steady call ok k (Standard f a) =
-          then_steady t (as_ordinal (value g call a)) _ (as_ordinal_steady _ (value_steady call ok a)) (λ n. then_steady t (kind_at g k) _ (kind_steady k) (λ u. standard_steady f u n))
+          then_steady t (as_ordinal (value g call a)) _ (as_ordinal_steady _ (value_steady call ok a))
+          (λ n. then_steady t (kind_at g k) _ (kind_steady k) (λ u. standard_steady f u n))
       form_steady call ok k (AtInput f) = then_steady t (left_of g) _ left_steady (λ bs. input_steady f bs)
 
       pub place_steady : (call : Calls) → CallsEnd call → (v : Var) → Steady t (place g call v)
-      place_steady call ok (Entire x ss) = then_steady t (place_of g x) _ (place_of_steady x) (λ q. selected_steady call ok ss q)
+      place_steady call ok (Entire x ss) = then_steady t (place_of g x) _ (place_of_steady x)
+          (λ q. selected_steady call ok ss q)
 
       selected_steady : (call : Calls) → CallsEnd call → (ss : Selectors) (q : Place) → Steady t (selected g call ss q)
       selected_steady call ok Whole q = give_steady q
       selected_steady call ok (Select (Index e) rest) q =
-          then_steady t (as_ordinal (value g call e)) _ (as_ordinal_steady _ (value_steady call ok e)) (λ n. then_steady t (indexed g q n) _ (indexed_steady q n) (λ r. selected_steady call ok rest r))
-      selected_steady call ok (Select (Field f) rest) q = then_steady t (fielded g f q) _ (fielded_steady f q) (λ r. selected_steady call ok rest r)
+          then_steady t (as_ordinal (value g call e)) _ (as_ordinal_steady _ (value_steady call ok e))
+          (λ n. then_steady t (indexed g q n) _ (indexed_steady q n) (λ r. selected_steady call ok rest r))
+      selected_steady call ok (Select (Field f) rest) q =
+          then_steady t (fielded g f q) _ (fielded_steady f q) (λ r. selected_steady call ok rest r)
 
       pub actuals_steady : (call : Calls) → CallsEnd call → (args : Actuals) → Steady t (actuals g call args)
       actuals_steady call ok Nothing = give_steady _
-      actuals_steady call ok (Pass (ByValue e) rest) = then_steady t (value g call e) _ (value_steady call ok e) (λ v. then_steady t (actuals g call rest) _ (actuals_steady call ok rest) (λ gs. give_steady _))
+      actuals_steady call ok (Pass (ByValue e) rest) =
+          then_steady t (value g call e) _ (value_steady call ok e)
+          (λ v. then_steady t (actuals g call rest) _ (actuals_steady call ok rest) (λ gs. give_steady _))
       actuals_steady call ok (Pass (ByReference x) rest) =
-          then_steady t (place g call x) _ (place_steady call ok x) (λ q. then_steady t (address_of g q) _ (address_of_steady q) (λ a. then_steady t (actuals g call rest) _ (actuals_steady call ok rest) (λ gs. give_steady _)))
+          then_steady t (place g call x) _ (place_steady call ok x)
+          (λ q. then_steady t (address_of g q) _ (address_of_steady q)
+          (λ a. then_steady t (actuals g call rest) _ (actuals_steady call ok rest) (λ gs. give_steady _)))
 
     pub address_steady : (call : Calls) → CallsEnd call → (v : Var) → Steady t (address g call v)
     address_steady call ok v = then_steady t (place g call v) _ (place_steady call ok v) (λ q. address_of_steady q)

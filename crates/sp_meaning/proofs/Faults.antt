@@ -5,7 +5,9 @@ use Rattle.sp_tree.specs.declared.checked.KindOf.TheVariants as kind
 use Rattle.sp_tree.specs.declared.checked.Role.TheVariants as role
 use Rattle.sp_tree.specs.declared.operators.BinaryOp.TheVariants as binary
 use Rattle.sp_tree.specs.declared.operators.StandardFn.TheVariants as standard
-use Rattle.sp_tree.specs.Plain.{Program, Variable, Expr, Typed, Number, Read, Binary, Standard, Entire, Whole, Nothing, Stmt, Assign, Call, Sequence, Case, Parallel, Forall, Assume, ReadValue, WriteValue, WriteLine, Open, Send, Receive, Stmts, No, And, NoArm}
+use Rattle.sp_tree.specs.Plain.{Program, Variable, Expr, Typed, Number, Read, Binary, Standard, Entire, Whole, Nothing}
+use Rattle.sp_tree.specs.Plain.{Stmt, Assign, Call, Sequence, Case, Parallel, Forall, Assume, ReadValue, WriteValue}
+use Rattle.sp_tree.specs.Plain.{WriteLine, Open, Send, Receive, Stmts, No, And, NoArm}
 use Rattle.sp_base.specs.declared.fault.Fault.{Fault}
 use Rattle.sp_base.specs.declared.fault.Fault.TheVariants as fault
 use Rattle.sp_base.specs.declared.limits.Limits.{Limits}
@@ -15,7 +17,15 @@ use Rattle.sp_meaning.specs.Runs.{StateOf, start, next, output_of}
 
 abbrev limits_of : (ticks depth cells output processes channels entries : ℕ) → Limits
 limits_of ticks depth cells output processes channels entries =
-    record { ticks = ticks; depth = depth; cells = cells; processes = processes; channels = channels; entries = entries; output = output }
+    record {
+      ticks = ticks;
+      depth = depth;
+      cells = cells;
+      processes = processes;
+      channels = channels;
+      entries = entries;
+      output = output;
+    }
 
 abbrev pub ample : Limits
 ample = limits_of 100 10 100 100 10 10 100
@@ -75,7 +85,8 @@ sequence (s ∷ ss) = And s (sequence ss)
 abbrev pub program : List Stmt → Program
 program ss = record {
   kinds = kind.Integer ∷ kind.Char ∷ kind.Channel (0 ∷ 1 ∷ []) ∷ [];
-  variables = console ∷ console ∷ record { kind = 2; block = 0; role = role.Local } ∷ record { kind = 0; block = 0; role = role.Local } ∷ [];
+  variables = console ∷ console ∷ record { kind = 2; block = 0; role = role.Local }
+      ∷ record { kind = 0; block = 0; role = role.Local } ∷ [];
   blocks = record { parent = None; formals = []; answer = None; body = Sequence (sequence ss) } ∷ [];
 }
 
@@ -102,24 +113,29 @@ entries_first : fault_of (of two_sends (limits_of 100 10 100 100 10 10 3)) both 
 entries_first = refl
 
 -- a char meets an integer
-types_differ : fault_of (of (program (opens ∷ Parallel (sequence (Send c (Typed 1 (Number (pos 65))) ∷ Receive c (Entire 3 Whole) ∷ [])) ∷ [])) ample) both ≡ Some (child 1, fault.F7)
+types_differ : fault_of (of (program (opens ∷ Parallel
+    (sequence (Send c (Typed 1 (Number (pos 65))) ∷ Receive c (Entire 3 Whole) ∷ [])) ∷ [])) ample) both
+    ≡ Some (child 1, fault.F7)
 types_differ = refl
 
 -- an undefined channel; then the operands come first: F5 and not F4
 undefined_channel : fault_of (of (program (Send c (read 0 3) ∷ [])) ample) (root ∷ []) ≡ Some (root, fault.F5)
 undefined_channel = refl
 
-undefined_value : fault_of (of (program (Assign (Entire 3 Whole) (read 0 3) ∷ [])) ample) (root ∷ []) ≡ Some (root, fault.F4)
+undefined_value : fault_of (of (program (Assign (Entire 3 Whole) (read 0 3) ∷ [])) ample) (root ∷ [])
+    ≡ Some (root, fault.F4)
 undefined_value = refl
 
 no_case : fault_of (of (program (Case (num 1) NoArm ∷ [])) ample) (root ∷ []) ≡ Some (root, fault.F9)
 no_case = refl
 
 -- the root's first step is F12
-first_frame : fault_of (of (program (WriteLine ∷ [])) (limits_of 100 10 1 100 10 10 100)) (root ∷ []) ≡ Some (root, fault.F12)
+first_frame : fault_of (of (program (WriteLine ∷ [])) (limits_of 100 10 1 100 10 10 100)) (root ∷ [])
+    ≡ Some (root, fault.F12)
 first_frame = refl
 
-output_full : fault_of (of (program (WriteLine ∷ WriteLine ∷ [])) (limits_of 100 10 100 1 10 10 100)) (root ∷ root ∷ []) ≡ Some (root, fault.F16)
+output_full : fault_of (of (program (WriteLine ∷ WriteLine ∷ [])) (limits_of 100 10 100 1 10 10 100)) (root ∷ root ∷ [])
+    ≡ Some (root, fault.F16)
 output_full = refl
 
 -- depth stands before the event's faults
@@ -132,10 +148,12 @@ fork_processes = refl
 no_channel : fault_of (of two_sends (limits_of 100 1 100 100 2 0 100)) (root ∷ []) ≡ Some (root, fault.F14)
 no_channel = refl
 
-overflow : fault_of (of (program (Assign (Entire 3 Whole) (Typed 0 (Binary binary.Add (num 9223372036854775807) (num 1))) ∷ [])) ample) (root ∷ []) ≡ Some (root, fault.F2)
+overflow : fault_of (of (program (Assign (Entire 3 Whole)
+    (Typed 0 (Binary binary.Add (num 9223372036854775807) (num 1))) ∷ [])) ample) (root ∷ []) ≡ Some (root, fault.F2)
 overflow = refl
 
-divisor : fault_of (of (program (Assign (Entire 3 Whole) (Typed 0 (Binary binary.Mod (num 1) (num 0))) ∷ [])) ample) (root ∷ []) ≡ Some (root, fault.F3)
+divisor : fault_of (of (program (Assign (Entire 3 Whole) (Typed 0 (Binary binary.Mod (num 1) (num 0))) ∷ [])) ample)
+    (root ∷ []) ≡ Some (root, fault.F3)
 divisor = refl
 
 -- a procedure without end: first the ticks, then the depth
@@ -143,7 +161,8 @@ abbrev recursive : Program
 recursive = record {
   kinds = kind.Integer ∷ [];
   variables = console ∷ console ∷ record { kind = 0; block = 1; role = role.Local } ∷ [];
-  blocks = record { parent = None; formals = []; answer = None; body = Call 1 Nothing } ∷ record { parent = Some 0; formals = []; answer = None; body = Call 1 Nothing } ∷ [];
+  blocks = record { parent = None; formals = []; answer = None; body = Call 1 Nothing }
+      ∷ record { parent = Some 0; formals = []; answer = None; body = Call 1 Nothing } ∷ [];
 }
 
 ticks_first : fault_of (of recursive (limits_of 1 1 1 1 1 1 1)) (root ∷ root ∷ []) ≡ Some (root, fault.F10)
@@ -163,10 +182,12 @@ past_the_end : fault_of (of (program (ReadValue (Entire 3 Whole) ∷ [])) ample)
 past_the_end = refl
 
 -- a width below 1 stands before the output's limit
-width : fault_of (of (program (WriteValue (num 1) (Some (num 0)) ∷ [])) (limits_of 100 10 100 0 10 10 100)) (root ∷ []) ≡ Some (root, fault.F1)
+width : fault_of (of (program (WriteValue (num 1) (Some (num 0)) ∷ [])) (limits_of 100 10 100 0 10 10 100)) (root ∷ [])
+    ≡ Some (root, fault.F1)
 width = refl
 
-char_range : fault_of (of (program (WriteValue (Typed 1 (Standard standard.Chr (num 256))) None ∷ [])) ample) (root ∷ []) ≡ Some (root, fault.F1)
+char_range : fault_of (of (program (WriteValue (Typed 1 (Standard standard.Chr (num 256))) None ∷ [])) ample)
+    (root ∷ []) ≡ Some (root, fault.F1)
 char_range = refl
 
 assumption : fault_of (of (program (Assume (num 0) ∷ [])) ample) (root ∷ []) ≡ Some (root, fault.F8)

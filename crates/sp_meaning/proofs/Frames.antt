@@ -1,8 +1,12 @@
 -- What a step changes, and that all else stays.
-use Rattle.std.proofs.Common.{◌≡◌, ◌≢◌, ◌⊎◌, inl, inr, ℕ, suc, ◌+◌, ◌<◌, true, false, cond, ◌==◌, List, [], ◌∷◌, length, Option, Some, None, refl, sym, ◌∙◌, subst, arith}
+use Rattle.std.proofs.Common.{◌≡◌, ◌≢◌, ◌⊎◌, inl, inr, ℕ, suc, ◌+◌, ◌<◌, true, false, cond, ◌==◌, List, [], ◌∷◌, length}
+use Rattle.std.proofs.Common.{Option, Some, None, refl, sym, ◌∙◌, subst, arith}
 use Rattle.sp_meaning.specs.Maps.{IsTest}
-use Rattle.sp_meaning.specs.Model.{Name, Channel, Language, Act, Moves, Opens, Forks, Offering, Ends, Fails, Absent, Works, Waits, Joins, Ended, State, Change, Becomes, Forked, Writes, Pends, Adds, Faults, changed, after}
-use Rattle.sp_meaning.specs.Steps.{ActOf, OfferOf, ConditionOf, Outcome, Advances, Faulty, puts, births, message, meeting, hands, meets, offered, acts}
+use Rattle.sp_meaning.specs.Model.{Name, Channel, Language, Act, Moves, Opens, Forks, Offering, Ends, Fails, Absent}
+use Rattle.sp_meaning.specs.Model.{Works, Waits, Joins, Ended, State, Change, Becomes, Forked, Writes, Pends, Adds}
+use Rattle.sp_meaning.specs.Model.{Faults, changed, after}
+use Rattle.sp_meaning.specs.Steps.{ActOf, OfferOf, ConditionOf, Outcome, Advances, Faulty, puts, births, message}
+use Rattle.sp_meaning.specs.Steps.{meeting, hands, meets, offered, acts}
 use Rattle.sp_base.specs.declared.fault.Fault.TheVariants as fault
 use Rattle.sp_meaning.specs.Disjoint.{IsAmong, Delivers}
 use Rattle.sp_meaning.proofs.Maps.{at_other}
@@ -63,31 +67,51 @@ abbrev pub OutcomeIn : {L : Language} → State L → Name → ActOf L → Outco
 OutcomeIn s p a (Advances cs) = AllIn s p a cs
 OutcomeIn s p a (Faulty f) = Unit
 
-puts_in : {L : Language} (s : State L) (p : Name) (a : ActOf L) (ws : List (L.Loc × L.Value)) → ((l : L.Loc) → IsAmong ws l → WritesTo s a l) → AllIn s p a (puts {L = L} ws)
+puts_in : {L : Language} (s : State L) (p : Name) (a : ActOf L) (ws : List (L.Loc × L.Value))
+    → ((l : L.Loc) → IsAmong ws l → WritesTo s a l) → AllIn s p a (puts {L = L} ws)
 puts_in s p a [] h = tt
 puts_in s p a (w ∷ ws) h = (h w.0 (inl refl), puts_in s p a ws (λ l k. h l (inr k)))
 
-births_in : {L : Language} (s : State L) (p : Name) (x : L.Own) (all : List L.Own) (i : ℕ) (os : List L.Own) → i + length os ≡ length all → AllIn s p (Forks x all) (births {L = L} p (s.forks p) i os)
+births_in : {L : Language} (s : State L) (p : Name) (x : L.Own) (all : List L.Own) (i : ℕ) (os : List L.Own)
+    → i + length os ≡ length all → AllIn s p (Forks x all) (births {L = L} p (s.forks p) i os)
 births_in s p x all i [] e = tt
 births_in s p x all i (o ∷ os) e =
     let c : IsChild s p (Forks x all) ((s.forks p, i) ∷ p) = (i, refl, omega arith) in
     (inr (inr c), births_in s p x all (suc i) os (omega arith))
 
-hands_in : {L : Language} (s : State L) (p : Name) (o : OfferOf L) (z : Name) (w : OfferOf L) (m : Option (L.Target × L.Value)) → s.pending o.channel ≡ Some z → s.condition z ≡ Waits w → message o.cargo w.cargo ≡ m → OutcomeIn s p (Offering o) (hands s p o z w m)
+hands_in : {L : Language} (s : State L) (p : Name) (o : OfferOf L) (z : Name) (w : OfferOf L)
+    (m : Option (L.Target × L.Value)) → s.pending o.channel ≡ Some z → s.condition z ≡ Waits w
+    → message o.cargo w.cargo ≡ m → OutcomeIn s p (Offering o) (hands s p o z w m)
 hands_in s p o z w None e c h = tt
-hands_in {L} s p o z w (Some m) e c h = elim (o.kind == w.kind) as (λ b. OutcomeIn s p (Offering o) (cond b (Advances (meeting s p o z w m)) (Faulty fault.F7))) [
-  | true ↦ (inl refl, (inr (inl e), (refl, (record { other = z; pends = e; its = w; waits = c; passes = m; is = h; there = refl }, (tt, tt)))))
-  | false ↦ tt
-]
+hands_in {L} s p o z w (Some m) e c h = elim (o.kind == w.kind) as
+    (λ b. OutcomeIn s p (Offering o) (cond b (Advances (meeting s p o z w m)) (Faulty fault.F7))) [
+      | true ↦ (
+        inl refl,
+        (
+          inr (inl e),
+          (
+            refl,
+            (
+              record
+                  { other = z; pends = e; its = w; waits = c; passes = m; is = h; there = refl },
+              (tt, tt),
+            ),
+          ),
+        ),
+      )
+      | false ↦ tt
+    ]
 
-meets_in : {L : Language} (s : State L) (p : Name) (o : OfferOf L) (z : Name) (c : ConditionOf L) → s.pending o.channel ≡ Some z → s.condition z ≡ c → OutcomeIn s p (Offering o) (meets s p o z c)
+meets_in : {L : Language} (s : State L) (p : Name) (o : OfferOf L) (z : Name) (c : ConditionOf L)
+    → s.pending o.channel ≡ Some z → s.condition z ≡ c → OutcomeIn s p (Offering o) (meets s p o z c)
 meets_in s p o z Absent e h = tt
 meets_in s p o z (Works own) e h = tt
 meets_in s p o z (Waits w) e h = hands_in s p o z w (message o.cargo w.cargo) e h refl
 meets_in s p o z (Joins k n own) e h = tt
 meets_in s p o z Ended e h = tt
 
-offered_in : {L : Language} (s : State L) (p : Name) (o : OfferOf L) (m : Option Name) → s.pending o.channel ≡ m → OutcomeIn s p (Offering o) (offered s p o m)
+offered_in : {L : Language} (s : State L) (p : Name) (o : OfferOf L) (m : Option Name) → s.pending o.channel ≡ m
+    → OutcomeIn s p (Offering o) (offered s p o m)
 offered_in s p o None e = (inl refl, (refl, (tt, tt)))
 offered_in s p o (Some z) e = meets_in s p o z (s.condition z) e refl
 
@@ -100,24 +124,31 @@ acts_in s p Ends = (inl refl, tt)
 acts_in s p (Fails f) = tt
 
 -- a step's changes are of its own parts
-pub all_in : {L : Language} (s : State L) (p : Name) (a : ActOf L) (cs : List (Change L)) → acts s p a ≡ Advances cs → AllIn s p a cs
+pub all_in : {L : Language} (s : State L) (p : Name) (a : ActOf L) (cs : List (Change L)) → acts s p a ≡ Advances cs
+    → AllIn s p a cs
 all_in s p a cs e = subst (OutcomeIn s p a) e (acts_in s p a)
 
 -- The frames: s is the state in which p steps, t one in which some of its changes are made
 module _ {L : Language} (s : State L) (p : Name) (a : ActOf L) where
-  pub condition_frame : (r : Name) → (IsNear s p a r → ⊥) → (cs : List (Change L)) (t : State L) → AllIn s p a cs → (after cs t).condition r ≡ t.condition r
+  pub condition_frame : (r : Name) → (IsNear s p a r → ⊥) → (cs : List (Change L)) (t : State L) → AllIn s p a cs
+      → (after cs t).condition r ≡ t.condition r
   condition_frame r out [] t h = refl
-  condition_frame r out (Becomes q c ∷ cs) t h = condition_frame r out cs (changed (Becomes q c) t) h.1 ∙ at_other name_test t.condition q r c (λ e. out (subst (IsNear s p a) e h.0))
+  condition_frame r out (Becomes q c ∷ cs) t h = condition_frame r out cs (changed (Becomes q c) t) h.1
+      ∙ at_other name_test t.condition q r c (λ e. out (subst (IsNear s p a) e h.0))
   condition_frame r out (c ∷ cs) t h = condition_frame r out cs (changed c t) h.1
 
-  pub forks_frame : (r : Name) → r ≢ p → (cs : List (Change L)) (t : State L) → AllIn s p a cs → (after cs t).forks r ≡ t.forks r
+  pub forks_frame : (r : Name) → r ≢ p → (cs : List (Change L)) (t : State L) → AllIn s p a cs
+      → (after cs t).forks r ≡ t.forks r
   forks_frame r out [] t h = refl
-  forks_frame r out (Forked q ∷ cs) t h = forks_frame r out cs (changed (Forked q) t) h.1 ∙ at_other name_test t.forks q r (t.forks q + 1) (λ e. out (sym e ∙ h.0))
+  forks_frame r out (Forked q ∷ cs) t h = forks_frame r out cs (changed (Forked q) t) h.1
+      ∙ at_other name_test t.forks q r (t.forks q + 1) (λ e. out (sym e ∙ h.0))
   forks_frame r out (c ∷ cs) t h = forks_frame r out cs (changed c t) h.1
 
-  pub pending_frame : (d : Channel) → (IsOn a d → ⊥) → (cs : List (Change L)) (t : State L) → AllIn s p a cs → (after cs t).pending d ≡ t.pending d
+  pub pending_frame : (d : Channel) → (IsOn a d → ⊥) → (cs : List (Change L)) (t : State L) → AllIn s p a cs
+      → (after cs t).pending d ≡ t.pending d
   pending_frame d out [] t h = refl
-  pending_frame d out (Pends c o ∷ cs) t h = pending_frame d out cs (changed (Pends c o) t) h.1 ∙ at_other channel_test t.pending c d o (λ e. out (subst (IsOn a) e h.0))
+  pending_frame d out (Pends c o ∷ cs) t h = pending_frame d out cs (changed (Pends c o) t) h.1
+      ∙ at_other channel_test t.pending c d o (λ e. out (subst (IsOn a) e h.0))
   pending_frame d out (c ∷ cs) t h = pending_frame d out cs (changed c t) h.1
 
   pub fault_frame : (cs : List (Change L)) (t : State L) → AllIn s p a cs → (after cs t).fault ≡ t.fault
@@ -125,7 +156,9 @@ module _ {L : Language} (s : State L) (p : Name) (a : ActOf L) where
   fault_frame (Faults q f ∷ cs) t h = absurd h.0
   fault_frame (c ∷ cs) t h = fault_frame cs (changed c t) h.1
 
-  pub store_frame : IsTest L.same_loc → (l : L.Loc) → (WritesTo s a l → ⊥) → (cs : List (Change L)) (t : State L) → AllIn s p a cs → (after cs t).store l ≡ t.store l
+  pub store_frame : IsTest L.same_loc → (l : L.Loc) → (WritesTo s a l → ⊥) → (cs : List (Change L)) (t : State L)
+      → AllIn s p a cs → (after cs t).store l ≡ t.store l
   store_frame loc l out [] t h = refl
-  store_frame loc l out (Writes k v ∷ cs) t h = store_frame loc l out cs (changed (Writes k v) t) h.1 ∙ at_other loc t.store k l v (λ e. out (subst (WritesTo s a) e h.0))
+  store_frame loc l out (Writes k v ∷ cs) t h = store_frame loc l out cs (changed (Writes k v) t) h.1
+      ∙ at_other loc t.store k l v (λ e. out (subst (WritesTo s a) e h.0))
   store_frame loc l out (c ∷ cs) t h = store_frame loc l out cs (changed c t) h.1

@@ -31,7 +31,8 @@ loc_test l k = (loc_is l k, loc_same l k)
     loc_is Output Output h = refl
 
     self : (l : Loc) → same_loc l l ≡ true
-    self (Cell p f x) = and_from (same_name p p) ((f == f) && (x == x)) ((name_test p p).1 refl) (and_from (f == f) (x == x) (eq-eqb f f refl) (eq-eqb x x refl))
+    self (Cell p f x) = and_from (same_name p p) ((f == f) && (x == x)) ((name_test p p).1 refl)
+        (and_from (f == f) (x == x) (eq-eqb f f refl) (eq-eqb x x refl))
     self Input = refl
     self Output = refl
 

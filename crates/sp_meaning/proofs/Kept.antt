@@ -1,19 +1,25 @@
 -- Each step keeps what is known of the state: a pending offer's process waits, unborn children are absent, and the
 -- parent of a child that lives joins it.
-use Rattle.std.proofs.Common.{◌≡◌, ◌≢◌, ◌⊎◌, ⊎_elim, inl, inr, ℕ, suc, ◌+◌, ◌<◌, ◌≤◌, le_refl, le_trans, Bool, true, false, cond, List, [], ◌∷◌, length, Option, Some, None, refl, sym, ap, ◌∙◌, subst, arith}
+use Rattle.std.proofs.Common.{◌≡◌, ◌≢◌, ◌⊎◌, ⊎_elim, inl, inr, ℕ, suc, ◌+◌, ◌<◌, ◌≤◌, le_refl, le_trans, Bool, true}
+use Rattle.std.proofs.Common.{false, cond, List, [], ◌∷◌, length, Option, Some, None, refl, sym, ap, ◌∙◌, subst, arith}
 use Rattle.std.proofs.lemmas.Option.{none-some}
-use Rattle.sp_meaning.specs.Model.{Name, Channel, same_name, Totals, Language, Moves, Opens, Forks, Offering, Ends, Fails, Condition, Absent, Works, Waits, Joins, Ended, State, Change, Becomes, Forked, Adds, changed, after}
-use Rattle.sp_meaning.specs.Steps.{ActOf, OfferOf, ConditionOf, has_ended, Outcome, Advances, births, meeting, waiting, acts, WaitsOn, Lives, JoinsAt, Sound}
+use Rattle.sp_meaning.specs.Model.{Name, Channel, same_name, Totals, Language, Moves, Opens, Forks, Offering, Ends}
+use Rattle.sp_meaning.specs.Model.{Fails, Condition, Absent, Works, Waits, Joins, Ended, State, Change, Becomes, Forked}
+use Rattle.sp_meaning.specs.Model.{Adds, changed, after}
+use Rattle.sp_meaning.specs.Steps.{ActOf, OfferOf, ConditionOf, has_ended, Outcome, Advances, births, meeting, waiting}
+use Rattle.sp_meaning.specs.Steps.{acts, WaitsOn, Lives, JoinsAt, Sound}
 use Rattle.sp_meaning.proofs.Maps.{same_or_not, itself, at_other}
 use Rattle.sp_meaning.proofs.Keys.{name_test, channel_test}
 use Rattle.sp_meaning.proofs.Frames.{IsOn, IsPartner, IsChild, IsNear, AllIn, all_in, condition_frame, pending_frame}
-use Rattle.sp_meaning.proofs.Status.{Makes, Stands, working_stands, working_lives, child_absent, waits_absent, on_partner, waiting_far, waits_joins, lives_ended, working_joins}
+use Rattle.sp_meaning.proofs.Status.{Makes, Stands, working_stands, working_lives, child_absent, waits_absent}
+use Rattle.sp_meaning.proofs.Status.{on_partner, waiting_far, waits_joins, lives_ended, working_joins}
 use Rattle.sp_meaning.proofs.Meeting.{met, waited}
 
 -- What only grows
 pub forks_grow : {L : Language} (cs : List (Change L)) (t : State L) (r : Name) → t.forks r ≤ (after cs t).forks r
 forks_grow [] t r = le_refl _
-forks_grow (Forked q ∷ cs) t r = le_trans (more (same_name q r) ((name_test q r).0)) (forks_grow cs (changed (Forked q) t) r)
+forks_grow (Forked q ∷ cs) t r = le_trans (more (same_name q r) ((name_test q r).0))
+    (forks_grow cs (changed (Forked q) t) r)
   where
     more : (b : Bool) → (b ≡ true → q ≡ r) → t.forks r ≤ cond b (t.forks q + 1) (t.forks r)
     more true h = subst (λ z. t.forks r ≤ t.forks z + 1) (sym (h refl)) (omega arith)
@@ -21,8 +27,10 @@ forks_grow (Forked q ∷ cs) t r = le_trans (more (same_name q r) ((name_test q 
 forks_grow (c ∷ cs) t r = forks_grow cs (changed c t) r
 
 -- Channels
-on_or_not : (L : Language) (a : ActOf L) (c : Channel) → ((o : OfferOf L) × (a ≡ Offering o) × (o.channel ≡ c)) ⊎ (IsOn a c → ⊥)
-on_or_not L (Offering o) c = ⊎_elim (λ (e : o.channel ≡ c). inl (o, refl, e)) (λ (n : o.channel ≢ c). inr n) (same_or_not channel_test o.channel c)
+on_or_not : (L : Language) (a : ActOf L) (c : Channel) → ((o : OfferOf L) × (a ≡ Offering o) × (o.channel ≡ c))
+    ⊎ (IsOn a c → ⊥)
+on_or_not L (Offering o) c = ⊎_elim (λ (e : o.channel ≡ c). inl (o, refl, e)) (λ (n : o.channel ≢ c). inr n)
+    (same_or_not channel_test o.channel c)
 on_or_not L (Moves o ws) c = inr (λ h. h)
 on_or_not L (Opens o ws) c = inr (λ h. h)
 on_or_not L (Forks o os) c = inr (λ h. h)
@@ -45,11 +53,15 @@ waits_lives c Ended h = h
 not_below_itself : (x : ℕ × ℕ) (p : Name) → x ∷ p ≡ p → ⊥
 not_below_itself x p e = let h : suc (length p) ≡ length p = ap length e in omega (arith, h)
 
-births_condition : {L : Language} (p : Name) (k : ℕ) (i : ℕ) (os : List L.Own) (t : State L) → (after (births {L = L} p k i os) t).condition p ≡ t.condition p
+births_condition : {L : Language} (p : Name) (k : ℕ) (i : ℕ) (os : List L.Own) (t : State L)
+    → (after (births {L = L} p k i os) t).condition p ≡ t.condition p
 births_condition p k i [] t = refl
-births_condition {L} p k i (o ∷ os) t = births_condition {L = L} p k (suc i) os (changed (Becomes ((k, i) ∷ p) (Works o)) t) ∙ at_other name_test t.condition ((k, i) ∷ p) p (Works o) (not_below_itself (k, i) p)
+births_condition {L} p k i (o ∷ os) t = births_condition {L = L} p k (suc i) os
+    (changed (Becomes ((k, i) ∷ p) (Works o)) t)
+    ∙ at_other name_test t.condition ((k, i) ∷ p) p (Works o) (not_below_itself (k, i) p)
 
-module _ {L : Language} {limits : Totals} (s : State L) (p : Name) (cs : List (Change L)) (sound : Sound s) (one : Makes limits s p cs) where
+module _ {L : Language} {limits : Totals} (s : State L) (p : Name) (cs : List (Change L)) (sound : Sound s)
+    (one : Makes limits s p cs) where
   abbrev act : ActOf L
   act = L.next one.own s.store
 
@@ -84,12 +96,16 @@ module _ {L : Language} {limits : Totals} (s : State L) (p : Name) (cs : List (C
       some_is : {A : Type 0} {o : Option A} {x y : A} → Some x ≡ o → o ≡ Some y → x ≡ y
       some_is a b = cc
 
-  forked_later : (a : ActOf L) → acts s p a ≡ Advances cs → (z : Name) (k i : ℕ) → IsChild s p a ((k, i) ∷ z) → k < (after cs s).forks z
+  forked_later : (a : ActOf L) → acts s p a ≡ Advances cs → (z : Name) (k i : ℕ) → IsChild s p a ((k, i) ∷ z)
+      → k < (after cs s).forks z
   forked_later (Forks o os) does z k i h =
-      let list : cs ≡ (Becomes p (Joins (s.forks p) (length os) o) ∷ Forked p ∷ Adds (record { processes = length os; channels = 0; entries = 1 }) ∷ births p (s.forks p) 0 os) = does_is _ _ does in
+      let list : cs ≡ (Becomes p (Joins (s.forks p) (length os) o) ∷ Forked p
+      ∷ Adds (record { processes = length os; channels = 0; entries = 1 }) ∷ births p (s.forks p) 0 os) =
+      does_is _ _ does in
       let k_is : k ≡ s.forks p = ap (λ (x : Name). head_fork x) h.1 in
       let z_is : p ≡ z = sym (tail_of _ _ _ _ h.1) in
-      let rest : List (Change L) = Adds (record { processes = length os; channels = 0; entries = 1 }) ∷ births p (s.forks p) 0 os in
+      let rest : List (Change L) = Adds (record { processes = length os; channels = 0; entries = 1 })
+      ∷ births p (s.forks p) 0 os in
       let t : State L = changed (Forked p) (changed (Becomes p (Joins (s.forks p) (length os) o)) s) in
       let here : t.forks p ≡ s.forks p + 1 = rw (itself name_test p) refl in
       let more : t.forks p ≤ (after rest t).forks p = forks_grow rest t p in
@@ -116,19 +132,25 @@ module _ {L : Language} {limits : Totals} (s : State L) (p : Name) (cs : List (C
       let r : Name = (k, i) ∷ z in
       let none : s.condition r ≡ Absent = sound.unborn z k i (le_trans (forks_grow cs s z) h) in
       condition_frame s p act r (⊎_elim
-      (λ (e : r ≡ p). absent_stands (s.condition p) (working_stands s.condition p (s.condition p) one.own one.works) (ap s.condition (sym e) ∙ none))
+      (λ (e : r ≡ p). absent_stands (s.condition p) (working_stands s.condition p (s.condition p) one.own one.works)
+      (ap s.condition (sym e) ∙ none))
       (⊎_elim
-      (λ (e : IsPartner s act r). let w = on_partner s p cs sound one act r e in waits_absent w.0 (s.condition r) w.2 none)
+      (λ (e : IsPartner s act r). let w = on_partner s p cs sound one act r e in
+      waits_absent w.0 (s.condition r) w.2 none)
       (λ (e : IsChild s p act r). let l = forked_later act one.does z k i e in omega (arith, l, h))))
       cs s (all_in s p act cs one.does) ∙ none
 
   near_lives : (q : Name) → IsNear s p act q → Lives (s.condition q) ⊎ IsChild s p act q
   near_lives q n = ⊎_elim
-      (λ (e : q ≡ p). inl (subst (λ x. Lives (s.condition x)) (sym e) (working_lives s.condition p (s.condition p) one.own one.works)))
-      (⊎_elim (λ (e : IsPartner s act q). let w = on_partner s p cs sound one act q e in inl (waits_lives w.0 (s.condition q) w.2)) (λ (e : IsChild s p act q). inr e))
+      (λ (e : q ≡ p). inl (subst (λ x. Lives (s.condition x)) (sym e)
+      (working_lives s.condition p (s.condition p) one.own one.works)))
+      (⊎_elim (λ (e : IsPartner s act q). let w = on_partner s p cs sound one act q e in
+      inl (waits_lives w.0 (s.condition q) w.2)) (λ (e : IsChild s p act q). inr e))
       n
 
-  lives_from : (es : List (Change L)) (t : State L) → AllIn s p act es → ((r : Name) → Lives (t.condition r) → Lives (s.condition r) ⊎ IsChild s p act r) → (r : Name) → Lives ((after es t).condition r) → Lives (s.condition r) ⊎ IsChild s p act r
+  lives_from : (es : List (Change L)) (t : State L) → AllIn s p act es
+      → ((r : Name) → Lives (t.condition r) → Lives (s.condition r) ⊎ IsChild s p act r) → (r : Name)
+      → Lives ((after es t).condition r) → Lives (s.condition r) ⊎ IsChild s p act r
   lives_from [] t h k r l = k r l
   lives_from (Becomes q c ∷ es) t h k r l = lives_from es (changed (Becomes q c) t) h.1 (λ x y. ⊎_elim
       (λ (e : q ≡ x). near_lives x (subst (IsNear s p act) e h.0))
@@ -136,18 +158,25 @@ module _ {L : Language} {limits : Totals} (s : State L) (p : Name) (cs : List (C
       (same_or_not name_test q x)) r l
   lives_from (c ∷ es) t h k r l = lives_from es (changed c t) h.1 k r l
 
-  child_joined : (a : ActOf L) → acts s p a ≡ Advances cs → (z : Name) (k i : ℕ) → IsChild s p a ((k, i) ∷ z) → JoinsAt k i ((after cs s).condition z)
+  child_joined : (a : ActOf L) → acts s p a ≡ Advances cs → (z : Name) (k i : ℕ) → IsChild s p a ((k, i) ∷ z)
+      → JoinsAt k i ((after cs s).condition z)
   child_joined (Forks o os) does z k i h =
-      let list : cs ≡ (Becomes p (Joins (s.forks p) (length os) o) ∷ Forked p ∷ Adds (record { processes = length os; channels = 0; entries = 1 }) ∷ births p (s.forks p) 0 os) = does_is _ _ does in
+      let list : cs ≡ (Becomes p (Joins (s.forks p) (length os) o) ∷ Forked p
+      ∷ Adds (record { processes = length os; channels = 0; entries = 1 }) ∷ births p (s.forks p) 0 os) =
+      does_is _ _ does in
       let k_is : s.forks p ≡ k = sym (ap (λ (x : Name). head_fork x) h.1) in
       let i_is : i ≡ h.0 = ap (λ (x : Name). head_child x) h.1 in
       let z_is : p ≡ z = sym (tail_of _ _ _ _ h.1) in
-      let t : State L = changed (Adds (record { processes = length os; channels = 0; entries = 1 })) (changed (Forked p) (changed (Becomes p (Joins (s.forks p) (length os) o)) s)) in
+      let t : State L = changed (Adds (record { processes = length os; channels = 0; entries = 1 }))
+      (changed (Forked p) (changed (Becomes p (Joins (s.forks p) (length os) o)) s)) in
       let there : t.condition p ≡ Joins (s.forks p) (length os) o = rw (itself name_test p) refl in
-      let at : (after (births p (s.forks p) 0 os) t).condition p ≡ Joins (s.forks p) (length os) o = births_condition p (s.forks p) 0 os t ∙ there in
+      let at : (after (births p (s.forks p) 0 os) t).condition p ≡ Joins (s.forks p) (length os) o =
+      births_condition p (s.forks p) 0 os t ∙ there in
       let less : i < length os = subst (λ x. x < length os) (sym i_is) h.2 in
-      let good : JoinsAt k i ((after (births p (s.forks p) 0 os) t).condition p) = subst (λ (x : ConditionOf L). JoinsAt k i x) (sym at) (k_is, less) in
-      subst (λ x. JoinsAt k i ((after x s).condition z)) (sym list) (subst (λ x. JoinsAt k i ((after (births p (s.forks p) 0 os) t).condition x)) z_is good)
+      let good : JoinsAt k i ((after (births p (s.forks p) 0 os) t).condition p) =
+      subst (λ (x : ConditionOf L). JoinsAt k i x) (sym at) (k_is, less) in
+      subst (λ x. JoinsAt k i ((after x s).condition z)) (sym list)
+      (subst (λ x. JoinsAt k i ((after (births p (s.forks p) 0 os) t).condition x)) z_is good)
     where
       does_is : (x y : List (Change L)) → ◌≡◌ {A = Outcome L} (Advances x) (Advances y) → y ≡ x
       does_is x y h = cc
@@ -168,16 +197,20 @@ module _ {L : Language} {limits : Totals} (s : State L) (p : Name) (cs : List (C
   child_joined Ends does z k i h = absurd h
   child_joined (Fails f) does z k i h = absurd h
 
-  joined_kept : (z : Name) (k i : ℕ) → Lives ((after cs s).condition ((k, i) ∷ z)) → JoinsAt k i ((after cs s).condition z)
+  joined_kept : (z : Name) (k i : ℕ) → Lives ((after cs s).condition ((k, i) ∷ z))
+      → JoinsAt k i ((after cs s).condition z)
   joined_kept z k i l = ⊎_elim
       (λ (before : Lives (s.condition ((k, i) ∷ z))).
       let j = sound.joined z k i before in
       let f = condition_frame s p act z (⊎_elim
       (λ (e : z ≡ p).
-      let ended = working_joins s.condition p (s.condition p) one.own k i one.works (subst (λ x. JoinsAt k i (s.condition x)) e j) in
-      lives_ended (s.condition ((k, i) ∷ z)) before (subst (λ x. has_ended (s.condition ((k, i) ∷ x)) ≡ true) (sym e) ended))
+      let ended = working_joins s.condition p (s.condition p) one.own k i one.works
+      (subst (λ x. JoinsAt k i (s.condition x)) e j) in
+      lives_ended (s.condition ((k, i) ∷ z)) before
+      (subst (λ x. has_ended (s.condition ((k, i) ∷ x)) ≡ true) (sym e) ended))
       (⊎_elim
-      (λ (e : IsPartner s act z). let w = on_partner s p cs sound one act z e in waits_joins w.0 k i (s.condition z) w.2 j)
+      (λ (e : IsPartner s act z). let w = on_partner s p cs sound one act z e in
+      waits_joins w.0 k i (s.condition z) w.2 j)
       (λ (e : IsChild s p act z). joins_absent k i (s.condition z) j (child_absent s p sound act z e))))
       cs s (all_in s p act cs one.does) in
       subst (λ (x : ConditionOf L). JoinsAt k i x) (sym f) j)

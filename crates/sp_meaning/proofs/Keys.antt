@@ -24,12 +24,16 @@ name_test p q = (name_is p q, name_same p q)
       where
         self : (p : Name) → same_name p p ≡ true
         self [] = refl
-        self (a ∷ p) = and_from ((a.0 == a.0) && (a.1 == a.1)) (same_name p p) (and_from (a.0 == a.0) (a.1 == a.1) (eq-eqb a.0 a.0 refl) (eq-eqb a.1 a.1 refl)) (self p)
+        self (a ∷ p) = and_from ((a.0 == a.0) && (a.1 == a.1)) (same_name p p)
+            (and_from (a.0 == a.0) (a.1 == a.1) (eq-eqb a.0 a.0 refl) (eq-eqb a.1 a.1 refl)) (self p)
 
 pub channel_test : IsTest same_channel
 channel_test a b = (
-  λ h. let o : a.owner ≡ b.owner = (name_test a.owner b.owner).0 (first_true (same_name a.owner b.owner) (a.nth == b.nth) h) in
+  λ h. let o : a.owner ≡ b.owner = (name_test a.owner b.owner).0
+      (first_true (same_name a.owner b.owner) (a.nth == b.nth) h) in
       let n : a.nth ≡ b.nth = eqb-true a.nth b.nth (second_true (same_name a.owner b.owner) (a.nth == b.nth) h) in
       λ i. record { owner = o i; nth = n i },
-  λ e. and_from (same_name a.owner b.owner) (a.nth == b.nth) ((name_test a.owner b.owner).1 (ap (λ (c : Channel). c.owner) e)) (eq-eqb a.nth b.nth (ap (λ (c : Channel). c.nth) e)),
+  λ e. and_from (same_name a.owner b.owner) (a.nth == b.nth)
+      ((name_test a.owner b.owner).1 (ap (λ (c : Channel). c.owner) e))
+      (eq-eqb a.nth b.nth (ap (λ (c : Channel). c.nth) e)),
 )

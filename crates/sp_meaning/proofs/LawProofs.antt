@@ -3,7 +3,8 @@ use Rattle.std.proofs.Common.{◌≡◌, ◌≢◌, inl, inr, [], ◌++◌, Opti
 use Rattle.std.proofs.lemmas.Option.{same_Some}
 use Rattle.sp_base.specs.declared.fault.Fault.{Fault}
 use Rattle.sp_meaning.specs.Model.{Name, Moves, Opens, Forks, Offering, Ends, Fails}
-use Rattle.sp_meaning.specs.Steps.{ActOf, ConditionOf, working, Outcome, Advances, Faulty, acts, passed, cost, unless, outcome, result_of, step_with, Lives, Sound}
+use Rattle.sp_meaning.specs.Steps.{ActOf, ConditionOf, working, Outcome, Advances, Faulty, acts, passed, cost, unless}
+use Rattle.sp_meaning.specs.Steps.{outcome, result_of, step_with, Lives, Sound}
 use Rattle.sp_meaning.specs.Disjoint.{AreParallel, Assigns, WritesIn, receiver}
 use Rattle.sp_meaning.specs.Own.{Setting, Loc, Process}
 use Rattle.sp_meaning.specs.SuperPascal.{superpascal}
@@ -26,15 +27,18 @@ module _ (g : Setting) where
   pub named : (s : StateOf g) → IsReached g s → (q : Name) → OwnIs q (s.forks q) (s.condition q)
   named s r q = own_is (K g) 0 (s.forks q) q (s.condition q) ((known g s r).well q)
 
-  pub not_fallen : (s : StateOf g) → IsReached g s → (p : Name) (t : StateOf g) → next g s p ≡ Some t → (q : Name) → HasNotFallen g s t q
+  pub not_fallen : (s : StateOf g) → IsReached g s → (p : Name) (t : StateOf g) → next g s p ≡ Some t → (q : Name)
+      → HasNotFallen g s t q
   not_fallen s r p t e q =
       let k = known g s r in
-      risen (K g) (ticks_in (s.condition q)) (t.forks q) q (t.condition q) (step_well g s k.sound p (raised g s k.well) t e q)
+      risen (K g) (ticks_in (s.condition q)) (t.forks q) q (t.condition q)
+      (step_well g s k.sound p (raised g s k.well) t e q)
 
   pub sound : (s : StateOf g) → IsReached g s → Sound s
   sound s r = (known g s r).sound
 
-  pub are_parallel : (s : StateOf g) → IsReached g s → (a b : Name) → IsAlone g s a → IsAlone g s b → a ≢ b → AreParallel a b
+  pub are_parallel : (s : StateOf g) → IsReached g s → (a b : Name) → IsAlone g s a → IsAlone g s b → a ≢ b
+      → AreParallel a b
   are_parallel s r a b one other apart = parallel s a b (known g s r).sound one other apart
 
   -- where the root has ended, nobody is running
@@ -44,13 +48,18 @@ module _ (g : Setting) where
       by : (o : Option Process) → working s q ≡ o → working s q ≡ None
       by None e = e
       by (Some own) e =
-          let lives : Lives (s.condition (q ++ [])) = subst (λ z. Lives (s.condition z)) (sym (append-nil q)) (working_lives s.condition q (s.condition q) own e) in
-          absurd (subst (λ (c : ConditionOf (superpascal g)). Lives c) done (ancestors_live s (known g s r).sound q [] lives))
+          let lives : Lives (s.condition (q ++ [])) =
+          subst (λ z. Lives (s.condition z)) (sym (append-nil q))
+          (working_lives s.condition q (s.condition q) own e) in
+          absurd (subst (λ (c : ConditionOf (superpascal g)). Lives c) done
+          (ancestors_live s (known g s r).sound q [] lives))
 
-  writes_there : (s : StateOf g) (p : Name) (own : Process) (l : Loc) → WritesTo s ((superpascal g).next own s.store) l → (who : Name) × WritesIn {L = superpascal g} s p own who l
+  writes_there : (s : StateOf g) (p : Name) (own : Process) (l : Loc) → WritesTo s ((superpascal g).next own s.store) l
+      → (who : Name) × WritesIn {L = superpascal g} s p own who l
   writes_there s p own l h = by ((superpascal g).next own s.store) refl h
     where
-      by : (a : ActOf (superpascal g)) → (superpascal g).next own s.store ≡ a → WritesTo s a l → (who : Name) × WritesIn {L = superpascal g} s p own who l
+      by : (a : ActOf (superpascal g)) → (superpascal g).next own s.store ≡ a → WritesTo s a l → (who : Name)
+          × WritesIn {L = superpascal g} s p own who l
       by (Moves o ws) e w = (p, inl (refl, subst (λ (x : ActOf (superpascal g)). Assigns x l) (sym e) w))
       by (Opens o ws) e w = (p, inl (refl, subst (λ (x : ActOf (superpascal g)). Assigns x l) (sym e) w))
       by (Forks o os) e w = absurd w
@@ -59,17 +68,24 @@ module _ (g : Setting) where
       by (Fails f) e w = absurd w
 
   -- what nobody writes in a step stays
-  pub unwritten : (s : StateOf g) (p : Name) (t : StateOf g) → next g s p ≡ Some t → (l : Loc) → IsUnwritten g s p l → t.store l ≡ s.store l
+  pub unwritten : (s : StateOf g) (p : Name) (t : StateOf g) → next g s p ≡ Some t → (l : Loc) → IsUnwritten g s p l
+      → t.store l ≡ s.store l
   unwritten s p t e l free = go (working s p) refl
     where
-      by : (own : Process) → working s p ≡ Some own → (x : Option Fault) (out : Outcome (superpascal g)) → acts s p ((superpascal g).next own s.store) ≡ out → (result_of s p (unless x out)).store l ≡ s.store l
-      by own w None (Advances cs) e = store_frame s p ((superpascal g).next own s.store) loc_test l (λ h. let x = writes_there s p own l h in free own w x.0 x.1) cs s (all_in s p ((superpascal g).next own s.store) cs e)
+      by : (own : Process) → working s p ≡ Some own → (x : Option Fault) (out : Outcome (superpascal g))
+          → acts s p ((superpascal g).next own s.store) ≡ out → (result_of s p (unless x out)).store l ≡ s.store l
+      by own w None (Advances cs) e = store_frame s p ((superpascal g).next own s.store) loc_test l
+          (λ h. let x = writes_there s p own l h in free own w x.0 x.1) cs s
+          (all_in s p ((superpascal g).next own s.store) cs e)
       by own w None (Faulty f) e = refl
       by own w (Some f) out e = refl
 
       go : (o : Option Process) → working s p ≡ o → t.store l ≡ s.store l
-      go None w = let x : ◌≡◌ {A = Option (StateOf g)} None (Some t) = sym (ap (step_with (most g) s p) w) ∙ e in absurd (cc x)
+      go None w = let x : ◌≡◌ {A = Option (StateOf g)} None (Some t) = sym (ap (step_with (most g) s p) w) ∙ e in
+          absurd (cc x)
       go (Some own) w =
           let a = (superpascal g).next own s.store in
-          let is : result_of s p (outcome (most g) s p a) ≡ t = same_Some (result_of s p (outcome (most g) s p a)) t (sym (ap (step_with (most g) s p) w) ∙ e) in
-          subst (λ (z : StateOf g). z.store l ≡ s.store l) is (by own w (passed (most g) s.totals (cost a)) (acts s p a) refl)
+          let is : result_of s p (outcome (most g) s p a) ≡ t =
+          same_Some (result_of s p (outcome (most g) s p a)) t (sym (ap (step_with (most g) s p) w) ∙ e) in
+          subst (λ (z : StateOf g). z.store l ≡ s.store l) is
+          (by own w (passed (most g) s.totals (cost a)) (acts s p a) refl)

@@ -28,7 +28,8 @@ module _ {K X : Type 0} {same : K → K → Bool} (test : IsTest same) where
   at_other m k q v apart = rw (differs test k q apart)
 
   -- updates at different keys
-  pub at_apart : (m : K → X) (j k : K) (v w : X) → j ≢ k → at_key same j v (at_key same k w m) ≡ at_key same k w (at_key same j v m)
+  pub at_apart : (m : K → X) (j k : K) (v w : X) → j ≢ k
+      → at_key same j v (at_key same k w m) ≡ at_key same k w (at_key same j v m)
   at_apart m j k v w apart = fun_ext (λ q. ⊎_elim
       (λ (is : j ≡ q). rw (← is) (rw (itself test j) (rw (differs test k j (λ e. apart (sym e))) refl)))
       (λ (other : j ≢ q). rw (differs test j q other) refl)

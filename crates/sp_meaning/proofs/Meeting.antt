@@ -2,7 +2,8 @@
 use Rattle.std.proofs.Common.{◌≡◌, true, false, cond, ◌==◌, List, Option, Some, None, refl, subst}
 use Rattle.sp_base.specs.declared.fault.Fault.TheVariants as fault
 use Rattle.sp_meaning.specs.Model.{Name, Language, Offering, Absent, Works, Waits, Joins, Ended, State, Change}
-use Rattle.sp_meaning.specs.Steps.{OfferOf, ConditionOf, Outcome, Advances, Faulty, message, meeting, waiting, hands, meets, offered, acts}
+use Rattle.sp_meaning.specs.Steps.{OfferOf, ConditionOf, Outcome, Advances, Faulty, message, meeting, waiting, hands}
+use Rattle.sp_meaning.specs.Steps.{meets, offered, acts}
 
 -- an offer that met another's, without a fault
 pub record Met {L : Language} (s : State L) (p : Name) (o : OfferOf L) (z : Name) (cs : List (Change L)) : Type 0 where
@@ -14,12 +15,15 @@ pub record Met {L : Language} (s : State L) (p : Name) (o : OfferOf L) (z : Name
   pub made : cs ≡ meeting s p o z its passes
 
 module _ {L : Language} (s : State L) (p : Name) (o : OfferOf L) (z : Name) (cs : List (Change L)) where
-  met_by : (w : OfferOf L) (m : Option (L.Target × L.Value)) → s.condition z ≡ Waits w → message o.cargo w.cargo ≡ m → hands s p o z w m ≡ Advances cs → Met s p o z cs
+  met_by : (w : OfferOf L) (m : Option (L.Target × L.Value)) → s.condition z ≡ Waits w → message o.cargo w.cargo ≡ m
+      → hands s p o z w m ≡ Advances cs → Met s p o z cs
   met_by w None c h e = absurd (cc e)
-  met_by w (Some m) c h e = elim (o.kind == w.kind) as (λ b. o.kind == w.kind ≡ b → cond b (Advances (meeting s p o z w m)) (Faulty fault.F7) ≡ Advances cs → Met s p o z cs) [
-    | true ↦ λ a f. record { its = w; waits = c; passes = m; is = h; alike = a; made = does_is _ _ f }
-    | false ↦ λ a f. absurd (cc f)
-  ] refl e
+  met_by w (Some m) c h e = elim (o.kind == w.kind) as
+      (λ b. o.kind == w.kind ≡ b → cond b (Advances (meeting s p o z w m)) (Faulty fault.F7) ≡ Advances cs
+      → Met s p o z cs) [
+        | true ↦ λ a f. record { its = w; waits = c; passes = m; is = h; alike = a; made = does_is _ _ f }
+        | false ↦ λ a f. absurd (cc f)
+      ] refl e
     where
       does_is : (x y : List (Change L)) → ◌≡◌ {A = Outcome L} (Advances x) (Advances y) → y ≡ x
       does_is x y h = cc
@@ -34,5 +38,7 @@ module _ {L : Language} (s : State L) (p : Name) (o : OfferOf L) (z : Name) (cs 
   pub met : s.pending o.channel ≡ Some z → acts s p (Offering o) ≡ Advances cs → Met s p o z cs
   met pe e = met_in (s.condition z) refl (subst (λ m. offered s p o m ≡ Advances cs) pe e)
 
-pub waited : {L : Language} (s : State L) (p : Name) (o : OfferOf L) (cs : List (Change L)) → s.pending o.channel ≡ None → acts s p (Offering o) ≡ Advances cs → cs ≡ waiting s p o
-waited {L} s p o cs pe e = let h : ◌≡◌ {A = Outcome L} (Advances (waiting s p o)) (Advances cs) = subst (λ m. offered s p o m ≡ Advances cs) pe e in cc (h)
+pub waited : {L : Language} (s : State L) (p : Name) (o : OfferOf L) (cs : List (Change L)) → s.pending o.channel ≡ None
+    → acts s p (Offering o) ≡ Advances cs → cs ≡ waiting s p o
+waited {L} s p o cs pe e = let h : ◌≡◌ {A = Outcome L} (Advances (waiting s p o)) (Advances cs) =
+    subst (λ m. offered s p o m ≡ Advances cs) pe e in cc (h)

@@ -13,7 +13,8 @@ use Rattle.sp_meaning.proofs.Instance.{loc_test}
 use Rattle.sp_meaning.specs.Runs.{StateOf, most, running, next}
 
 -- the writes of a tree, made one after another, give the store that its run leaves
-pub stored : (L : Language) {A : Type 0} (t : Asking L.Loc L.Value A) (s : State L) → after (puts {L = L} (put_by L.same_loc t s.store)) s ≡ record s { store = (answer L.same_loc t s.store).1 }
+pub stored : (L : Language) {A : Type 0} (t : Asking L.Loc L.Value A) (s : State L)
+    → after (puts {L = L} (put_by L.same_loc t s.store)) s ≡ record s { store = (answer L.same_loc t s.store).1 }
 stored L (Done a) s = refl
 stored L (Loads l more) s = stored L (more (s.store l)) s
 stored L (Puts l v more) s = stored L more (changed (Writes l v) s)
@@ -30,24 +31,37 @@ module _ (g : Setting) where
   writes_of s pr = put_by same_loc (asks g pr) s.store
 
   -- what act a tree's answer is
-  pub answered : (s : StateOf g) (pr : Process) (r : Came Deed) (m : Store) → ◌≡◌ {A = Came Deed × Store} (answer same_loc (deed_of g pr) s.store) (r, m) → answer same_loc (asks g pr) s.store ≡ (act_of pr.who r, m)
-  answered s pr r m e = answer_then loc_test (deed_of g pr) (λ x. Done (act_of pr.who x)) s.store ∙ ap (λ (x : Came Deed × Store). answer same_loc (Done (act_of pr.who x.0)) x.1) e
+  pub answered : (s : StateOf g) (pr : Process) (r : Came Deed) (m : Store)
+      → ◌≡◌ {A = Came Deed × Store} (answer same_loc (deed_of g pr) s.store) (r, m)
+      → answer same_loc (asks g pr) s.store ≡ (act_of pr.who r, m)
+  answered s pr r m e = answer_then loc_test (deed_of g pr) (λ x. Done (act_of pr.who x)) s.store
+      ∙ ap (λ (x : Came Deed × Store). answer same_loc (Done (act_of pr.who x.0)) x.1) e
 
-  move : (s : StateOf g) (q : Name) (pr : Process) (to : Process) (ws : List (Loc × Held)) → L.next pr s.store ≡ Moves to ws → running g s q ≡ Some pr → next g s q ≡ Some (after (puts {L = L} ws) (changed (Becomes q (Works to)) s))
+  move : (s : StateOf g) (q : Name) (pr : Process) (to : Process) (ws : List (Loc × Held))
+      → L.next pr s.store ≡ Moves to ws → running g s q ≡ Some pr
+      → next g s q ≡ Some (after (puts {L = L} ws) (changed (Becomes q (Works to)) s))
   move s q pr to ws e run =
       ap (step_with (most g) s q) run ∙ ap (λ (a : ActOf L). Some (result_of s q (outcome (most g) s q a))) e
 
   -- a local step, by the run of the process's own step
-  pub local_step : (s : StateOf g) (q : Name) (pr : Process) (todo : List Item) (o : Own) (m : Store) → running g s q ≡ Some pr → ◌≡◌ {A = Came Deed × Store} (answer same_loc (deed_of g pr) s.store) (Got (Stepped todo) o, m)
+  pub local_step : (s : StateOf g) (q : Name) (pr : Process) (todo : List Item) (o : Own) (m : Store)
+      → running g s q ≡ Some pr → ◌≡◌ {A = Came Deed × Store} (answer same_loc (deed_of g pr) s.store)
+      (Got (Stepped todo) o, m)
       → next g s q ≡ Some (moved s q (with_todo todo pr.who o) m)
   local_step s q pr todo o m run e =
       let a = answered s pr (Got (Stepped todo) o) m e in
-      move s q pr (with_todo todo pr.who o) (writes_of s pr) (ap (λ (x : (List (Loc × Held) → ActOf L) × Store). x.0 (writes_of s pr)) a) run
-      ∙ ap (λ z. Some z) (stored L (asks g pr) (changed (Becomes q (Works (with_todo todo pr.who o))) s) ∙ ap (λ (x : (List (Loc × Held) → ActOf L) × Store). moved s q (with_todo todo pr.who o) x.1) a)
+      move s q pr (with_todo todo pr.who o) (writes_of s pr)
+      (ap (λ (x : (List (Loc × Held) → ActOf L) × Store). x.0 (writes_of s pr)) a) run
+      ∙ ap (λ z. Some z) (stored L (asks g pr) (changed (Becomes q (Works (with_todo todo pr.who o))) s)
+      ∙ ap (λ (x : (List (Loc × Held) → ActOf L) × Store). moved s q (with_todo todo pr.who o) x.1) a)
 
-  pub pausing_step : (s : StateOf g) (q : Name) (pr : Process) (todo : List Item) (o : Own) (m : Store) → running g s q ≡ Some pr → ◌≡◌ {A = Came Deed × Store} (answer same_loc (deed_of g pr) s.store) (Got (Ticked todo) o, m)
+  pub pausing_step : (s : StateOf g) (q : Name) (pr : Process) (todo : List Item) (o : Own) (m : Store)
+      → running g s q ≡ Some pr → ◌≡◌ {A = Came Deed × Store} (answer same_loc (deed_of g pr) s.store)
+      (Got (Ticked todo) o, m)
       → next g s q ≡ Some (moved s q (with_todo todo pr.who o) m)
   pausing_step s q pr todo o m run e =
       let a = answered s pr (Got (Ticked todo) o) m e in
-      move s q pr (with_todo todo pr.who o) (writes_of s pr) (ap (λ (x : (List (Loc × Held) → ActOf L) × Store). x.0 (writes_of s pr)) a) run
-      ∙ ap (λ z. Some z) (stored L (asks g pr) (changed (Becomes q (Works (with_todo todo pr.who o))) s) ∙ ap (λ (x : (List (Loc × Held) → ActOf L) × Store). moved s q (with_todo todo pr.who o) x.1) a)
+      move s q pr (with_todo todo pr.who o) (writes_of s pr)
+      (ap (λ (x : (List (Loc × Held) → ActOf L) × Store). x.0 (writes_of s pr)) a) run
+      ∙ ap (λ z. Some z) (stored L (asks g pr) (changed (Becomes q (Works (with_todo todo pr.who o))) s)
+      ∙ ap (λ (x : (List (Loc × Held) → ActOf L) × Store). moved s q (with_todo todo pr.who o) x.1) a)

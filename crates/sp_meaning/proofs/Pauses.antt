@@ -35,7 +35,21 @@ pauses = (
   at 3,
   true,
   refl,
-  (own_at 0, refl, refl, at 1, refl, (own_at 1, refl, refl, at 2, refl, (own_at 2, refl, refl, at 3, refl, (refl, refl, refl)))),
+  (
+    own_at 0,
+    refl,
+    refl,
+    at 1,
+    refl,
+    (
+      own_at 1,
+      refl,
+      refl,
+      at 2,
+      refl,
+      (own_at 2, refl, refl, at 3, refl, (refl, refl, refl)),
+    ),
+  ),
   (
     refl,
     refl,

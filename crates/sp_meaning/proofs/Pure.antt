@@ -1,6 +1,7 @@
 -- Expressions are pure: what they call is functions alone, with values alone, and a function changes nothing outside
 -- itself.
-use Rattle.std.proofs.Common.{◌≡◌, inl, inr, ℕ, zero, suc, List, [], ◌∷◌, Option, Some, None, map, refl, sym, ap, ◌∙◌, subst}
+use Rattle.std.proofs.Common.{◌≡◌, inl, inr, ℕ, zero, suc, List, [], ◌∷◌, Option, Some, None, map, refl, sym, ap, ◌∙◌}
+use Rattle.std.proofs.Common.{subst}
 use Rattle.std.specs.Prelude.{slice_get}
 use Rattle.sp_base.specs.declared.place.Place.{Place}
 use Rattle.sp_base.specs.declared.rule.Rule.{Rule}
@@ -11,8 +12,13 @@ use Rattle.sp_tree.specs.PlainChecked as checked
 use Rattle.sp_tree.specs.Bare.{bare, variable_of}
 use Rattle.sp_tree.specs.Interferes.{Interferes}
 use Rattle.sp_tree.proofs.NoBreach.{block_at}
-use Rattle.sp_tree.specs.Plain.{Expr, Typed, ExprForm, Number, Read, Unary, Binary, Apply, Standard, AtInput, Var, Entire, Index, Field, Selectors, Whole, Select, ByValue, ByReference, Actuals, Nothing, Pass, Program, Variable, Block, Stmt, Empty, Assign, Call, Sequence, If, IfElse, While, Repeat, For, Case, Parallel, Forall, Assume, ReadValue, ReadLine, WriteValue, WriteText, WriteLine, Open, Send, Receive, Stmts, No, And, On, Arms, NoArm, Or}
-use Rattle.sp_tree.specs.Uses.{Use, Target, Seen, CallOf, ParallelOf, ForallOf, Stop, In_expr, In_form, In_selectors, In_actuals, In_width}
+use Rattle.sp_tree.specs.Plain.{Expr, Typed, ExprForm, Number, Read, Unary, Binary, Apply, Standard, AtInput, Var}
+use Rattle.sp_tree.specs.Plain.{Entire, Index, Field, Selectors, Whole, Select, ByValue, ByReference, Actuals, Nothing}
+use Rattle.sp_tree.specs.Plain.{Pass, Program, Variable, Block, Stmt, Empty, Assign, Call, Sequence, If, IfElse, While}
+use Rattle.sp_tree.specs.Plain.{Repeat, For, Case, Parallel, Forall, Assume, ReadValue, ReadLine, WriteValue, WriteText}
+use Rattle.sp_tree.specs.Plain.{WriteLine, Open, Send, Receive, Stmts, No, And, On, Arms, NoArm, Or}
+use Rattle.sp_tree.specs.Uses.{Use, Target, Seen, CallOf, ParallelOf, ForallOf, Stop, In_expr, In_form, In_selectors}
+use Rattle.sp_tree.specs.Uses.{In_actuals, In_width}
 use Rattle.sp_tree.specs.Sets.{Reach, ImplicitTarget}
 use Rattle.sp_tree.specs.Interference.{IsMember, IsFunction}
 use Rattle.sp_meaning.specs.Own.{Item, Do, First, Again, Test, Leave, Break}
@@ -24,7 +30,8 @@ module _ (p : Program) where
 
   -- no parameter of a function is a variable parameter (rule I7)
   abbrev pub DoFunctionsTakeValues : Type 0
-  DoFunctionsTakeValues = (f : ℕ) (b : Block) → slice_get p.blocks f ≡ Some b → IsFunction p f → (x : ℕ) → IsMember x b.formals → (v : Variable) → slice_get p.variables x ≡ Some v → v.role ≡ role.Reference → ⊥
+  DoFunctionsTakeValues = (f : ℕ) (b : Block) → slice_get p.blocks f ≡ Some b → IsFunction p f → (x : ℕ)
+      → IsMember x b.formals → (v : Variable) → slice_get p.variables x ≡ Some v → v.role ≡ role.Reference → ⊥
 
   -- a for variable is a local one
   abbrev pub IsLocal : ℕ → Type 0
@@ -155,6 +162,7 @@ module _ (p : Program) where
   width_uses (Some e) h u i = expr_uses e h u i
 
   -- no target is reached from it
-  pub no_target : AreFunctionsPure → {Here : Use → Type 0} → ((u : Use) → Here u → PureUse u) → (bs : List ℕ) (x : ℕ) → Reach p Here bs (Target x) → ⊥
+  pub no_target : AreFunctionsPure → {Here : Use → Type 0} → ((u : Use) → Here u → PureUse u) → (bs : List ℕ) (x : ℕ)
+      → Reach p Here bs (Target x) → ⊥
   no_target pure uses [] x r = uses (Target x) r
   no_target pure uses (b ∷ bs) x r = pure b (uses (CallOf b r.0) r.1) x (r.2, r.3, r.4, (bs, r.5))

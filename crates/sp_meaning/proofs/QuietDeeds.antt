@@ -2,32 +2,51 @@
 -- nothing but cells of frames that calls made, and that are gone when it has its value. So a step that forks, offers
 -- or ends, whose writes the meaning leaves out, wrote nothing that is still there; and one that fails wrote nothing
 -- to the output.
-use Rattle.std.proofs.Common.{◌≡◌, ◌⊎◌, inl, inr, ⊎_elim, ℕ, ◌≤◌, List, [], ◌∷◌, length, Option, Some, None, Bool, true, false, if◌then◌else◌, cond, refl, sym, ap, ◌∙◌, subst, arith}
+use Rattle.std.proofs.Common.{◌≡◌, ◌⊎◌, inl, inr, ⊎_elim, ℕ, ◌≤◌, List, [], ◌∷◌, length, Option, Some, None, Bool, true}
+use Rattle.std.proofs.Common.{false, if◌then◌else◌, cond, refl, sym, ap, ◌∙◌, subst, arith}
 use Rattle.std.specs.Prelude.{ℤ, pos, ◌+ℤ◌, ◌-ℤ◌, nat_abs, nat_lt, int_le, int_lt, slice_get, ◌+◌, ◌++◌}
 use Rattle.sp_base.specs.declared.fault.Fault.{Fault}
 use Rattle.sp_base.specs.declared.fault.Fault.TheVariants as fault
-use Rattle.sp_tree.specs.Plain.{Expr, Typed, Var, Entire, ByValue, ByReference, Actuals, Nothing, Pass, Program, Block, Stmt, Empty, Assign, Call, Sequence, If, IfElse, While, Repeat, For, Case, Parallel, Forall, Assume, ReadValue, ReadLine, WriteValue, WriteText, WriteLine, Open, Send, Receive, Stmts, No, And, On, Arms, NoArm, Or}
+use Rattle.sp_tree.specs.Plain.{Expr, Typed, Var, Entire, ByValue, ByReference, Actuals, Nothing, Pass, Program, Block}
+use Rattle.sp_tree.specs.Plain.{Stmt, Empty, Assign, Call, Sequence, If, IfElse, While, Repeat, For, Case, Parallel}
+use Rattle.sp_tree.specs.Plain.{Forall, Assume, ReadValue, ReadLine, WriteValue, WriteText, WriteLine, Open, Send}
+use Rattle.sp_tree.specs.Plain.{Receive, Stmts, No, And, On, Arms, NoArm, Or}
 use Rattle.sp_tree.specs.Cells.{variables_of}
-use Rattle.sp_tree.specs.Uses.{Use, Target, Seen, CallOf, ParallelOf, ForallOf, Stop, In_expr, In_selectors, In_stmt, In_actuals, In_target, In_width}
+use Rattle.sp_tree.specs.Uses.{Use, Target, Seen, CallOf, ParallelOf, ForallOf, Stop, In_expr, In_selectors, In_stmt}
+use Rattle.sp_tree.specs.Uses.{In_actuals, In_target, In_width}
 use Rattle.sp_tree.specs.Sets.{Reach}
 use Rattle.sp_tree.specs.Interference.{IsFreeOfInterference}
 use Rattle.sp_meaning.specs.Maps.{at_key}
 use Rattle.sp_meaning.specs.Model.{Name, Channel, Cargo, Message, Takes}
 use Rattle.sp_meaning.specs.Asking.{Asking, Done, Loads, Puts, answer}
 use Rattle.sp_meaning.specs.Values.{Value, Ordinal, Chan}
-use Rattle.sp_meaning.specs.Own.{Setting, Loc, Cell, Input, Output, Held, Tree, Written, Address, Frame, Own, Who, Process, Item, Do, First, Again, Test, Leave, Break, Came, Got, Bad, Lost, Long, Work, bind, give, fail, who, become, put, tick, assign, assigned, same_loc, bytes_in, is_block}
+use Rattle.sp_meaning.specs.Own.{Setting, Loc, Cell, Input, Output, Held, Tree, Written, Address, Frame, Own, Who}
+use Rattle.sp_meaning.specs.Own.{Process, Item, Do, First, Again, Test, Leave, Break, Came, Got, Bad, Lost, Long, Work}
+use Rattle.sp_meaning.specs.Own.{bind, give, fail, who, become, put, tick, assign, assigned, same_loc, bytes_in}
+use Rattle.sp_meaning.specs.Own.{is_block}
 use Rattle.sp_meaning.specs.Texts.{Taken, Takes as Took, Fails as Refuses_it, line_length}
-use Rattle.sp_meaning.specs.Eval.{Place, At, Fixed, Given, Calls, value, place, actuals, ordinal_of, place_of, address_of, address}
-use Rattle.sp_meaning.specs.Deeds.{Birth, Deed, Stepped, Ticked, Opened, Forked, Offered, Ended, push, push_all, children, indexed_children, has, arm_for, is_range, goes_on, next_value, enter, pushed_frame, references, lay, copy_in, write, advance, take_in, width, peek, turn_of, fork, chosen, start, act, settle, call_by, all, deed_by, deed, size_of_frame, taken_by, shown}
+use Rattle.sp_meaning.specs.Eval.{Place, At, Fixed, Given, Calls, value, place, actuals, ordinal_of, place_of}
+use Rattle.sp_meaning.specs.Eval.{address_of, address}
+use Rattle.sp_meaning.specs.Deeds.{Birth, Deed, Stepped, Ticked, Opened, Forked, Offered, Ended, push, push_all}
+use Rattle.sp_meaning.specs.Deeds.{children, indexed_children, has, arm_for, is_range, goes_on, next_value, enter}
+use Rattle.sp_meaning.specs.Deeds.{pushed_frame, references, lay, copy_in, write, advance, take_in, width, peek}
+use Rattle.sp_meaning.specs.Deeds.{turn_of, fork, chosen, start, act, settle, call_by, all, deed_by, deed}
+use Rattle.sp_meaning.specs.Deeds.{size_of_frame, taken_by, shown}
 use Rattle.sp_meaning.specs.Owning.{Linked, cell_of, stands_at, stands_by, stands, find, Right, Sound, Fit}
 use Rattle.sp_meaning.specs.Run.{Store, run}
 use Rattle.sp_meaning.specs.SuperPascal.{deed_of, enough}
-use Rattle.sp_meaning.proofs.Deeding.{From, after, gives, call_keeps, all_keep, tick_stays, deepen_stays, widen_stays, enclosing_keeps, lay_stays, copy_stays, in_width_stays}
+use Rattle.sp_meaning.proofs.Deeding.{From, after, gives, call_keeps, all_keep, tick_stays, deepen_stays, widen_stays}
+use Rattle.sp_meaning.proofs.Deeding.{enclosing_keeps, lay_stays, copy_stays, in_width_stays}
 use Rattle.sp_meaning.proofs.Instance.{loc_test}
-use Rattle.sp_meaning.proofs.Pure.{AreFunctionsPure, IsLocal, PureExpr, PureVar, PureActuals, PureWidth, PureStmt, PureStmts, PureArms, PureItems, AreBlocksPure, PureUse, expr_uses, selectors_uses, no_target}
+use Rattle.sp_meaning.proofs.Pure.{AreFunctionsPure, IsLocal, PureExpr, PureVar, PureActuals, PureWidth, PureStmt}
+use Rattle.sp_meaning.proofs.Pure.{PureStmts, PureArms, PureItems, AreBlocksPure, PureUse, expr_uses, selectors_uses}
+use Rattle.sp_meaning.proofs.Pure.{no_target}
 use Rattle.sp_meaning.proofs.Owned.{Result, result_within}
 use Rattle.sp_meaning.proofs.Run.{then_run, run_bind}
-use Rattle.sp_meaning.proofs.Within.{Within, Keeps, Any, Of, part, variable_of, selectors_of, CallsKeep, then_keeps, give_keeps, fetch_stays, or_lost_keeps, or_lost_stays, kind_stays, ordinal_stays, channel_stays, left_stays, read_stays, MayRead, value_stays, place_keeps, place_of_keeps, address_of_keeps, ordinal_of_stays}
+use Rattle.sp_meaning.proofs.Within.{Within, Keeps, Any, Of, part, variable_of, selectors_of, CallsKeep, then_keeps}
+use Rattle.sp_meaning.proofs.Within.{give_keeps, fetch_stays, or_lost_keeps, or_lost_stays, kind_stays, ordinal_stays}
+use Rattle.sp_meaning.proofs.Within.{channel_stays, left_stays, read_stays, MayRead, value_stays, place_keeps}
+use Rattle.sp_meaning.proofs.Within.{place_of_keeps, address_of_keeps, ordinal_of_stays}
 
 -- a cell of a frame that is not there any more
 abbrev pub IsDead : ℕ → Loc → Type 0
@@ -65,18 +84,23 @@ pub record IsSameButOne (n : ℕ) (s m : Store) : Type 0 where
   pub others : (l : Loc) → (s l ≡ m l) ⊎ (IsDead n l ⊎ (one ≡ l))
 
 same_on : (n : ℕ) (s t u : Store) → IsSame n s t → IsSame n t u → IsSame n s u
-same_on n s t u a b l = ⊎_elim (λ (e : s l ≡ t l). ⊎_elim (λ (f : t l ≡ u l). inl (e ∙ f)) (λ d. inr d) (b l)) (λ d. inr d) (a l)
+same_on n s t u a b l = ⊎_elim (λ (e : s l ≡ t l). ⊎_elim (λ (f : t l ≡ u l). inl (e ∙ f)) (λ d. inr d) (b l))
+    (λ d. inr d) (a l)
 
 output_same : (n : ℕ) (s m : Store) → IsSame n s m → s Output ≡ m Output
 output_same n s m h = ⊎_elim (λ (e : s Output ≡ m Output). e) (λ d. absurd d) (h Output)
 
 -- what writes within W leaves all else as it was
-stored : {A : Type 0} (W R : Loc → Type 0) (F : A → Own → Type 0) (t : Asking Loc Held (Came A)) (m : Store) → Within W R F t → (l : Loc) → (m l ≡ (answer same_loc t m).1 l) ⊎ W l
+stored : {A : Type 0} (W R : Loc → Type 0) (F : A → Own → Type 0) (t : Asking Loc Held (Came A)) (m : Store)
+    → Within W R F t → (l : Loc) → (m l ≡ (answer same_loc t m).1 l) ⊎ W l
 stored W R F (Done a) m h l = inl refl
 stored W R F (Loads k more) m h l = stored W R F (more (m k)) m (h.1 (m k)) l
-stored W R F (Puts k v more) m h l = ⊎_elim (λ (e : at_key same_loc k v m l ≡ (answer same_loc more (at_key same_loc k v m)).1 l). go e (same_loc k l) refl) (λ w. inr w) (stored W R F more (at_key same_loc k v m) h.1 l)
+stored W R F (Puts k v more) m h l = ⊎_elim (λ
+    (e : at_key same_loc k v m l ≡ (answer same_loc more (at_key same_loc k v m)).1 l). go e (same_loc k l) refl)
+    (λ w. inr w) (stored W R F more (at_key same_loc k v m) h.1 l)
   where
-    go : at_key same_loc k v m l ≡ (answer same_loc more (at_key same_loc k v m)).1 l → (b : Bool) → same_loc k l ≡ b → (m l ≡ (answer same_loc more (at_key same_loc k v m)).1 l) ⊎ W l
+    go : at_key same_loc k v m l ≡ (answer same_loc more (at_key same_loc k v m)).1 l → (b : Bool) → same_loc k l ≡ b
+        → (m l ≡ (answer same_loc more (at_key same_loc k v m)).1 l) ⊎ W l
     go e true f = inr (subst W ((loc_test k l).0 f) h.0)
     go e false f = inl (ap (λ b. cond b v (m l)) (sym f) ∙ e)
 
@@ -141,7 +165,8 @@ module _ (p : Program) where
   PureDeed (Offered c k x todo) = PureItems p todo
   PureDeed Ended = Unit {0}
 
-module _ (set : Setting) (free : IsFreeOfInterference set.program) (pure : AreFunctionsPure set.program) (blocks : AreBlocksPure set.program) (q : Name) (W R : Loc → Type 0) (fs : List Frame) (linked : Linked fs) where
+module _ (set : Setting) (free : IsFreeOfInterference set.program) (pure : AreFunctionsPure set.program)
+    (blocks : AreBlocksPure set.program) (q : Name) (W R : Loc → Type 0) (fs : List Frame) (linked : Linked fs) where
   abbrev p : Program
   p = set.program
 
@@ -159,8 +184,10 @@ module _ (set : Setting) (free : IsFreeOfInterference set.program) (pure : AreFu
   abbrev Quiet : {A : Type 0} → (A → Type 0) → Work A → Type 0
   Quiet F h = Keeps q New All fs F h
 
-  calm : {A : Type 0} {F : A → Type 0} (h : Work A) → Quiet F h → (w : Who) (o : Own) (s : Store) → w.name ≡ q → o.frames ≡ fs → Calm F s (run h w o s)
-  calm {A} {F} h k w o s n e = go (run h w o s) (λ l. stored New All G (h w o) s (k.by w o n e) l) (result_within New All G (λ r. r) (h w o) s (k.by w o n e))
+  calm : {A : Type 0} {F : A → Type 0} (h : Work A) → Quiet F h → (w : Who) (o : Own) (s : Store) → w.name ≡ q
+      → o.frames ≡ fs → Calm F s (run h w o s)
+  calm {A} {F} h k w o s n e = go (run h w o s) (λ l. stored New All G (h w o) s (k.by w o n e) l)
+      (result_within New All G (λ r. r) (h w o) s (k.by w o n e))
     where
       G : A → Own → Type 0
       G a o1 = (o1.frames ≡ fs) × F a
@@ -173,7 +200,8 @@ module _ (set : Setting) (free : IsFreeOfInterference set.program) (pure : AreFu
 
   -- what is told of a step
   abbrev Told : Store → Came Deed × Store → Type 0
-  Told s (Got d o, m) = PureDeed p d × (IsStop d → (o.frames ≡ fs) × IsSame (length fs) s m) × (IsOpening d → IsSameButOne (length fs) s m)
+  Told s (Got d o, m) = PureDeed p d × (IsStop d → (o.frames ≡ fs) × IsSame (length fs) s m)
+      × (IsOpening d → IsSameButOne (length fs) s m)
   Told s (Bad f, m) = s Output ≡ m Output
   Told s (Lost, m) = Unit {0}
   Told s (Long, m) = Unit {0}
@@ -182,9 +210,19 @@ module _ (set : Setting) (free : IsFreeOfInterference set.program) (pure : AreFu
     by : (w : Who) (o : Own) (s : Store) → w.name ≡ q → o.frames ≡ fs → Told s (run h w o s)
 
   told_on : (s m : Store) → IsSame (length fs) s m → (r : Came Deed × Store) → Told m r → Told s r
-  told_on s m a (Got d o, u) t = (t.0, λ h. (let z = t.1 h in (z.0, same_on (length fs) s m u a z.1)), λ h. (let z = t.2 h in record { one = z.one; value = z.value; now = z.now; others = λ l. on l z.one (a l) (z.others l) }))
+  told_on s m a (Got d o, u) t = (
+    t.0,
+    λ h. (let z = t.1 h in (z.0, same_on (length fs) s m u a z.1)),
+    λ h. (let z = t.2 h in record {
+      one = z.one;
+      value = z.value;
+      now = z.now;
+      others = λ l. on l z.one (a l) (z.others l);
+    }),
+  )
     where
-      on : (l one : Loc) → (s l ≡ m l) ⊎ IsDead (length fs) l → (m l ≡ u l) ⊎ (IsDead (length fs) l ⊎ (one ≡ l)) → (s l ≡ u l) ⊎ (IsDead (length fs) l ⊎ (one ≡ l))
+      on : (l one : Loc) → (s l ≡ m l) ⊎ IsDead (length fs) l → (m l ≡ u l) ⊎ (IsDead (length fs) l ⊎ (one ≡ l))
+          → (s l ≡ u l) ⊎ (IsDead (length fs) l ⊎ (one ≡ l))
       on l one (inl e) (inl f) = inl (e ∙ f)
       on l one (inr d) b = inr (inl d)
       on l one (inl e) (inr f) = inr f
@@ -192,8 +230,12 @@ module _ (set : Setting) (free : IsFreeOfInterference set.program) (pure : AreFu
   told_on s m a (Lost, u) t = tt
   told_on s m a (Long, u) t = tt
 
-  then_tells : {A : Type 0} {F : A → Type 0} (h : Work A) (g : A → Work Deed) → Quiet F h → ((a : A) → F a → Tells (g a)) → Tells (bind h g)
-  then_tells {A} {F} h g k next = record { by = λ w o s n e. subst (Told s) (sym (run_bind h g w o s)) (go w s n (run h w o s) (calm h k w o s n e)) }
+  then_tells : {A : Type 0} {F : A → Type 0} (h : Work A) (g : A → Work Deed) → Quiet F h
+      → ((a : A) → F a → Tells (g a)) → Tells (bind h g)
+  then_tells {A} {F} h g k next = record {
+    by =
+        λ w o s n e. subst (Told s) (sym (run_bind h g w o s)) (go w s n (run h w o s) (calm h k w o s n e));
+  }
     where
       go : (w : Who) (s : Store) → w.name ≡ q → (r : Came A × Store) → Calm F s r → Told s (then_run g w r)
       go w s n (Got a o, m) c = told_on s m c.2 (run (g a) w o m) ((next a c.1).by w o m n c.0)
@@ -202,16 +244,20 @@ module _ (set : Setting) (free : IsFreeOfInterference set.program) (pure : AreFu
       go w s n (Long, m) c = tt
 
   -- what writes cells alone, and then does something that does not stop
-  cells_tell : {A : Type 0} {F : A → Type 0} (h : Work A) (g : A → Deed) → From q IsCell All fs (λ a gs. F a) h → ((a : A) → F a → PureDeed p (g a) × ((IsStop (g a) → ⊥) × (IsOpening (g a) → ⊥))) → Tells (bind h (λ a. give (g a)))
+  cells_tell : {A : Type 0} {F : A → Type 0} (h : Work A) (g : A → Deed) → From q IsCell All fs (λ a gs. F a) h
+      → ((a : A) → F a → PureDeed p (g a) × ((IsStop (g a) → ⊥) × (IsOpening (g a) → ⊥)))
+      → Tells (bind h (λ a. give (g a)))
   cells_tell {A} {F} h g k next = record {
     by = λ w o s n e. subst (Told s) (sym (run_bind h (λ a. give (g a)) w o s))
-        (go w s (run h w o s) (λ l. stored IsCell All G (h w o) s (k.by w o n e) l) (result_within IsCell All G (λ r. r) (h w o) s (k.by w o n e)));
+        (go w s (run h w o s) (λ l. stored IsCell All G (h w o) s (k.by w o n e) l)
+        (result_within IsCell All G (λ r. r) (h w o) s (k.by w o n e)));
   }
     where
       G : A → Own → Type 0
       G a o1 = F a
 
-      go : (w : Who) (s : Store) (r : Came A × Store) → ((l : Loc) → (s l ≡ r.1 l) ⊎ IsCell l) → Result G r.0 → Told s (then_run (λ a. give (g a)) w r)
+      go : (w : Who) (s : Store) (r : Came A × Store) → ((l : Loc) → (s l ≡ r.1 l) ⊎ IsCell l) → Result G r.0
+          → Told s (then_run (λ a. give (g a)) w r)
       go w s (Got a o, m) i f = ((next a f).0, λ h. absurd ((next a f).1.0 h), λ h. absurd ((next a f).1.1 h))
       go w s (Bad x, m) i f = ⊎_elim (λ (e : s Output ≡ m Output). e) (λ d. absurd d) (i Output)
       go w s (Lost, m) i f = tt
@@ -224,26 +270,39 @@ module _ (set : Setting) (free : IsFreeOfInterference set.program) (pure : AreFu
   fails f = record { by = λ w o s n e. refl }
 
   beat : (todo : List Item) → PureItems p todo → Tells (bind (tick set.limits) (λ u. give (Ticked todo)))
-  beat todo k = then_tells (tick set.limits) _ (tick_stays set q New All (length fs) (λ n x h. h) (λ l w. tt) free fs) (λ u _. record { by = λ w o s n e. (k, λ h. absurd h, λ h. absurd h) })
+  beat todo k = then_tells (tick set.limits) _ (tick_stays set q New All (length fs) (λ n x h. h) (λ l w. tt) free fs)
+      (λ u _. record { by = λ w o s n e. (k, λ h. absurd h, λ h. absurd h) })
 
   -- a value is assigned, and nothing fails after it
-  stores : (a : Address) (v : Value) (todo : List Item) → PureItems p todo → Tells (bind (assign a v) (λ u. give (Stepped todo)))
+  stores : (a : Address) (v : Value) (todo : List Item) → PureItems p todo
+      → Tells (bind (assign a v) (λ u. give (Stepped todo)))
   stores a v todo k = record { by = λ w o s n e. (k, λ h. absurd h, λ h. absurd h) }
 
-  takes : (a : Address) (t : Taken) (todo : List Item) → PureItems p todo → Tells (bind (take_in set a t) (λ u. give (Stepped todo)))
+  takes : (a : Address) (t : Taken) (todo : List Item) → PureItems p todo
+      → Tells (bind (take_in set a t) (λ u. give (Stepped todo)))
   takes a (Took n bytes) todo k = record { by = λ w o s m e. (k, λ h. absurd h, λ h. absurd h) }
   takes a (Refuses_it f) todo k = record { by = λ w o s m e. refl }
 
   skips : (n : ℕ) (todo : List Item) → PureItems p todo → Tells (bind (advance set n) (λ u. give (Stepped todo)))
   skips n todo k = record { by = λ w o s m e. (k, λ h. absurd h, λ h. absurd h) }
 
-  opens : (a : Address) (todo : List Item) → PureItems p todo → Tells (bind who (λ w. bind (assign a (Chan (record { owner = w.name; nth = w.opens }))) (λ u. give (Opened todo))))
-  opens a todo k = record { by = λ w o s n e. (k, λ h. absurd h, λ h. one_put s (assigned_value a (s a.spot) (Chan (record { owner = w.name; nth = w.opens })))) }
+  opens : (a : Address) (todo : List Item) → PureItems p todo
+      → Tells (bind who (λ w. bind (assign a (Chan (record { owner = w.name; nth = w.opens })))
+      (λ u. give (Opened todo))))
+  opens a todo k = record {
+    by = λ w o s n e. (
+      k,
+      λ h. absurd h,
+      λ h. one_put s (assigned_value a (s a.spot)
+          (Chan (record { owner = w.name; nth = w.opens }))),
+    );
+  }
     where
       assigned_value : (a : Address) (v : Held) (x : Value) → (y : Value) × (assigned a v (Tree x) ≡ Tree y)
       assigned_value a v x = (_, refl)
 
-      one_put : (s : Store) {v : Held} → (y : Value) × (v ≡ Tree y) → IsSameButOne (length fs) s (at_key same_loc a.spot v s)
+      one_put : (s : Store) {v : Held} → (y : Value) × (v ≡ Tree y)
+          → IsSameButOne (length fs) s (at_key same_loc a.spot v s)
       one_put s {v} y = record {
         one = a.spot;
         value = y.0;
@@ -251,31 +310,42 @@ module _ (set : Setting) (free : IsFreeOfInterference set.program) (pure : AreFu
         others = λ l. go l (same_loc a.spot l) refl;
       }
         where
-          go : (l : Loc) (b : Bool) → same_loc a.spot l ≡ b → (s l ≡ cond (same_loc a.spot l) v (s l)) ⊎ (IsDead (length fs) l ⊎ (a.spot ≡ l))
+          go : (l : Loc) (b : Bool) → same_loc a.spot l ≡ b → (s l ≡ cond (same_loc a.spot l) v (s l))
+              ⊎ (IsDead (length fs) l ⊎ (a.spot ≡ l))
           go l true e = inr (inr ((loc_test a.spot l).0 e))
           go l false e = inl (sym (ap (λ b. cond b v (s l)) e))
 
-  offers : (c : Channel) (t : ℕ) (x : Cargo Held Address) (todo : List Item) → PureItems p todo → Tells (give (Offered c t x todo))
+  offers : (c : Channel) (t : ℕ) (x : Cargo Held Address) (todo : List Item) → PureItems p todo
+      → Tells (give (Offered c t x todo))
   offers c t x todo k = record { by = λ w o s n e. (k, λ h. (e, λ l. inl refl), λ h. absurd h) }
 
   prints : (bs : List ℕ) (todo : List Item) → PureItems p todo → Tells (bind (write set bs) (λ u. give (Stepped todo)))
-  prints bs todo k = record { by = λ w o s n e. go w o s (nat_lt set.limits.output (length (bytes_in (s Output)) + length bs)) }
+  prints bs todo k = record {
+    by = λ w o s n e. go w o s
+        (nat_lt set.limits.output (length (bytes_in (s Output)) + length bs));
+  }
     where
-      go : (w : Who) (o : Own) (s : Store) (b : Bool) → Told s (run (bind (if b then fail fault.F16 else put Output (Written (bytes_in (s Output) ++ bs))) (λ u. give (Stepped todo))) w o s)
+      go : (w : Who) (o : Own) (s : Store) (b : Bool)
+          → Told s (run (bind (if b then fail fault.F16 else put Output (Written (bytes_in (s Output) ++ bs)))
+          (λ u. give (Stepped todo))) w o s)
       go w o s true = refl
       go w o s false = (k, λ h. absurd h, λ h. absurd h)
 
   forks : (bs : List Birth) (todo : List Item) → PureItems p todo → Tells (fork set bs todo)
   forks bs todo k = record { by = λ w o s n e. go w o s e (nat_lt o.depth set.limits.depth) }
     where
-      go : (w : Who) (o : Own) (s : Store) → o.frames ≡ fs → (b : Bool) → Told s (run (if b then give (Forked bs todo) else fail fault.F11) w o s)
+      go : (w : Who) (o : Own) (s : Store) → o.frames ≡ fs → (b : Bool)
+          → Told s (run (if b then give (Forked bs todo) else fail fault.F11) w o s)
       go w o s e true = (k, λ h. (e, λ l. inl refl), λ h. absurd h)
       go w o s e false = refl
 
   -- the for variable is a cell, and then a tick may fail
-  turns : (x : ℕ) (n limit : ℤ) (down : Bool) (s : Stmt) (todo : List Item) → IsLocal p x → PureStmt p s → PureItems p todo → Tells (turn_of set x n limit down s todo)
+  turns : (x : ℕ) (n limit : ℤ) (down : Bool) (s : Stmt) (todo : List Item) → IsLocal p x → PureStmt p s
+      → PureItems p todo → Tells (turn_of set x n limit down s todo)
   turns x n limit down s todo lx ps k =
-      then_tells (place_of set x) _ (place_of_keeps q New All fs set x) (λ y e. then_tells (address_of set y) _ (address_of_keeps q New All fs set (stands p fs x) y e) (λ a d. at_cell a (cell_is x (find (is_block lx.0.block) (length fs) fs) a.spot (sym local_at ∙ d))))
+      then_tells (place_of set x) _ (place_of_keeps q New All fs set x)
+      (λ y e. then_tells (address_of set y) _ (address_of_keeps q New All fs set (stands p fs x) y e)
+      (λ a d. at_cell a (cell_is x (find (is_block lx.0.block) (length fs) fs) a.spot (sym local_at ∙ d))))
     where
       next : List Item
       next = push s (Again x limit down s ∷ todo)
@@ -286,17 +356,21 @@ module _ (set : Setting) (free : IsFreeOfInterference set.program) (pure : AreFu
       counting : Bool → Work (Unit {0})
       counting b w o = if b then become (record o { ticks = o.ticks + 1 }) w o else fail fault.F10 w o
 
-      ticks_on : (l : Loc) (v : Held) → IsCell l → (w : Who) (o : Own) (m : Store) (b : Bool) → Told m (run (bind (counting b) (λ u. give (Ticked next))) w o (at_key same_loc l v m))
-      ticks_on (Cell r h y) v c w o m true = (push_pure p s (Again x limit down s ∷ todo) ps ((lx, ps), k), λ h. absurd h, λ h. absurd h)
+      ticks_on : (l : Loc) (v : Held) → IsCell l → (w : Who) (o : Own) (m : Store) (b : Bool)
+          → Told m (run (bind (counting b) (λ u. give (Ticked next))) w o (at_key same_loc l v m))
+      ticks_on (Cell r h y) v c w o m true =
+          (push_pure p s (Again x limit down s ∷ todo) ps ((lx, ps), k), λ h. absurd h, λ h. absurd h)
       ticks_on (Cell r h y) v c w o m false = refl
       ticks_on Input v c w o m b = absurd c
       ticks_on Output v c w o m b = absurd c
 
-      at_cell : (a : Address) → IsCell a.spot → Tells (bind (assign a (Ordinal n)) (λ u. bind (tick set.limits) (λ u. give (Ticked next))))
+      at_cell : (a : Address) → IsCell a.spot
+          → Tells (bind (assign a (Ordinal n)) (λ u. bind (tick set.limits) (λ u. give (Ticked next))))
       at_cell a c = record { by = λ w o m _ e. ticks_on a.spot _ c w o m (nat_lt o.ticks set.limits.ticks) }
 
   -- what stands here is sound with these rights where it has no target
-  sound_here : {Here : Use → Type 0} → Sound p W R fs Here → ((u : Use) → Here u → PureUse p u) → Sound p New All fs Here
+  sound_here : {Here : Use → Type 0} → Sound p W R fs Here → ((u : Use) → Here u → PureUse p u)
+      → Sound p New All fs Here
   sound_here {Here} so uses = record { allowed = λ bs u r x l t. right bs u l r; apart = so.apart; kept = so.kept }
     where
       right : (bs : List ℕ) (u : Use) (l : Loc) → Reach p Here bs u → Right p New All u l
@@ -313,7 +387,8 @@ module _ (set : Setting) (free : IsFreeOfInterference set.program) (pure : AreFu
 
     -- calls of functions write in frames of their own
     ok : CallsKeep q New All fs set free (λ l w. tt) calls
-    ok = call_keeps set q New All (length fs) (λ n x h. h) (λ l w. tt) free n (all_keep set q New All (length fs) (λ n x h. h) (λ l w. tt) free n) fs (omega arith) linked
+    ok = call_keeps set q New All (length fs) (λ n x h. h) (λ l w. tt) free n
+        (all_keep set q New All (length fs) (λ n x h. h) (λ l w. tt) free n) fs (omega arith) linked
 
     expr : (e : Expr) → PureExpr p e → Sound p W R fs (In_expr e) → Quiet Any (value set calls e)
     expr e h so = value_stays q New All fs set free (λ l w. tt) calls ok e (sound_here so (expr_uses p e h))
@@ -321,21 +396,31 @@ module _ (set : Setting) (free : IsFreeOfInterference set.program) (pure : AreFu
     test : (e : Expr) → PureExpr p e → Sound p W R fs (In_expr e) → Quiet Any (ordinal_of set calls e)
     test e h so = ordinal_of_stays q New All fs set free (λ l w. tt) calls ok e (sound_here so (expr_uses p e h))
 
-    variable : (v : Var) → PureVar p v → Sound p W R fs (In_selectors (selectors_of v)) → Quiet (Of q New All fs (stands p fs (variable_of v))) (place set calls v)
-    variable (Entire x ss) h so = place_keeps q New All fs set free (λ l w. tt) calls ok (Entire x ss) (sound_here so (selectors_uses p ss h))
+    variable : (v : Var) → PureVar p v → Sound p W R fs (In_selectors (selectors_of v))
+        → Quiet (Of q New All fs (stands p fs (variable_of v))) (place set calls v)
+    variable (Entire x ss) h so = place_keeps q New All fs set free (λ l w. tt) calls ok (Entire x ss)
+        (sound_here so (selectors_uses p ss h))
 
-    target : (v : Var) → PureVar p v → Sound p W R fs (In_selectors (selectors_of v)) → Quiet (λ a. stands p fs (variable_of v) ≡ Some a.spot) (address set calls v)
-    target v h so = then_keeps q New All fs _ _ (variable v h so) (λ z e. address_of_keeps q New All fs set (stands p fs (variable_of v)) z e)
+    target : (v : Var) → PureVar p v → Sound p W R fs (In_selectors (selectors_of v))
+        → Quiet (λ a. stands p fs (variable_of v) ≡ Some a.spot) (address set calls v)
+    target v h so = then_keeps q New All fs _ _ (variable v h so)
+        (λ z e. address_of_keeps q New All fs set (stands p fs (variable_of v)) z e)
 
-    inside : (v : Var) {Above : Use → Type 0} → ((u : Use) → In_target v u → Above u) → Sound p W R fs Above → Sound p W R fs (In_selectors (selectors_of v))
+    inside : (v : Var) {Above : Use → Type 0} → ((u : Use) → In_target v u → Above u) → Sound p W R fs Above
+        → Sound p W R fs (In_selectors (selectors_of v))
     inside (Entire x ss) i so = part (λ u h. i u (inr h)) so
 
-    arguments : (args : Actuals) → PureActuals p args → Sound p W R fs (In_actuals args) → Quiet Any (actuals set calls args)
+    arguments : (args : Actuals) → PureActuals p args → Sound p W R fs (In_actuals args)
+        → Quiet Any (actuals set calls args)
     arguments Nothing h so = give_keeps q New All fs [] tt
     arguments (Pass (ByValue e) rest) h so =
-        then_keeps q New All fs _ _ (expr e h.0 (part (λ u. inl) so)) (λ v _. then_keeps q New All fs _ _ (arguments rest h.1 (part (λ u. inr) so)) (λ gs _. give_keeps q New All fs _ tt))
+        then_keeps q New All fs _ _ (expr e h.0 (part (λ u. inl) so))
+        (λ v _. then_keeps q New All fs _ _ (arguments rest h.1 (part (λ u. inr) so))
+        (λ gs _. give_keeps q New All fs _ tt))
     arguments (Pass (ByReference v) rest) h so =
-        then_keeps q New All fs _ _ (variable v h.0 (inside v (λ u i. inl i) so)) (λ z e. then_keeps q New All fs _ _ (address_of_keeps q New All fs set (stands p fs (variable_of v)) z e) (λ a d.
+        then_keeps q New All fs _ _ (variable v h.0 (inside v (λ u i. inl i) so))
+        (λ z e. then_keeps q New All fs _ _ (address_of_keeps q New All fs set (stands p fs (variable_of v)) z e)
+        (λ a d.
         then_keeps q New All fs _ _ (arguments rest h.1 (part (λ u. inr) so)) (λ gs _. give_keeps q New All fs _ tt)))
 
     wide : (w : Option Expr) → PureWidth p w → Sound p W R fs (In_width w) → Quiet Any (width set calls w)
@@ -345,9 +430,17 @@ module _ (set : Setting) (free : IsFreeOfInterference set.program) (pure : AreFu
     -- a call writes cells alone
     entered : (f : ℕ) (gs : List Given) → From q IsCell All fs (λ b hs. slice_get p.blocks f ≡ Some b) (enter set f gs)
     entered f gs =
-        after q IsCell All _ _ (or_lost_keeps q IsCell All fs (slice_get p.blocks f)) (λ b is. after q IsCell All _ _ (tick_stays set q IsCell All 0 cells seen free fs) (λ u _. after q IsCell All _ _ (deepen_stays set q IsCell All 0 cells seen free fs) (λ u _.
-        after q IsCell All _ _ (widen_stays set q IsCell All 0 cells seen free fs (size_of_frame set f)) (λ u _. after q IsCell All _ _ (enclosing_keeps set q IsCell All 0 cells seen free fs linked b.parent) (λ link en.
-        record { by = λ w o n e. (laid b is (length o.frames) (pushed_frame set f link (references b.formals gs) w o).frames).by w (pushed_frame set f link (references b.formals gs) w o) n refl })))))
+        after q IsCell All _ _ (or_lost_keeps q IsCell All fs (slice_get p.blocks f))
+        (λ b is. after q IsCell All _ _ (tick_stays set q IsCell All 0 cells seen free fs)
+        (λ u _. after q IsCell All _ _ (deepen_stays set q IsCell All 0 cells seen free fs) (λ u _.
+        after q IsCell All _ _ (widen_stays set q IsCell All 0 cells seen free fs (size_of_frame set f))
+        (λ u _. after q IsCell All _ _ (enclosing_keeps set q IsCell All 0 cells seen free fs linked b.parent)
+        (λ link en.
+        record {
+          by = λ w o n e. (laid b is (length o.frames)
+              (pushed_frame set f link (references b.formals gs) w o).frames).by w
+              (pushed_frame set f link (references b.formals gs) w o) n refl;
+        })))))
       where
         cells : (n x : ℕ) → 0 ≤ n → IsCell (Cell q n x)
         cells n x h = tt
@@ -355,47 +448,65 @@ module _ (set : Setting) (free : IsFreeOfInterference set.program) (pure : AreFu
         seen : (l : Loc) → IsCell l → All l
         seen l h = tt
 
-        laid : (b : Block) → slice_get p.blocks f ≡ Some b → (k : ℕ) (hs : List Frame) → From q IsCell All hs (λ c gs. slice_get p.blocks f ≡ Some c) (bind (lay set k (variables_of f 0 p.variables)) (λ u. bind (copy_in set k b.formals gs) (λ u. give b)))
-        laid b is k hs = after q IsCell All _ _ (lay_stays set q IsCell All 0 cells seen free hs k (omega arith) (variables_of f 0 p.variables)) (λ u _. after q IsCell All _ _ (copy_stays set q IsCell All 0 cells seen free hs k (omega arith) b.formals gs) (λ u _. gives q IsCell All b is))
+        laid : (b : Block) → slice_get p.blocks f ≡ Some b → (k : ℕ) (hs : List Frame)
+            → From q IsCell All hs (λ c gs. slice_get p.blocks f ≡ Some c)
+            (bind (lay set k (variables_of f 0 p.variables)) (λ u. bind (copy_in set k b.formals gs) (λ u. give b)))
+        laid b is k hs = after q IsCell All _ _
+            (lay_stays set q IsCell All 0 cells seen free hs k (omega arith) (variables_of f 0 p.variables))
+            (λ u _. after q IsCell All _ _ (copy_stays set q IsCell All 0 cells seen free hs k (omega arith) b.formals
+            gs) (λ u _. gives q IsCell All b is))
 
-    start_tells : (s : Stmt) (todo : List Item) → PureStmt p s → PureItems p todo → Sound p W R fs (In_stmt s) → Tells (start set calls s todo)
+    start_tells : (s : Stmt) (todo : List Item) → PureStmt p s → PureItems p todo → Sound p W R fs (In_stmt s)
+        → Tells (start set calls s todo)
     start_tells Empty todo h k so = went todo k
-    start_tells (Assign v e) todo h k so = then_tells _ _ (target v h.0 (inside v (λ u i. inl i) so)) (λ a _. then_tells _ _ (expr e h.1 (part (λ u. inr) so)) (λ x _. stores a x todo k))
+    start_tells (Assign v e) todo h k so = then_tells _ _ (target v h.0 (inside v (λ u i. inl i) so))
+        (λ a _. then_tells _ _ (expr e h.1 (part (λ u. inr) so)) (λ x _. stores a x todo k))
     start_tells (Call f args) todo h k so =
-        then_tells _ _ (arguments args h (part (λ u. inr) so)) (λ gs _. cells_tell (enter set f gs) (λ b. Ticked (push b.body (Leave ∷ todo))) (entered f gs) (λ b e. (push_pure p b.body (Leave ∷ todo) (blocks f b e) k, (λ z. z, λ z. z))))
+        then_tells _ _ (arguments args h (part (λ u. inr) so))
+        (λ gs _. cells_tell (enter set f gs) (λ b. Ticked (push b.body (Leave ∷ todo))) (entered f gs)
+        (λ b e. (push_pure p b.body (Leave ∷ todo) (blocks f b e) k, (λ z. z, λ z. z))))
     start_tells (Sequence ss) todo h k so = went (push_all ss todo) (push_all_pure p ss todo h k)
     start_tells (If e a) todo h k so = then_tells _ _ (test e h.0 (part (λ u. inl) so)) (λ m _. go (int_le m (pos 0)))
       where
         go : (b : Bool) → Tells (give (Stepped (if b then todo else push a todo)))
         go true = went todo k
         go false = went (push a todo) (push_pure p a todo h.1 k)
-    start_tells (IfElse e a c) todo h k so = then_tells _ _ (test e h.0 (part (λ u. inl) so)) (λ m _. go (int_le m (pos 0)))
+    start_tells (IfElse e a c) todo h k so =
+        then_tells _ _ (test e h.0 (part (λ u. inl) so)) (λ m _. go (int_le m (pos 0)))
       where
         go : (b : Bool) → Tells (give (Stepped (if b then push c todo else push a todo)))
         go true = went (push c todo) (push_pure p c todo h.2 k)
         go false = went (push a todo) (push_pure p a todo h.1 k)
-    start_tells (While e s) todo h k so = then_tells _ _ (test e h.0 (part (λ u. inl) so)) (λ m _. go (int_le m (pos 0)))
+    start_tells (While e s) todo h k so = then_tells _ _ (test e h.0 (part (λ u. inl) so))
+        (λ m _. go (int_le m (pos 0)))
       where
-        go : (b : Bool) → Tells (if b then give (Stepped todo) else bind (tick set.limits) (λ u. give (Ticked (push s (Do (While e s) ∷ todo)))))
+        go : (b : Bool) → Tells (if b then give (Stepped todo) else
+            bind (tick set.limits) (λ u. give (Ticked (push s (Do (While e s) ∷ todo)))))
         go true = went todo k
         go false = beat (push s (Do (While e s) ∷ todo)) (push_pure p s (Do (While e s) ∷ todo) h.1 (h, k))
     start_tells (Repeat s e) todo h k so = beat (push s (Test s e ∷ todo)) (push_pure p s (Test s e ∷ todo) h.1 (h, k))
     start_tells (For x from down to s) todo h k so =
-        then_tells _ _ (test from h.0 (part (λ u i. inr (inl i)) so)) (λ m _. then_tells _ _ (test to h.1 (part (λ u i. inr (inr (inl i))) so)) (λ z _. go m z (is_range down m z)))
+        then_tells _ _ (test from h.0 (part (λ u i. inr (inl i)) so))
+        (λ m _. then_tells _ _ (test to h.1 (part (λ u i. inr (inr (inl i))) so))
+        (λ z _. go m z (is_range down m z)))
       where
         go : (m z : ℤ) (b : Bool) → Tells (give (Stepped (if b then First x m z down s ∷ todo else todo)))
         go m z true = went (First x m z down s ∷ todo) ((h.2, h.3), k)
         go m z false = went todo k
-    start_tells (Case e arms) todo h k so = then_tells _ _ (test e h.0 (part (λ u. inl) so)) (λ m _. go (arm_for m arms) (arm_pure p m arms h.1))
+    start_tells (Case e arms) todo h k so = then_tells _ _ (test e h.0 (part (λ u. inl) so))
+        (λ m _. go (arm_for m arms) (arm_pure p m arms h.1))
       where
         go : (x : Option Stmt) → PureArm p x → Tells (chosen set x todo)
         go None i = fails fault.F9
         go (Some s) i = went (push s todo) (push_pure p s todo i k)
     start_tells (Parallel ss) todo h k so = forks (children ss) todo k
     start_tells (Forall x from to s) todo h k so =
-        then_tells _ _ (test from h.0 (part (λ u i. inr (inl i)) so)) (λ m _. then_tells _ _ (test to h.1 (part (λ u i. inr (inr (inl i))) so)) (λ z _. go m (nat_abs ((z -ℤ m) +ℤ pos 1)) (int_lt z m)))
+        then_tells _ _ (test from h.0 (part (λ u i. inr (inl i)) so))
+        (λ m _. then_tells _ _ (test to h.1 (part (λ u i. inr (inr (inl i))) so))
+        (λ z _. go m (nat_abs ((z -ℤ m) +ℤ pos 1)) (int_lt z m)))
       where
-        go : (m : ℤ) (z : ℕ) (b : Bool) → Tells (if b then give (Stepped todo) else fork set (indexed_children x s m z) todo)
+        go : (m : ℤ) (z : ℕ) (b : Bool) → Tells
+            (if b then give (Stepped todo) else fork set (indexed_children x s m z) todo)
         go m z true = went todo k
         go m z false = forks (indexed_children x s m z) todo k
     start_tells (Assume e) todo h k so = then_tells _ _ (test e h so) (λ m _. go (int_le m (pos 0)))
@@ -404,20 +515,34 @@ module _ (set : Setting) (free : IsFreeOfInterference set.program) (pure : AreFu
         go true = fails fault.F8
         go false = went todo k
     start_tells (ReadValue v) todo h k so =
-        then_tells _ _ (target v h (inside v (λ u i. inr (inl i)) so)) (λ a _. then_tells _ _ (kind_stays q New All fs set a.kind) (λ t _. then_tells _ _ (left_stays q New All fs set free (λ l w. tt) tt) (λ bs _.
+        then_tells _ _ (target v h (inside v (λ u i. inr (inl i)) so))
+        (λ a _. then_tells _ _ (kind_stays q New All fs set a.kind)
+        (λ t _. then_tells _ _ (left_stays q New All fs set free (λ l w. tt) tt) (λ bs _.
         then_tells _ _ (or_lost_stays q New All fs (taken_by t bs)) (λ x _. takes a x todo k))))
-    start_tells ReadLine todo h k so = then_tells _ _ (left_stays q New All fs set free (λ l w. tt) tt) (λ bs _. skips (line_length bs) todo k)
+    start_tells ReadLine todo h k so = then_tells _ _ (left_stays q New All fs set free (λ l w. tt) tt)
+        (λ bs _. skips (line_length bs) todo k)
     start_tells (WriteValue (Typed t form) w) todo h k so =
-        then_tells _ _ (test (Typed t form) h.0 (part (λ u i. inr (inl i)) so)) (λ m _. then_tells _ _ (wide w h.1 (part (λ u i. inr (inr (inl i))) so)) (λ x _. then_tells _ _ (kind_stays q New All fs set t) (λ y _.
-        then_tells _ _ (in_width_stays set q New All (length fs) (λ n x h. h) (λ l w. tt) free fs (shown y m).0 (shown y m).1 x) (λ bs _. prints bs todo k))))
+        then_tells _ _ (test (Typed t form) h.0 (part (λ u i. inr (inl i)) so))
+        (λ m _. then_tells _ _ (wide w h.1 (part (λ u i. inr (inr (inl i))) so))
+        (λ x _. then_tells _ _ (kind_stays q New All fs set t) (λ y _.
+        then_tells _ _ (in_width_stays set q New All (length fs) (λ n x h. h) (λ l w. tt) free fs (shown y m).0
+        (shown y m).1 x) (λ bs _. prints bs todo k))))
     start_tells (WriteText t w) todo h k so =
-        then_tells _ _ (wide w h (part (λ u i. inr (inl i)) so)) (λ m _. then_tells _ _ (in_width_stays set q New All (length fs) (λ n x h. h) (λ l w. tt) free fs true t m) (λ bs _. prints bs todo k))
+        then_tells _ _ (wide w h (part (λ u i. inr (inl i)) so))
+        (λ m _. then_tells _ _ (in_width_stays set q New All (length fs) (λ n x h. h) (λ l w. tt) free fs true t m)
+        (λ bs _. prints bs todo k))
     start_tells WriteLine todo h k so = prints (10 ∷ []) todo k
     start_tells (Open v) todo h k so = then_tells _ _ (target v h (inside v (λ u i. inl i) so)) (λ a _. opens a todo k)
     start_tells (Send c (Typed t form)) todo h k so =
-        then_tells _ _ (expr c h.0 (part (λ u. inl) so)) (λ v _. then_tells _ _ (channel_stays q New All fs v) (λ to _. then_tells _ _ (expr (Typed t form) h.1 (part (λ u i. inr (inl i)) so)) (λ x _. offers to t (Message (Tree x)) todo k)))
+        then_tells _ _ (expr c h.0 (part (λ u. inl) so))
+        (λ v _. then_tells _ _ (channel_stays q New All fs v)
+        (λ to _. then_tells _ _ (expr (Typed t form) h.1 (part (λ u i. inr (inl i)) so))
+        (λ x _. offers to t (Message (Tree x)) todo k)))
     start_tells (Receive c v) todo h k so =
-        then_tells _ _ (expr c h.0 (part (λ u. inl) so)) (λ y _. then_tells _ _ (channel_stays q New All fs y) (λ to _. then_tells _ _ (target v h.1 (inside v (λ u i. inr (inl i)) so)) (λ a _. offers to a.kind (Takes a) todo k)))
+        then_tells _ _ (expr c h.0 (part (λ u. inl) so))
+        (λ y _. then_tells _ _ (channel_stays q New All fs y)
+        (λ to _. then_tells _ _ (target v h.1 (inside v (λ u i. inr (inl i)) so))
+        (λ a _. offers to a.kind (Takes a) todo k)))
 
     module _ (z : List Frame) where
       -- what stands at a place may be read
@@ -425,12 +550,17 @@ module _ (set : Setting) (free : IsFreeOfInterference set.program) (pure : AreFu
       any_read (At a) = tt
       any_read (Fixed m) = tt
 
-      act_tells : (i : Item) (todo : List Item) → PureItems p (i ∷ todo) → Fit p W R z fs (i ∷ todo) → Tells (act set calls i todo)
+      act_tells : (i : Item) (todo : List Item) → PureItems p (i ∷ todo) → Fit p W R z fs (i ∷ todo)
+          → Tells (act set calls i todo)
       act_tells (Do s) todo h f = start_tells s todo h.0 h.1 f.ready.0
       act_tells (First x m limit down s) todo h f = turns x m limit down s todo h.0.0 h.0.1 h.1
       act_tells (Again x limit down s) todo h f =
-          then_tells _ _ (place_of_keeps q New All fs set x) (λ y e. then_tells _ _ (read_stays q New All fs set y (any_read y)) (λ v _. then_tells _ _ (ordinal_stays q New All fs v) (λ m _. turns x (next_value down m) limit down s todo h.0.0 h.0.1 h.1)))
-      act_tells (Test s e) todo h f = then_tells _ _ (test e h.0.0 (part (λ u. inl) f.ready.0)) (λ m _. go (int_le m (pos 0)))
+          then_tells _ _ (place_of_keeps q New All fs set x)
+          (λ y e. then_tells _ _ (read_stays q New All fs set y (any_read y))
+          (λ v _. then_tells _ _ (ordinal_stays q New All fs v)
+          (λ m _. turns x (next_value down m) limit down s todo h.0.0 h.0.1 h.1)))
+      act_tells (Test s e) todo h f = then_tells _ _ (test e h.0.0 (part (λ u. inl) f.ready.0))
+          (λ m _. go (int_le m (pos 0)))
         where
           go : (b : Bool) → Tells (give (Stepped (if b then Do (Repeat s e) ∷ todo else todo)))
           go true = went (Do (Repeat s e) ∷ todo) (h.0, h.1)
@@ -445,12 +575,17 @@ module _ (set : Setting) (free : IsFreeOfInterference set.program) (pure : AreFu
       settles [] h f = give_keeps q New All fs [] (h, f)
       settles (Do s ∷ todo) h f = give_keeps q New All fs (Do s ∷ todo) (h, f)
       settles (First x m limit down s ∷ todo) h f = give_keeps q New All fs (First x m limit down s ∷ todo) (h, f)
-      settles (Again x limit down s ∷ todo) h f = then_keeps q New All fs _ _ peeks (λ v _. go (settles todo h.1 (record { linked = f.linked; ready = f.ready.1; ends = f.ends })) (goes_on down limit v))
+      settles (Again x limit down s ∷ todo) h f =
+          then_keeps q New All fs _ _ peeks (λ v _. go
+          (settles todo h.1 (record { linked = f.linked; ready = f.ready.1; ends = f.ends })) (goes_on down limit v))
         where
           peeks : Quiet Any (peek set x)
-          peeks = then_keeps q New All fs _ _ (place_of_keeps q New All fs set x) (λ y e. then_keeps q New All fs _ _ (address_of_keeps q New All fs set (stands p fs x) y e) (λ a d. fetch_stays q New All fs a tt))
+          peeks = then_keeps q New All fs _ _ (place_of_keeps q New All fs set x)
+              (λ y e. then_keeps q New All fs _ _ (address_of_keeps q New All fs set (stands p fs x) y e)
+              (λ a d. fetch_stays q New All fs a tt))
 
-          go : Quiet Left (settle set todo) → (b : Bool) → Quiet Left (if b then give (Again x limit down s ∷ todo) else settle set todo)
+          go : Quiet Left (settle set todo) → (b : Bool)
+              → Quiet Left (if b then give (Again x limit down s ∷ todo) else settle set todo)
           go ih true = give_keeps q New All fs (Again x limit down s ∷ todo) (h, f)
           go ih false = ih
       settles (Test s e ∷ todo) h f = give_keeps q New All fs (Test s e ∷ todo) (h, f)
@@ -465,30 +600,40 @@ module _ (set : Setting) (free : IsFreeOfInterference set.program) (pure : AreFu
           go (i ∷ rest) l = act_tells i rest l.0 l.1
 
 -- of a process whose rights are known, with pure expressions
-module _ (set : Setting) (free : IsFreeOfInterference set.program) (pure : AreFunctionsPure set.program) (blocks : AreBlocksPure set.program) (W R : Loc → Type 0) (z : List Frame) (pr : Process) (fit : Fit set.program W R z pr.own.frames pr.todo) (items : PureItems set.program pr.todo) (s : Store) where
+module _ (set : Setting) (free : IsFreeOfInterference set.program) (pure : AreFunctionsPure set.program)
+    (blocks : AreBlocksPure set.program) (W R : Loc → Type 0) (z : List Frame) (pr : Process)
+    (fit : Fit set.program W R z pr.own.frames pr.todo) (items : PureItems set.program pr.todo) (s : Store) where
   abbrev Told_of : Came Deed × Store → Type 0
   Told_of r = Told set free pure blocks pr.who.name W R pr.own.frames fit.linked s r
 
   told : Told_of (answer same_loc (deed_of set pr) s)
-  told = (deed_tells set free pure blocks pr.who.name W R pr.own.frames fit.linked (enough set pr.own) z pr.todo items fit).by pr.who pr.own s refl refl
+  told = (deed_tells set free pure blocks pr.who.name W R pr.own.frames fit.linked (enough set pr.own) z pr.todo items
+      fit).by pr.who pr.own s refl refl
 
   -- what a step that forks, offers or ends wrote is of frames that are gone
-  pub quiet_deeds : (d : Deed) (o : Own) (m : Store) → IsStop d → ◌≡◌ {A = Came Deed × Store} (answer same_loc (deed_of set pr) s) (Got d o, m) → (l : Loc) → (s l ≡ m l) ⊎ IsDead (length o.frames) l
+  pub quiet_deeds : (d : Deed) (o : Own) (m : Store) → IsStop d
+      → ◌≡◌ {A = Came Deed × Store} (answer same_loc (deed_of set pr) s) (Got d o, m) → (l : Loc) → (s l ≡ m l)
+      ⊎ IsDead (length o.frames) l
   quiet_deeds d o m stop e =
       let t = subst Told_of e told in
       let u = t.1 stop in
       subst (λ fs. IsSame (length fs) s m) (sym u.0) u.1
 
   -- a step that opens a channel changed one variable
-  pub quiet_opens : (todo : List Item) (o : Own) (m : Store) → ◌≡◌ {A = Came Deed × Store} (answer same_loc (deed_of set pr) s) (Got (Opened todo) o, m) → IsSameButOne (length pr.own.frames) s m
+  pub quiet_opens : (todo : List Item) (o : Own) (m : Store)
+      → ◌≡◌ {A = Came Deed × Store} (answer same_loc (deed_of set pr) s) (Got (Opened todo) o, m)
+      → IsSameButOne (length pr.own.frames) s m
   quiet_opens todo o m e = (subst Told_of e told).2 tt
 
   -- a step that fails wrote nothing to the output
-  pub quiet_faults : (f : Fault) (m : Store) → ◌≡◌ {A = Came Deed × Store} (answer same_loc (deed_of set pr) s) (Bad f, m) → s Output ≡ m Output
+  pub quiet_faults : (f : Fault) (m : Store)
+      → ◌≡◌ {A = Came Deed × Store} (answer same_loc (deed_of set pr) s) (Bad f, m) → s Output ≡ m Output
   quiet_faults f m e = subst Told_of e told
 
   -- what is left to do after a local step has pure expressions again
-  pub pure_kept : (d : Deed) (o : Own) (m : Store) → ◌≡◌ {A = Came Deed × Store} (answer same_loc (deed_of set pr) s) (Got d o, m) → (todo : List Item) → (d ≡ Stepped todo) ⊎ (d ≡ Ticked todo) → PureItems set.program todo
+  pub pure_kept : (d : Deed) (o : Own) (m : Store)
+      → ◌≡◌ {A = Came Deed × Store} (answer same_loc (deed_of set pr) s) (Got d o, m) → (todo : List Item)
+      → (d ≡ Stepped todo) ⊎ (d ≡ Ticked todo) → PureItems set.program todo
   pure_kept d o m e todo h = by (subst Told_of e told).0 h
     where
       by : PureDeed set.program d → (d ≡ Stepped todo) ⊎ (d ≡ Ticked todo) → PureItems set.program todo

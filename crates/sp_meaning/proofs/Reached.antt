@@ -1,14 +1,21 @@
 -- What every step keeps: names, counts of forks, light items; and ticks never fall.
-use Rattle.std.proofs.Common.{◌≡◌, ◌≢◌, ◌⊎◌, inl, inr, ℕ, suc, ◌+◌, ◌≤◌, ◌==◌, Bool, true, false, cond, List, [], ◌∷◌, length, Option, Some, None, refl, sym, ap, ◌∙◌, subst, arith, if◌then◌else◌, le_refl}
+use Rattle.std.proofs.Common.{◌≡◌, ◌≢◌, ◌⊎◌, inl, inr, ℕ, suc, ◌+◌, ◌≤◌, ◌==◌, Bool, true, false, cond, List, [], ◌∷◌}
+use Rattle.std.proofs.Common.{length, Option, Some, None, refl, sym, ap, ◌∙◌, subst, arith, if◌then◌else◌, le_refl}
 use Rattle.sp_base.specs.declared.fault.Fault.{Fault}
 use Rattle.sp_base.specs.declared.fault.Fault.TheVariants as fault
 use Rattle.sp_tree.specs.Plain.{Block}
 use Rattle.sp_meaning.specs.Maps.{at_key}
-use Rattle.sp_meaning.specs.Model.{Name, same_name, Language, Act, Moves, Opens, Forks, Offering, Ends, Fails, Condition, Absent, Works, Waits, Joins, Ended, Becomes, Forked, Writes, Adds, changed, after}
+use Rattle.sp_meaning.specs.Model.{Name, same_name, Language, Act, Moves, Opens, Forks, Offering, Ends, Fails}
+use Rattle.sp_meaning.specs.Model.{Condition, Absent, Works, Waits, Joins, Ended, Becomes, Forked, Writes, Adds}
+use Rattle.sp_meaning.specs.Model.{changed, after}
 use Rattle.sp_meaning.specs.Asking.{Asking, Done, Loads, Puts, answer, put_by}
-use Rattle.sp_meaning.specs.Steps.{ActOf, OfferOf, ConditionOf, working, working_in, all_ended, Outcome, Advances, Faulty, puts, births, message, meeting, hands, meets, offered, acts, passed, cost, unless, outcome, result_of, step_with, Sound}
-use Rattle.sp_meaning.specs.Own.{Setting, Loc, Held, Address, Own, Who, Break, Process, Came, Got, Bad, Lost, Long, same_loc}
-use Rattle.sp_meaning.specs.Deeds.{Birth, Deed, Stepped, Ticked, Opened, Forked as Forked_it, Offered, push, newborns, size_of_frame}
+use Rattle.sp_meaning.specs.Steps.{ActOf, OfferOf, ConditionOf, working, working_in, all_ended, Outcome, Advances}
+use Rattle.sp_meaning.specs.Steps.{Faulty, puts, births, message, meeting, hands, meets, offered, acts, passed, cost}
+use Rattle.sp_meaning.specs.Steps.{unless, outcome, result_of, step_with, Sound}
+use Rattle.sp_meaning.specs.Own.{Setting, Loc, Held, Address, Own, Who, Break, Process, Came, Got, Bad, Lost, Long}
+use Rattle.sp_meaning.specs.Own.{same_loc}
+use Rattle.sp_meaning.specs.Deeds.{Birth, Deed, Stepped, Ticked, Opened, Forked as Forked_it, Offered, push, newborns}
+use Rattle.sp_meaning.specs.Deeds.{size_of_frame}
 use Rattle.sp_meaning.specs.Deeds as deeds
 use Rattle.std.specs.Prelude.{nat_lt}
 use Rattle.std.proofs.lemmas.Option.{same_Some}
@@ -31,7 +38,8 @@ Result t F (Bad f) = Unit {0}
 Result t F Lost = Unit {0}
 Result t F Long = ⊥
 
-pub result_is : {A : Type 0} (t : ℕ) (F : A → Own → Type 0) (x : Asking Loc Held (Came A)) (m : Loc → Held) → Comes t F x → Result t F (answer same_loc x m).0
+pub result_is : {A : Type 0} (t : ℕ) (F : A → Own → Type 0) (x : Asking Loc Held (Came A)) (m : Loc → Held)
+    → Comes t F x → Result t F (answer same_loc x m).0
 result_is t F (Done (Got a o)) m h = h
 result_is t F (Done (Bad f)) m h = tt
 result_is t F (Done Lost) m h = tt
@@ -60,7 +68,8 @@ module _ (k : ℕ) where
   abbrev pub Inv : (Name → ℕ) → Conditions → (Name → ℕ) → Type 0
   Inv t c f = (q : Name) → Holds (t q) (f q) q (c q)
 
-  pub becomes : (t : Name → ℕ) (c : Conditions) (f : Name → ℕ) (q : Name) (x : Condition Process Held Address) → Inv t c f → Holds (t q) (f q) q x → Inv t (at_key same_name q x c) f
+  pub becomes : (t : Name → ℕ) (c : Conditions) (f : Name → ℕ) (q : Name) (x : Condition Process Held Address)
+      → Inv t c f → Holds (t q) (f q) q x → Inv t (at_key same_name q x c) f
   becomes t c f q x i h r = go (same_name q r) refl
     where
       go : (b : Bool) → same_name q r ≡ b → Holds (t r) (f r) r (cond b x (c r))
@@ -95,7 +104,8 @@ module _ (k : ℕ) where
   own_is t f q (Joins m n pr) h = h.named
   own_is t f q Ended h = tt
 
-  pub working_keeps : (c : Conditions) (t f : ℕ) (q : Name) (x : Condition Process Held Address) (pr : Process) → Holds t f q x → working_in c q x ≡ Some pr → Keeps t f q pr
+  pub working_keeps : (c : Conditions) (t f : ℕ) (q : Name) (x : Condition Process Held Address) (pr : Process)
+      → Holds t f q x → working_in c q x ≡ Some pr → Keeps t f q pr
   working_keeps c t f q Absent pr h e = absurd (cc e)
   working_keeps c t f q (Works o) pr h e = let d : o ≡ pr = same_Some _ _ e in subst (Keeps t f q) d h
   working_keeps c t f q (Waits o) pr h e = absurd (cc e)
@@ -119,9 +129,14 @@ module _ (k : ℕ) where
   ActsWell t f p Ends = Unit {0}
   ActsWell t f p (Fails x) = Unit {0}
 
-  born_well : (f : ℕ) (p : Name) (w : Who) (o : Own) → w.name ≡ p → w.forks ≡ f → (i : ℕ) (bs : List Birth) → AllBorn k bs → Children p f i (newborns w o i bs)
+  born_well : (f : ℕ) (p : Name) (w : Who) (o : Own) → w.name ≡ p → w.forks ≡ f → (i : ℕ) (bs : List Birth)
+      → AllBorn k bs → Children p f i (newborns w o i bs)
   born_well f p w o n m i [] h = tt
-  born_well f p w o n m i (b ∷ bs) h = (record { named = record { name = λ z. (m z, i) ∷ n z; forks_are = refl }; light = h.0; later = le_refl 0 }, born_well f p w o n m (suc i) bs h.1)
+  born_well f p w o n m i (b ∷ bs) h = (
+    record
+        { named = record { name = λ z. (m z, i) ∷ n z; forks_are = refl }; light = h.0; later = le_refl 0 },
+    born_well f p w o n m (suc i) bs h.1,
+  )
 
 -- the process's own step
 module _ (g : Setting) where
@@ -134,27 +149,59 @@ module _ (g : Setting) where
   abbrev pub Light : ℕ → ℕ → Name → Process → Type 0
   Light t f p pr = Keeps K t f p pr
 
-  well_by : (t f : ℕ) (p : Name) (pr : Process) (ws : List (Loc × Held)) → Light t f p pr → (r : Came Deed) → Result pr.own.ticks (Deeds g K pr.own.ticks (weights pr.todo)) r → ActsWell K t f p (act_of pr.who r ws)
-  well_by t f p pr ws h (Got (Stepped todo) o) x = record { named = record { name = h.named.name; forks_are = h.named.forks_are }; light = x.1.1; later = omega (arith, h.later, x.0) }
-  well_by t f p pr ws h (Got (Ticked todo) o) x = record { named = record { name = h.named.name; forks_are = h.named.forks_are }; light = x.1.1; later = omega (arith, h.later, x.0) }
-  well_by t f p pr ws h (Got (Opened todo) o) x = record { named = record { name = h.named.name; forks_are = h.named.forks_are }; light = x.1; later = omega (arith, h.later, x.0) }
-  well_by t f p pr ws h (Got (Forked_it bs todo) o) x =
-      (record { named = record { name = h.named.name; forks_are = ap (λ n. n + 1) h.named.forks_are }; light = x.1.1; later = omega (arith, h.later, x.0) }, born_well K f p pr.who o h.named.name h.named.forks_are 0 bs x.1.0)
-  well_by t f p pr ws h (Got (Offered c n cargo todo) o) x = record { named = record { name = h.named.name; forks_are = h.named.forks_are }; light = x.1; later = omega (arith, h.later, x.0) }
+  well_by : (t f : ℕ) (p : Name) (pr : Process) (ws : List (Loc × Held)) → Light t f p pr → (r : Came Deed)
+      → Result pr.own.ticks (Deeds g K pr.own.ticks (weights pr.todo)) r → ActsWell K t f p (act_of pr.who r ws)
+  well_by t f p pr ws h (Got (Stepped todo) o) x =
+      record {
+        named = record { name = h.named.name; forks_are = h.named.forks_are };
+        light = x.1.1;
+        later = omega (arith, h.later, x.0);
+      }
+  well_by t f p pr ws h (Got (Ticked todo) o) x =
+      record {
+        named = record { name = h.named.name; forks_are = h.named.forks_are };
+        light = x.1.1;
+        later = omega (arith, h.later, x.0);
+      }
+  well_by t f p pr ws h (Got (Opened todo) o) x =
+      record {
+        named = record { name = h.named.name; forks_are = h.named.forks_are };
+        light = x.1;
+        later = omega (arith, h.later, x.0);
+      }
+  well_by t f p pr ws h (Got (Forked_it bs todo) o) x = (
+    record {
+      named = record { name = h.named.name; forks_are = ap (λ n. n + 1) h.named.forks_are };
+      light = x.1.1;
+      later = omega (arith, h.later, x.0);
+    },
+    born_well K f p pr.who o h.named.name h.named.forks_are 0 bs x.1.0,
+  )
+  well_by t f p pr ws h (Got (Offered c n cargo todo) o) x =
+      record {
+        named = record { name = h.named.name; forks_are = h.named.forks_are };
+        light = x.1;
+        later = omega (arith, h.later, x.0);
+      }
   well_by t f p pr ws h (Got deeds.Ended o) x = tt
   well_by t f p pr ws h (Bad e) x = tt
   well_by t f p pr ws h Lost x = tt
   well_by t f p pr ws h Long x = tt
 
   -- a step comes to an answer, and never to Long
-  pub deed_is : (pr : Process) (m : Loc → Held) → AllFit K pr.todo → Result pr.own.ticks (Deeds g K pr.own.ticks (weights pr.todo)) (answer same_loc (deed_of g pr) m).0
-  deed_is pr m light = result_is pr.own.ticks (Deeds g K pr.own.ticks (weights pr.todo)) (deed_of g pr) m (enough_is g pr.todo pr.who pr.own light)
+  pub deed_is : (pr : Process) (m : Loc → Held) → AllFit K pr.todo
+      → Result pr.own.ticks (Deeds g K pr.own.ticks (weights pr.todo)) (answer same_loc (deed_of g pr) m).0
+  deed_is pr m light = result_is pr.own.ticks (Deeds g K pr.own.ticks (weights pr.todo)) (deed_of g pr) m
+      (enough_is g pr.todo pr.who pr.own light)
 
-  pub next_is : (pr : Process) (m : Loc → Held) → L.next pr m ≡ act_of pr.who (answer same_loc (deed_of g pr) m).0 (put_by same_loc (asks g pr) m)
-  next_is pr m = ap (λ (x : (List (Loc × Held) → ActOf L) × (Loc → Held)). x.0 (put_by same_loc (asks g pr) m)) (answer_then loc_test (deed_of g pr) (λ x. Done (act_of pr.who x)) m)
+  pub next_is : (pr : Process) (m : Loc → Held)
+      → L.next pr m ≡ act_of pr.who (answer same_loc (deed_of g pr) m).0 (put_by same_loc (asks g pr) m)
+  next_is pr m = ap (λ (x : (List (Loc × Held) → ActOf L) × (Loc → Held)). x.0 (put_by same_loc (asks g pr) m))
+      (answer_then loc_test (deed_of g pr) (λ x. Done (act_of pr.who x)) m)
 
   pub acts_well : (t f : ℕ) (p : Name) (pr : Process) (m : Loc → Held) → Light t f p pr → ActsWell K t f p (L.next pr m)
-  acts_well t f p pr m h = subst (ActsWell K t f p) (sym (next_is pr m)) (well_by t f p pr (put_by same_loc (asks g pr) m) h (answer same_loc (deed_of g pr) m).0 (deed_is pr m h.light))
+  acts_well t f p pr m h = subst (ActsWell K t f p) (sym (next_is pr m))
+      (well_by t f p pr (put_by same_loc (asks g pr) m) h (answer same_loc (deed_of g pr) m).0 (deed_is pr m h.light))
 
   puts_condition : (ws : List (Loc × Held)) (s : StateOf g) → (after (puts {L = L} ws) s).condition ≡ s.condition
   puts_condition [] s = refl
@@ -168,14 +215,19 @@ module _ (g : Setting) where
   Well t s = Inv K t s.condition s.forks
 
   puts_well : (t : Name → ℕ) (ws : List (Loc × Held)) (s : StateOf g) → Well t s → Well t (after (puts {L = L} ws) s)
-  puts_well t ws s h = subst (λ (z : Conditions × (Name → ℕ)). Inv K t z.0 z.1) (λ i. (sym (puts_condition ws s) i, sym (puts_forks ws s) i)) h
+  puts_well t ws s h = subst (λ (z : Conditions × (Name → ℕ)). Inv K t z.0 z.1)
+      (λ i. (sym (puts_condition ws s) i, sym (puts_forks ws s) i)) h
 
   -- children of fork n come to be, where none was before and none has forked
-  births_well : (t : Name → ℕ) (p : Name) (n i : ℕ) (os : List Process) (s : StateOf g) → ((j : ℕ) → t ((n, j) ∷ p) ≡ 0) → ((j : ℕ) → s.forks ((n, j) ∷ p) ≡ 0) → Children K p n i os → Well t s → Well t (after (births {L = L} p n i os) s)
+  births_well : (t : Name → ℕ) (p : Name) (n i : ℕ) (os : List Process) (s : StateOf g) → ((j : ℕ) → t ((n, j) ∷ p) ≡ 0)
+      → ((j : ℕ) → s.forks ((n, j) ∷ p) ≡ 0) → Children K p n i os → Well t s
+      → Well t (after (births {L = L} p n i os) s)
   births_well t p n i [] s nil none h w = w
   births_well t p n i (o ∷ os) s nil none h w =
       births_well t p n (suc i) os (changed (Becomes ((n, i) ∷ p) (Works o)) s) nil none h.1
-      (becomes K t s.condition s.forks ((n, i) ∷ p) (Works o) w (subst (λ z. Keeps K z (s.forks ((n, i) ∷ p)) ((n, i) ∷ p) o) (sym (nil i)) (subst (λ z. Keeps K 0 z ((n, i) ∷ p) o) (sym (none i)) h.0)))
+      (becomes K t s.condition s.forks ((n, i) ∷ p) (Works o) w
+      (subst (λ z. Keeps K z (s.forks ((n, i) ∷ p)) ((n, i) ∷ p) o) (sym (nil i))
+      (subst (λ z. Keeps K 0 z ((n, i) ∷ p) o) (sym (none i)) h.0)))
 
   longer : (a : ℕ × ℕ) (p : Name) → p ≢ a ∷ p
   longer a p e = let x : length p ≡ suc (length p) = ap length e in omega (arith, x)
@@ -188,22 +240,33 @@ module _ (g : Setting) where
     unborn_zero j = ap ticks_in (sound.unborn p (s.forks p) j (le_refl (s.forks p)))
 
     unborn_never : Well T s → (j : ℕ) → s.forks ((s.forks p, j) ∷ p) ≡ 0
-    unborn_never w j = (subst (λ x. Holds K (T ((s.forks p, j) ∷ p)) (s.forks ((s.forks p, j) ∷ p)) ((s.forks p, j) ∷ p) x) (sound.unborn p (s.forks p) j (le_refl (s.forks p))) (w ((s.forks p, j) ∷ p))).0
+    unborn_never w j = (subst (λ x. Holds K (T ((s.forks p, j) ∷ p)) (s.forks ((s.forks p, j) ∷ p)) ((s.forks p, j) ∷ p)
+        x) (sound.unborn p (s.forks p) j (le_refl (s.forks p))) (w ((s.forks p, j) ∷ p))).0
 
-    forked_well : Well T s → (o : Process) (os : List Process) → Keeps K (T p) (s.forks p + 1) p o → Children K p (s.forks p) 0 os
-        → Well T (after (births {L = L} p (s.forks p) 0 os) (changed (Adds (record { processes = length os; channels = 0; entries = 1 })) (changed (Forked p) (changed (Becomes p (Joins (s.forks p) (length os) o)) s))))
+    forked_well : Well T s → (o : Process) (os : List Process) → Keeps K (T p) (s.forks p + 1) p o
+        → Children K p (s.forks p) 0 os
+        → Well T (after (births {L = L} p (s.forks p) 0 os)
+        (changed (Adds (record { processes = length os; channels = 0; entries = 1 }))
+        (changed (Forked p) (changed (Becomes p (Joins (s.forks p) (length os) o)) s))))
     forked_well w o os own children =
-        births_well T p (s.forks p) 0 os (changed (Adds (record { processes = length os; channels = 0; entries = 1 })) (changed (Forked p) (changed (Becomes p (Joins (s.forks p) (length os) o)) s))) unborn_zero
-        (λ j. at_other name_test s.forks p ((s.forks p, j) ∷ p) (s.forks p + 1) (longer (s.forks p, j) p) ∙ unborn_never w j) children joined
+        births_well T p (s.forks p) 0 os (changed (Adds (record { processes = length os; channels = 0; entries = 1 }))
+        (changed (Forked p) (changed (Becomes p (Joins (s.forks p) (length os) o)) s))) unborn_zero
+        (λ j. at_other name_test s.forks p ((s.forks p, j) ∷ p) (s.forks p + 1) (longer (s.forks p, j) p)
+        ∙ unborn_never w j) children joined
       where
-        joined : (q : Name) → Holds K (T q) (at_key same_name p (s.forks p + 1) s.forks q) q (at_key same_name p (Joins (s.forks p) (length os) o) s.condition q)
+        joined : (q : Name) → Holds K (T q) (at_key same_name p (s.forks p + 1) s.forks q) q
+            (at_key same_name p (Joins (s.forks p) (length os) o) s.condition q)
         joined q = go (same_name p q) refl
           where
-            go : (b : Bool) → same_name p q ≡ b → Holds K (T q) (cond b (s.forks p + 1) (s.forks q)) q (cond b (Joins (s.forks p) (length os) o) (s.condition q))
+            go : (b : Bool) → same_name p q ≡ b
+                → Holds K (T q) (cond b (s.forks p + 1) (s.forks q)) q
+                (cond b (Joins (s.forks p) (length os) o) (s.condition q))
             go true e = subst (λ z. Keeps K (T z) (s.forks p + 1) z o) ((name_test p q).0 e) own
             go false e = w q
 
-    hands_well : Well T s → (o : OfferOf L) (z : Name) (v : OfferOf L) → s.condition z ≡ Waits v → Keeps K (T p) (s.forks p) p o.next → (m : Option (Address × Held)) → Well T (result_of s p (hands {L = L} s p o z v m))
+    hands_well : Well T s → (o : OfferOf L) (z : Name) (v : OfferOf L) → s.condition z ≡ Waits v
+        → Keeps K (T p) (s.forks p) p o.next → (m : Option (Address × Held))
+        → Well T (result_of s p (hands {L = L} s p o z v m))
     hands_well w o z v e own None = w
     hands_well w o z v e own (Some m) = go (o.kind == v.kind)
       where
@@ -211,29 +274,37 @@ module _ (g : Setting) where
         waits = subst (λ x. Holds K (T z) (s.forks z) z x) e (w z)
 
         go : (b : Bool) → Well T (result_of s p (if b then Advances (meeting {L = L} s p o z v m) else Faulty fault.F7))
-        go true = becomes K T (at_key same_name p (Works o.next) s.condition) s.forks z (Works v.next) (becomes K T s.condition s.forks p (Works o.next) w own) waits
+        go true = becomes K T (at_key same_name p (Works o.next) s.condition) s.forks z (Works v.next)
+            (becomes K T s.condition s.forks p (Works o.next) w own) waits
         go false = w
 
-    meets_well : Well T s → (o : OfferOf L) (z : Name) → Keeps K (T p) (s.forks p) p o.next → (c : ConditionOf L) → s.condition z ≡ c → Well T (result_of s p (meets {L = L} s p o z c))
+    meets_well : Well T s → (o : OfferOf L) (z : Name) → Keeps K (T p) (s.forks p) p o.next → (c : ConditionOf L)
+        → s.condition z ≡ c → Well T (result_of s p (meets {L = L} s p o z c))
     meets_well w o z own Absent e = w
     meets_well w o z own (Works x) e = w
     meets_well w o z own (Waits v) e = hands_well w o z v e own (message o.cargo v.cargo)
     meets_well w o z own (Joins n m x) e = w
     meets_well w o z own Ended e = w
 
-    offered_well : Well T s → (o : OfferOf L) → Keeps K (T p) (s.forks p) p o.next → (z : Option Name) → Well T (result_of s p (offered {L = L} s p o z))
+    offered_well : Well T s → (o : OfferOf L) → Keeps K (T p) (s.forks p) p o.next → (z : Option Name)
+        → Well T (result_of s p (offered {L = L} s p o z))
     offered_well w o own None = becomes K T s.condition s.forks p (Waits o) w own
     offered_well w o own (Some z) = meets_well w o z own (s.condition z) refl
 
-    acts_keep : Well T s → (a : ActOf L) → ActsWell K (T p) (s.forks p) p a → Well T (result_of s p (acts {L = L} s p a))
-    acts_keep w (Moves o ws) h = puts_well T ws (changed (Becomes p (Works o)) s) (becomes K T s.condition s.forks p (Works o) w h)
-    acts_keep w (Opens o ws) h = puts_well T ws (changed (Adds (record { processes = 0; channels = 1; entries = 1 })) (changed (Becomes p (Works o)) s)) (becomes K T s.condition s.forks p (Works o) w h)
+    acts_keep : Well T s → (a : ActOf L) → ActsWell K (T p) (s.forks p) p a
+        → Well T (result_of s p (acts {L = L} s p a))
+    acts_keep w (Moves o ws) h = puts_well T ws (changed (Becomes p (Works o)) s)
+        (becomes K T s.condition s.forks p (Works o) w h)
+    acts_keep w (Opens o ws) h = puts_well T ws
+        (changed (Adds (record { processes = 0; channels = 1; entries = 1 })) (changed (Becomes p (Works o)) s))
+        (becomes K T s.condition s.forks p (Works o) w h)
     acts_keep w (Forks o os) h = forked_well w o os h.0 h.1
     acts_keep w (Offering o) h = offered_well w o h (s.pending o.channel)
     acts_keep w Ends h = becomes K T s.condition s.forks p Ended w tt
     acts_keep w (Fails f) h = w
 
-    unless_keep : Well T s → (x : Option Fault) (out : Outcome L) → Well T (result_of s p out) → Well T (result_of s p (unless x out))
+    unless_keep : Well T s → (x : Option Fault) (out : Outcome L) → Well T (result_of s p out)
+        → Well T (result_of s p (unless x out))
     unless_keep w None out h = h
     unless_keep w (Some f) out h = w
 
@@ -242,12 +313,16 @@ module _ (g : Setting) where
     step_well w m e = go (working s p) refl
       where
         go : (o : Option Process) → working s p ≡ o → Well T m
-        go None r = let x : ◌≡◌ {A = Option (StateOf g)} None (Some m) = sym (ap (step_with (most g) s p) r) ∙ e in absurd (cc x)
+        go None r = let x : ◌≡◌ {A = Option (StateOf g)} None (Some m) = sym (ap (step_with (most g) s p) r) ∙ e in
+            absurd (cc x)
         go (Some pr) r =
             let a = L.next pr s.store in
             let keeps = working_keeps K s.condition (T p) (s.forks p) p (s.condition p) pr (w p) r in
-            let to : Well T (result_of s p (outcome (most g) s p a)) = unless_keep w (passed (most g) s.totals (cost a)) (acts s p a) (acts_keep w a (acts_well (T p) (s.forks p) p pr s.store keeps)) in
-            let is : result_of s p (outcome (most g) s p a) ≡ m = same_Some (result_of s p (outcome (most g) s p a)) m (sym (ap (step_with (most g) s p) r) ∙ e) in
+            let to : Well T (result_of s p (outcome (most g) s p a)) =
+            unless_keep w (passed (most g) s.totals (cost a)) (acts s p a)
+            (acts_keep w a (acts_well (T p) (s.forks p) p pr s.store keeps)) in
+            let is : result_of s p (outcome (most g) s p a) ≡ m =
+            same_Some (result_of s p (outcome (most g) s p a)) m (sym (ap (step_with (most g) s p) r) ∙ e) in
             subst (Well T) is to
 
   abbrev pub Zero : Name → ℕ
@@ -268,7 +343,11 @@ module _ (g : Setting) where
       go false = push_fit K b.body [] (omega (arith, h)) tt
 
   pub start_well : Well Zero (start g)
-  start_well [] = record { named = record { name = refl; forks_are = refl }; light = main_light g.program.blocks (le_refl (weight_blocks g.program.blocks)); later = le_refl 0 }
+  start_well [] = record {
+    named = record { name = refl; forks_are = refl };
+    light = main_light g.program.blocks (le_refl (weight_blocks g.program.blocks));
+    later = le_refl 0;
+  }
   start_well (x ∷ q) = (refl, le_refl 0)
 
   pub start_sound : Sound (start g)
@@ -281,7 +360,11 @@ module _ (g : Setting) where
 
   pub reached : (qs : List Name) (s t : StateOf g) → Known s → Lawful g s qs t → Known t
   reached [] s t k l = subst Known (sym l) k
-  reached (q ∷ qs) s t k l = reached qs l.0 t (record { sound = step_sound (most g) s q l.0 k.sound l.2; well = lowered (λ r. ticks_in (s.condition r)) l.0 (step_well s k.sound q (raised s k.well) l.0 l.2) }) l.3
+  reached (q ∷ qs) s t k l = reached qs l.0 t
+      (record {
+        sound = step_sound (most g) s q l.0 k.sound l.2;
+        well = lowered (λ r. ticks_in (s.condition r)) l.0 (step_well s k.sound q (raised s k.well) l.0 l.2);
+      }) l.3
 
   pub known : (s : StateOf g) → IsReached g s → Known s
   known s r = reached r.0 (start g) s (record { sound = start_sound; well = start_well }) r.1

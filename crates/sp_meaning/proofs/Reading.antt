@@ -24,8 +24,10 @@ reading ss = record {
 abbrev takes : ℕ → Stmt
 takes x = ReadValue (Entire x Whole)
 
-one_behind_the_other : prints (reading (takes 2 ∷ takes 3 ∷ WriteValue (read 1 3) None ∷ [])) (root ∷ root ∷ root ∷ []) ≡ 98 ∷ []
+one_behind_the_other : prints (reading (takes 2 ∷ takes 3 ∷ WriteValue (read 1 3) None ∷ [])) (root ∷ root ∷ root ∷ [])
+    ≡ 98 ∷ []
 one_behind_the_other = refl
 
-line_is_skipped : prints (reading (ReadLine ∷ takes 2 ∷ WriteValue (read 1 2) None ∷ [])) (root ∷ root ∷ root ∷ []) ≡ 99 ∷ []
+line_is_skipped : prints (reading (ReadLine ∷ takes 2 ∷ WriteValue (read 1 2) None ∷ [])) (root ∷ root ∷ root ∷ []) ≡ 99
+    ∷ []
 line_is_skipped = refl

@@ -1,6 +1,7 @@
 -- Rights by names: a process has its own locations and those that its fork gave it; what one of two parallel ones may
 -- write the other has not.
-use Rattle.std.proofs.Common.{◌≡◌, ◌≢◌, ◌⊎◌, inl, inr, ℕ, ◌<◌, List, [], ◌∷◌, ◌++◌, length, length-append, refl, sym, ap, ◌∙◌, subst, arith}
+use Rattle.std.proofs.Common.{◌≡◌, ◌≢◌, ◌⊎◌, inl, inr, ℕ, ◌<◌, List, [], ◌∷◌, ◌++◌, length, length-append, refl, sym}
+use Rattle.std.proofs.Common.{ap, ◌∙◌, subst, arith}
 use Rattle.std.specs.Prelude.{drop}
 use Rattle.std.proofs.Math.Seq.{drop-append_seam}
 use Rattle.sp_meaning.specs.Model.{Name}
@@ -40,7 +41,8 @@ mine_below more q (Cell r n x) e = (more, e)
 mine_below more q Input e = absurd e
 mine_below more q Output e = absurd e
 
-pub came_down : (V : Name → Loc → Type 0) → ((q : Name) (k i : ℕ) (l : Loc) → V ((k, i) ∷ q) l → All V q l) → (more q : Name) (l : Loc) → All V (more ++ q) l → IsBelow q l ⊎ V q l
+pub came_down : (V : Name → Loc → Type 0) → ((q : Name) (k i : ℕ) (l : Loc) → V ((k, i) ∷ q) l → All V q l)
+    → (more q : Name) (l : Loc) → All V (more ++ q) l → IsBelow q l ⊎ V q l
 came_down V less [] q l (inl m) = inl (mine_below [] q l m)
 came_down V less [] q l (inr v) = inr v
 came_down V less (a ∷ more) q l (inl m) = inl (mine_below (a ∷ more) q l m)
@@ -69,8 +71,11 @@ below_both z k i j (Cell o n x) apart a b =
 below_both z k i j Input apart a b = a
 below_both z k i j Output apart a b = a
 
-pub parallel_apart : (W R : Name → Loc → Type 0) → Fair_rights W R → (a b : Name) → AreParallel a b → (l : Loc) → All W a l → All R b l → ⊥
-parallel_apart W R f a b h l w r = go (came_down W f.less_write h.after_one ((h.fork, h.one) ∷ h.common) l (subst (λ x. All W x l) h.a_is w)) (came_down R f.less_read h.after_other ((h.fork, h.other) ∷ h.common) l (subst (λ x. All R x l) h.b_is r))
+pub parallel_apart : (W R : Name → Loc → Type 0) → Fair_rights W R → (a b : Name) → AreParallel a b → (l : Loc)
+    → All W a l → All R b l → ⊥
+parallel_apart W R f a b h l w r = go (came_down W f.less_write h.after_one ((h.fork, h.one) ∷ h.common) l
+    (subst (λ x. All W x l) h.a_is w)) (came_down R f.less_read h.after_other ((h.fork, h.other) ∷ h.common) l
+    (subst (λ x. All R x l) h.b_is r))
   where
     one : Name
     one = (h.fork, h.one) ∷ h.common

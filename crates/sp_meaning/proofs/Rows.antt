@@ -8,7 +8,8 @@ use Rattle.sp_tree.specs.declared.checked.KindOf.TheVariants as kind
 use Rattle.sp_tree.specs.declared.checked.Role.TheVariants as role
 use Rattle.sp_tree.specs.declared.operators.BinaryOp.TheVariants as binary
 use Rattle.sp_tree.specs.declared.operators.StandardFn.TheVariants as standard
-use Rattle.sp_tree.specs.Plain.{Expr, Typed, Number, Binary, Standard, Entire, Whole, Var, Nothing, Pass, ByValue, Empty, Stmt, Assign, Call, Sequence, Parallel, Forall, WriteValue, Open, Send, Receive}
+use Rattle.sp_tree.specs.Plain.{Expr, Typed, Number, Binary, Standard, Entire, Whole, Var, Nothing, Pass, ByValue}
+use Rattle.sp_tree.specs.Plain.{Empty, Stmt, Assign, Call, Sequence, Parallel, Forall, WriteValue, Open, Send, Receive}
 use Rattle.sp_meaning.specs.Model.{Name}
 use Rattle.sp_meaning.specs.Own.{Setting}
 use Rattle.sp_meaning.specs.Runs.{StateOf, next}
@@ -19,7 +20,8 @@ use Rattle.sp_meaning.proofs.Faults.{of, ample, fault_of, after, prints, console
 abbrev with_body : List Stmt → Setting
 with_body ss = of (record {
   kinds = kind.Integer ∷ kind.Channel (0 ∷ []) ∷ kind.Char ∷ [];
-  variables = console ∷ console ∷ record { kind = 1; block = 0; role = role.Local } ∷ record { kind = 0; block = 0; role = role.Local } ∷ record { kind = 0; block = 0; role = role.Local } ∷ [];
+  variables = console ∷ console ∷ record { kind = 1; block = 0; role = role.Local }
+      ∷ record { kind = 0; block = 0; role = role.Local } ∷ record { kind = 0; block = 0; role = role.Local } ∷ [];
   blocks = record { parent = None; formals = []; answer = None; body = Sequence (sequence ss) } ∷ [];
 }) ample
 
@@ -74,21 +76,26 @@ modulo_256 : prints (with_body (WriteValue (Typed 2 (Number (pos 298))) None ∷
 modulo_256 = refl
 
 -- with no room for processes, an `open` still counts its channel alone
-opens_alone : fault_of (record (with_body (opens ∷ [])) { limits = record ample { processes = 0 } }) (root ∷ root ∷ []) ≡ None
+opens_alone : fault_of (record (with_body (opens ∷ [])) { limits = record ample { processes = 0 } }) (root ∷ root ∷ [])
+    ≡ None
 opens_alone = refl
 
 -- open(c); parallel begin receive(c, x); receive(c, y) end | send(c, 1) | send(c, 2) end; write(x, y)
 abbrev raced : Setting
-raced = with_body (opens ∷ Parallel (sequence (both (receives x ∷ receives y ∷ []) ∷ sends 1 ∷ sends 2 ∷ [])) ∷ digit 3 ∷ digit 4 ∷ [])
+raced = with_body (opens ∷ Parallel (sequence (both (receives x ∷ receives y ∷ []) ∷ sends 1 ∷ sends 2 ∷ [])) ∷ digit 3
+    ∷ digit 4 ∷ [])
 
 -- the one order, and the other
-raced_one : prints raced (root ∷ root ∷ child 0 ∷ child 1 ∷ child 0 ∷ child 2 ∷ child 0 ∷ child 1 ∷ child 2 ∷ root ∷ root ∷ root ∷ []) ≡ 49 ∷ 50 ∷ []
+raced_one : prints raced (root ∷ root ∷ child 0 ∷ child 1 ∷ child 0 ∷ child 2 ∷ child 0 ∷ child 1 ∷ child 2 ∷ root
+    ∷ root ∷ root ∷ []) ≡ 49 ∷ 50 ∷ []
 raced_one = refl
 
-raced_other : prints raced (root ∷ root ∷ child 0 ∷ child 2 ∷ child 0 ∷ child 1 ∷ child 0 ∷ child 1 ∷ child 2 ∷ root ∷ root ∷ root ∷ []) ≡ 50 ∷ 49 ∷ []
+raced_other : prints raced (root ∷ root ∷ child 0 ∷ child 2 ∷ child 0 ∷ child 1 ∷ child 0 ∷ child 1 ∷ child 2 ∷ root
+    ∷ root ∷ root ∷ []) ≡ 50 ∷ 49 ∷ []
 raced_other = refl
 
-raced_done : IsDone raced (after raced (root ∷ root ∷ child 0 ∷ child 2 ∷ child 0 ∷ child 1 ∷ child 0 ∷ child 1 ∷ child 2 ∷ root ∷ root ∷ root ∷ []))
+raced_done : IsDone raced (after raced (root ∷ root ∷ child 0 ∷ child 2 ∷ child 0 ∷ child 1 ∷ child 0 ∷ child 1
+    ∷ child 2 ∷ root ∷ root ∷ root ∷ []))
 raced_done = refl
 
 -- and a third, in which the two senders contend
@@ -99,7 +106,8 @@ raced_contends = refl
 abbrev receivers : Setting
 receivers = with_body (opens ∷ Parallel (sequence (both (sends 1 ∷ sends 2 ∷ []) ∷ receives x ∷ receives y ∷ [])) ∷ [])
 
-receivers_done : IsDone receivers (after receivers (root ∷ root ∷ child 0 ∷ child 1 ∷ child 0 ∷ child 2 ∷ child 0 ∷ child 1 ∷ child 2 ∷ root ∷ []))
+receivers_done : IsDone receivers (after receivers
+    (root ∷ root ∷ child 0 ∷ child 1 ∷ child 0 ∷ child 2 ∷ child 0 ∷ child 1 ∷ child 2 ∷ root ∷ []))
 receivers_done = refl
 
 -- open(c); parallel send(c, 1) | send(c, 2) | receive(c, x) end
@@ -124,20 +132,29 @@ alone_stuck = refl
 
 -- the same channel twice, in forks one after the other
 abbrev joined : Setting
-joined = with_body (opens ∷ Parallel (sequence (sends 1 ∷ receives x ∷ [])) ∷ Parallel (sequence (sends 2 ∷ receives y ∷ [])) ∷ digit 3 ∷ digit 4 ∷ [])
+joined = with_body (opens ∷ Parallel (sequence (sends 1 ∷ receives x ∷ []))
+    ∷ Parallel (sequence (sends 2 ∷ receives y ∷ [])) ∷ digit 3 ∷ digit 4 ∷ [])
 
 abbrev later : ℕ → Name
 later i = (1, i) ∷ []
 
-joined_prints : prints joined (root ∷ root ∷ child 0 ∷ child 1 ∷ child 0 ∷ child 1 ∷ root ∷ later 1 ∷ later 0 ∷ later 0 ∷ later 1 ∷ root ∷ root ∷ root ∷ []) ≡ 49 ∷ 50 ∷ []
+joined_prints : prints joined (root ∷ root ∷ child 0 ∷ child 1 ∷ child 0 ∷ child 1 ∷ root ∷ later 1 ∷ later 0 ∷ later 0
+    ∷ later 1 ∷ root ∷ root ∷ root ∷ []) ≡ 49 ∷ 50 ∷ []
 joined_prints = refl
 
 -- procedure node(i: integer); begin end; forall i := 1 to 0 do node(i)
 abbrev nobody : Setting
 nobody = of (record {
   kinds = kind.Integer ∷ [];
-  variables = console ∷ console ∷ record { kind = 0; block = 1; role = role.Value } ∷ record { kind = 0; block = 0; role = role.Index } ∷ [];
-  blocks = record { parent = None; formals = []; answer = None; body = Forall 3 (num 1) (num 0) (Call 1 (Pass (ByValue (read 0 3)) Nothing)) } ∷ record { parent = Some 0; formals = 2 ∷ []; answer = None; body = Empty } ∷ [];
+  variables = console ∷ console ∷ record { kind = 0; block = 1; role = role.Value }
+      ∷ record { kind = 0; block = 0; role = role.Index } ∷ [];
+  blocks = record {
+    parent = None;
+    formals = [];
+    answer = None;
+    body = Forall 3 (num 1) (num 0) (Call 1 (Pass (ByValue (read 0 3)) Nothing));
+  }
+      ∷ record { parent = Some 0; formals = 2 ∷ []; answer = None; body = Empty } ∷ [];
 }) ample
 
 nobody_done : IsDone nobody (after nobody (root ∷ root ∷ []))
@@ -147,5 +164,6 @@ nobody_done = refl
 abbrev minus_seven : Expr
 minus_seven = Typed 0 (Number (negsuc 6))
 
-quotients : prints (with_body (writes (add (Typed 0 (Binary binary.Div minus_seven (num 2))) 51) ∷ writes (add (Typed 0 (Binary binary.Mod minus_seven (num 2))) 48) ∷ [])) (root ∷ root ∷ []) ≡ 48 ∷ 49 ∷ []
+quotients : prints (with_body (writes (add (Typed 0 (Binary binary.Div minus_seven (num 2))) 51)
+    ∷ writes (add (Typed 0 (Binary binary.Mod minus_seven (num 2))) 48) ∷ [])) (root ∷ root ∷ []) ≡ 48 ∷ 49 ∷ []
 quotients = refl

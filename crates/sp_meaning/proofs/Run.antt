@@ -13,7 +13,8 @@ then_run g w (Bad f, m) = (Bad f, m)
 then_run g w (Lost, m) = (Lost, m)
 then_run g w (Long, m) = (Long, m)
 
-pub run_bind : {A B : Type 0} (h : Work A) (g : A → Work B) (w : Who) (o : Own) (m : Store) → run (bind h g) w o m ≡ then_run g w (run h w o m)
+pub run_bind : {A B : Type 0} (h : Work A) (g : A → Work B) (w : Who) (o : Own) (m : Store)
+    → run (bind h g) w o m ≡ then_run g w (run h w o m)
 run_bind {A} {B} h g w o m = answer_then loc_test (h w o) (λ r. go_on g w r) m ∙ go (run h w o m)
   where
     go : (r : Came A × Store) → answer same_loc (go_on g w r.0) r.1 ≡ then_run g w r

@@ -1,6 +1,7 @@
 -- A program that keeps the rules is disjoint. Of the rules it needs I1, I2, I4 and I5, and what names and types give
 -- of the tree.
-use Rattle.std.proofs.Common.{◌≡◌, ◌≢◌, inl, inr, ℕ, zero, suc, ◌<◌, ◌==◌, Bool, true, false, List, [], ◌∷◌, Option, Some, None, refl, sym, ◌∙◌, subst, arith, if◌then◌else◌, nat_lt}
+use Rattle.std.proofs.Common.{◌≡◌, ◌≢◌, inl, inr, ℕ, zero, suc, ◌<◌, ◌==◌, Bool, true, false, List, [], ◌∷◌, Option}
+use Rattle.std.proofs.Common.{Some, None, refl, sym, ◌∙◌, subst, arith, if◌then◌else◌, nat_lt}
 use Rattle.std.specs.Prelude.{slice_get}
 use Rattle.std.proofs.lemmas.Option.{same_Some}
 use Rattle.sp_tree.specs.declared.checked.Role.{Role}
@@ -15,7 +16,8 @@ use Rattle.sp_meaning.specs.SuperPascal.{main, root}
 use Rattle.sp_meaning.specs.Runs.{most, start, IsDisjointRun}
 use Rattle.sp_tree.specs.Uses.{Use, Target, Seen, CallOf, ParallelOf, ForallOf, Stop, In_stmt}
 use Rattle.sp_tree.specs.Interference.{IsFreeOfInterference}
-use Rattle.sp_meaning.specs.Owning.{cell_of, reference_of, console, stands_by, stands_at, stands, Touches, Right, Sound, Fit}
+use Rattle.sp_meaning.specs.Owning.{cell_of, reference_of, console, stands_by, stands_at, stands, Touches, Right, Sound}
+use Rattle.sp_meaning.specs.Owning.{Fit}
 use Rattle.sp_meaning.proofs.Deeding.{push_good}
 use Rattle.sp_meaning.proofs.Rights.{All, IsAbove, Fair_rights}
 use Rattle.sp_meaning.proofs.Owned.{Holds, Inv, disjoint_from}
@@ -34,7 +36,13 @@ first_above [] Output h = tt
 first_above (a ∷ q) l h = absurd h
 
 first_fair : Fair_rights First First
-first_fair = record { reads = λ q l h. h; above = first_above; less_write = λ q k i l h. absurd h; less_read = λ q k i l h. absurd h; apart = λ q k i j l n h g. h }
+first_fair = record {
+  reads = λ q l h. h;
+  above = first_above;
+  less_write = λ q k i l h. absurd h;
+  less_read = λ q k i l h. absurd h;
+  apart = λ q k i j l n h g. h;
+}
 
 module _ (set : Setting) (free : IsFreeOfInterference set.program) where
   abbrev pub bottom : Frame
@@ -56,7 +64,8 @@ module _ (set : Setting) (free : IsFreeOfInterference set.program) where
       by_reference true e = absurd (cc e)
       by_reference false e = absurd (cc e)
 
-      by_role : (i : Variable) → slice_get set.program.variables x ≡ Some i → (r : Role) → i.role ≡ r → stands_by (bottom ∷ []) x i r ≡ Some l → Stands x l
+      by_role : (i : Variable) → slice_get set.program.variables x ≡ Some i → (r : Role) → i.role ≡ r
+          → stands_by (bottom ∷ []) x i r ≡ Some l → Stands x l
       by_role i v role.Console r e = Console (free.consoles x i v r).1 (same_Some (console x) l e)
       by_role i v role.Local r e = by_cell (i.block == 0) e
       by_role i v role.Value r e = by_cell (i.block == 0) e
@@ -64,7 +73,8 @@ module _ (set : Setting) (free : IsFreeOfInterference set.program) where
       by_role i v role.Index r e = absurd (cc e)
       by_role i v role.Answer r e = by_cell (i.block == 0) e
 
-      by_variable : (v : Option Variable) → slice_get set.program.variables x ≡ v → stands_at (bottom ∷ []) x v ≡ Some l → Stands x l
+      by_variable : (v : Option Variable) → slice_get set.program.variables x ≡ v → stands_at (bottom ∷ []) x v ≡ Some l
+          → Stands x l
       by_variable None v e = absurd (cc e)
       by_variable (Some i) v e = by_role i v i.role refl e
 
@@ -96,7 +106,8 @@ module _ (set : Setting) (free : IsFreeOfInterference set.program) where
       two (suc a) zero la lb h k = absurd (cc h)
       two (suc a) (suc b) la lb h k = let s : suc a ≡ suc b = omega (arith, la, lb) in k s
 
-  touched : (u : Use) (x : ℕ) (l : Loc) → Touches set.program (bottom ∷ []) u x l → Right set.program (All First []) (All First []) u l × Stands x l
+  touched : (u : Use) (x : ℕ) (l : Loc) → Touches set.program (bottom ∷ []) u x l
+      → Right set.program (All First []) (All First []) u l × Stands x l
   touched (Target y) x l t = (right x l (where_is x l t.1), where_is x l t.1)
   touched (Seen y) x l t = (right x l (where_is x l t.1), where_is x l t.1)
   touched (CallOf f args) x l t = absurd t
@@ -104,7 +115,8 @@ module _ (set : Setting) (free : IsFreeOfInterference set.program) where
   touched (ForallOf y s) x l t = absurd t
   touched Stop x l t = absurd t
 
-  pub body_sound : (b : Block) → slice_get set.program.blocks 0 ≡ Some b → Sound set.program (All First []) (All First []) (bottom ∷ []) (In_stmt b.body)
+  pub body_sound : (b : Block) → slice_get set.program.blocks 0 ≡ Some b
+      → Sound set.program (All First []) (All First []) (bottom ∷ []) (In_stmt b.body)
   body_sound b e = record {
     allowed = λ bs u r x l t. (touched u x l t).0;
     apart = λ bs cs u v r k x y l n t z. differ x y l n (touched u x l t).1 (touched v y l z).1;
@@ -114,19 +126,29 @@ module _ (set : Setting) (free : IsFreeOfInterference set.program) where
   empty : Fit set.program (All First []) (All First []) (bottom ∷ []) (bottom ∷ []) []
   empty = record { linked = (refl, λ c f e. absurd (cc e), tt, tt); ready = tt; ends = refl }
 
-  main_fit : (bs : List Block) → ((b : Block) → slice_get bs 0 ≡ Some b → Sound set.program (All First []) (All First []) (bottom ∷ []) (In_stmt b.body)) → Fit set.program (All First []) (All First []) (bottom ∷ []) (bottom ∷ []) (main set bs)
+  main_fit : (bs : List Block) → ((b : Block) → slice_get bs 0 ≡ Some b
+      → Sound set.program (All First []) (All First []) (bottom ∷ []) (In_stmt b.body))
+      → Fit set.program (All First []) (All First []) (bottom ∷ []) (bottom ∷ []) (main set bs)
   main_fit [] h = empty
   main_fit (b ∷ bs) h = go (nat_lt set.limits.cells (size_of_frame set 0))
     where
-      go : (c : Bool) → Fit set.program (All First []) (All First []) (bottom ∷ []) (bottom ∷ []) (if c then Break fault.F12 ∷ [] else push b.body [])
+      go : (c : Bool) → Fit set.program (All First []) (All First []) (bottom ∷ []) (bottom ∷ [])
+          (if c then Break fault.F12 ∷ [] else push b.body [])
       go true = record { linked = (refl, λ c f e. absurd (cc e), tt, tt); ready = tt; ends = refl }
-      go false = push_good set.program (All First []) (All First []) (bottom ∷ []) (bottom ∷ []) b.body [] (h b refl) empty
+      go false = push_good set.program (All First []) (All First []) (bottom ∷ []) (bottom ∷ []) b.body [] (h b refl)
+          empty
 
   opened : Inv set.program First First (first_condition {O = Process} {V = Held} {T = Address} (root set)) (λ q. 0)
   opened = record { holds = holds; unborn = λ q k i h. refl; fair = first_fair; unknown = λ q k i l h g. g }
     where
-      holds : (q : Name) → Holds set.program First First (λ q. 0) q (first_condition {O = Process} {V = Held} {T = Address} (root set) q)
-      holds [] = record { named = refl; forked = refl; last = bottom ∷ []; fit = main_fit set.program.blocks (λ b e. body_sound b e) }
+      holds : (q : Name) → Holds set.program First First (λ q. 0) q
+          (first_condition {O = Process} {V = Held} {T = Address} (root set) q)
+      holds [] = record {
+        named = refl;
+        forked = refl;
+        last = bottom ∷ [];
+        fit = main_fit set.program.blocks (λ b e. body_sound b e);
+      }
       holds (a ∷ q) = refl
 
   -- the whole

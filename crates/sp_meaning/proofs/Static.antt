@@ -1,5 +1,6 @@
 -- Static links: what is visible from a frame is the same seen from the frames inside it.
-use Rattle.std.proofs.Common.{◌≡◌, ℕ, suc, ◌<◌, ◌≤◌, ◌==◌, Bool, true, false, List, [], ◌∷◌, length, Some, refl, sym, ap, ◌∙◌, subst, arith, if◌then◌else◌, eqb-true, eq-eqb}
+use Rattle.std.proofs.Common.{◌≡◌, ℕ, suc, ◌<◌, ◌≤◌, ◌==◌, Bool, true, false, List, [], ◌∷◌, length, Some, refl, sym}
+use Rattle.std.proofs.Common.{ap, ◌∙◌, subst, arith, if◌then◌else◌, eqb-true, eq-eqb}
 use Rattle.std.proofs.lemmas.Option.{same_Some}
 use Rattle.sp_meaning.specs.Own.{Home, OfBlock, OfIndex, Frame, seek, newest, is_block}
 use Rattle.sp_meaning.specs.Owning.{find, IsInside, Linked}
@@ -16,23 +17,29 @@ pub find_is : (fits : Home → Bool) (n : ℕ) (fs : List Frame) → newest (see
 find_is fits n [] = refl
 find_is fits n (f ∷ fs) = go (λ m. find_is fits m fs) (length (f ∷ fs) == n) (fits f.home)
   where
-    go : ((m : ℕ) → newest (seek fits m fs) ≡ find fits m fs) → (a b : Bool) → newest (if a then (if b then f ∷ fs else seek fits f.link fs) else seek fits n fs) ≡ (if a then (if b then Some f else find fits f.link fs) else find fits n fs)
+    go : ((m : ℕ) → newest (seek fits m fs) ≡ find fits m fs) → (a b : Bool)
+        → newest (if a then (if b then f ∷ fs else seek fits f.link fs) else seek fits n fs)
+        ≡ (if a then (if b then Some f else find fits f.link fs) else find fits n fs)
     go ih true true = refl
     go ih true false = ih f.link
     go ih false b = ih n
 
 -- it is found where the list is as long as its number and one more
-pub sought : (fits : Home → Bool) (n : ℕ) (fs : List Frame) (g : Frame) (gs : List Frame) → Linked fs → seek fits n fs ≡ g ∷ gs → (find fits n fs ≡ Some g) × (length (g ∷ gs) ≡ suc g.number)
+pub sought : (fits : Home → Bool) (n : ℕ) (fs : List Frame) (g : Frame) (gs : List Frame) → Linked fs
+    → seek fits n fs ≡ g ∷ gs → (find fits n fs ≡ Some g) × (length (g ∷ gs) ≡ suc g.number)
 sought fits n fs g gs l e = (sym (find_is fits n fs) ∙ ap newest e, numbered fits n fs g gs l e)
   where
     nil_is : (a : Frame) (rest : List Frame) → [] ≡ a ∷ rest → ⊥
     nil_is a rest e = cc e
 
-    numbered : (fits : Home → Bool) (n : ℕ) (fs : List Frame) (g : Frame) (gs : List Frame) → Linked fs → seek fits n fs ≡ g ∷ gs → length (g ∷ gs) ≡ suc g.number
+    numbered : (fits : Home → Bool) (n : ℕ) (fs : List Frame) (g : Frame) (gs : List Frame) → Linked fs
+        → seek fits n fs ≡ g ∷ gs → length (g ∷ gs) ≡ suc g.number
     numbered fits n [] g gs l e = absurd (nil_is g gs e)
     numbered fits n (f ∷ fs) g gs l e = go (λ m x. numbered fits m fs g gs l.3 x) (length (f ∷ fs) == n) (fits f.home) e
       where
-        go : ((m : ℕ) → seek fits m fs ≡ g ∷ gs → length (g ∷ gs) ≡ suc g.number) → (a b : Bool) → (if a then (if b then f ∷ fs else seek fits f.link fs) else seek fits n fs) ≡ g ∷ gs → length (g ∷ gs) ≡ suc g.number
+        go : ((m : ℕ) → seek fits m fs ≡ g ∷ gs → length (g ∷ gs) ≡ suc g.number) → (a b : Bool)
+            → (if a then (if b then f ∷ fs else seek fits f.link fs) else seek fits n fs) ≡ g ∷ gs
+            → length (g ∷ gs) ≡ suc g.number
         go ih true true e =
             let h : length (f ∷ fs) ≡ suc f.number = ap suc (sym l.0) in
             let tail : f ∷ fs ≡ g ∷ gs = e in
@@ -44,15 +51,19 @@ sought fits n fs g gs l e = (sym (find_is fits n fs) ∙ ap newest e, numbered f
         go ih true false e = ih f.link e
         go ih false b e = ih n e
 
-pub lower : (fits : Home → Bool) (n : ℕ) (fs : List Frame) (f : Frame) → Linked fs → find fits n fs ≡ Some f → f.number < length fs
+pub lower : (fits : Home → Bool) (n : ℕ) (fs : List Frame) (f : Frame) → Linked fs → find fits n fs ≡ Some f
+    → f.number < length fs
 lower fits n [] f l e = absurd (cc e)
 lower fits n (g ∷ fs) f l e = go (λ m x. lower fits m fs f l.3 x) (length (g ∷ fs) == n) e
   where
-    inner : ((m : ℕ) → find fits m fs ≡ Some f → f.number < length fs) → (b : Bool) → (if b then Some g else find fits g.link fs) ≡ Some f → f.number < suc (length fs)
+    inner : ((m : ℕ) → find fits m fs ≡ Some f → f.number < length fs) → (b : Bool)
+        → (if b then Some g else find fits g.link fs) ≡ Some f → f.number < suc (length fs)
     inner ih true e = let d : g ≡ f = same_Some g f e in omega (arith, sym (ap (λ (z : Frame). z.number) d) ∙ l.0)
     inner ih false e = omega (arith, ih g.link e)
 
-    go : ((m : ℕ) → find fits m fs ≡ Some f → f.number < length fs) → (b : Bool) → (if b then (if fits g.home then Some g else find fits g.link fs) else find fits n fs) ≡ Some f → f.number < suc (length fs)
+    go : ((m : ℕ) → find fits m fs ≡ Some f → f.number < length fs) → (b : Bool)
+        → (if b then (if fits g.home then Some g else find fits g.link fs) else find fits n fs) ≡ Some f
+        → f.number < suc (length fs)
     go ih true e = inner ih (fits g.home) e
     go ih false e = omega (arith, ih n e)
 
@@ -61,33 +72,48 @@ home_is c (OfBlock b) e = ap OfBlock (sym (eqb-true c b e))
 home_is c (OfIndex x n) e = absurd (cc e)
 
 -- from a frame of block c outward, block d's frame is the one that is seen through c's, and d is no inner block
-pub through : (c d n : ℕ) (f g : Frame) (fs : List Frame) → Linked fs → find (is_block c) n fs ≡ Some f → find (is_block d) (suc f.number) fs ≡ Some g → (find (is_block d) n fs ≡ Some g) × (d ≤ c)
+pub through : (c d n : ℕ) (f g : Frame) (fs : List Frame) → Linked fs → find (is_block c) n fs ≡ Some f
+    → find (is_block d) (suc f.number) fs ≡ Some g → (find (is_block d) n fs ≡ Some g) × (d ≤ c)
 through c d n f g [] l e h = absurd (cc e)
 through c d n f g (k ∷ fs) l e h = go (λ m x y. through c d m f g fs l.3 x y) (length (k ∷ fs) == n) e
   where
     skip : f.number < length fs → find (is_block d) (suc f.number) fs ≡ Some g
-    skip lt = subst (λ z. (if z then (if is_block d k.home then Some k else find (is_block d) k.link fs) else find (is_block d) (suc f.number) fs) ≡ Some g) (unequal (length (k ∷ fs)) (suc f.number) (omega (arith, lt))) h
+    skip lt = subst (λ z. (if z then (if is_block d k.home then Some k else find (is_block d) k.link fs) else
+        find (is_block d) (suc f.number) fs) ≡ Some g) (unequal (length (k ∷ fs)) (suc f.number) (omega (arith, lt))) h
 
-    deeper : (z : Bool) → is_block d k.home ≡ z → (find (is_block d) k.link fs ≡ Some g) × (d ≤ c) → ((if z then Some k else find (is_block d) k.link fs) ≡ Some g) × (d ≤ c)
+    deeper : (z : Bool) → is_block d k.home ≡ z → (find (is_block d) k.link fs ≡ Some g) × (d ≤ c)
+        → ((if z then Some k else find (is_block d) k.link fs) ≡ Some g) × (d ≤ c)
     deeper true m r = absurd (omega (arith, subst (λ x. IsInside x k.link fs) (home_is d k.home m) l.1 d g r.0))
     deeper false m r = r
 
-    same : (z : Bool) → is_block d k.home ≡ z → is_block c k.home ≡ true → (if z then Some k else find (is_block d) k.link fs) ≡ Some g → d ≤ c
+    same : (z : Bool) → is_block d k.home ≡ z → is_block c k.home ≡ true
+        → (if z then Some k else find (is_block d) k.link fs) ≡ Some g → d ≤ c
     same true m mc r =
         let e1 : OfBlock c ≡ OfBlock d = sym (home_is c k.home mc) ∙ home_is d k.home m in
         let e2 : c ≡ d = cc e1 in
         omega (arith, e2)
     same false m mc r = omega (arith, subst (λ x. IsInside x k.link fs) (home_is c k.home mc) l.1 d g r)
 
-    inner : ((m : ℕ) → find (is_block c) m fs ≡ Some f → find (is_block d) (suc f.number) fs ≡ Some g → (find (is_block d) m fs ≡ Some g) × (d ≤ c)) → (z : Bool) → is_block c k.home ≡ z → (if z then Some k else find (is_block c) k.link fs) ≡ Some f → ((if is_block d k.home then Some k else find (is_block d) k.link fs) ≡ Some g) × (d ≤ c)
+    inner : ((m : ℕ) → find (is_block c) m fs ≡ Some f → find (is_block d) (suc f.number) fs ≡ Some g
+        → (find (is_block d) m fs ≡ Some g) × (d ≤ c)) → (z : Bool) → is_block c k.home ≡ z
+        → (if z then Some k else find (is_block c) k.link fs) ≡ Some f
+        → ((if is_block d k.home then Some k else find (is_block d) k.link fs) ≡ Some g) × (d ≤ c)
     inner ih true m e =
         let k_is : k ≡ f = same_Some k f e in
-        let h1 : find (is_block d) (suc k.number) (k ∷ fs) ≡ Some g = subst (λ (z : Frame). find (is_block d) (suc z.number) (k ∷ fs) ≡ Some g) (sym k_is) h in
-        let h2 : (if is_block d k.home then Some k else find (is_block d) k.link fs) ≡ Some g = subst (λ z. (if z then (if is_block d k.home then Some k else find (is_block d) k.link fs) else find (is_block d) (suc k.number) fs) ≡ Some g) (eq-eqb (length (k ∷ fs)) (suc k.number) (ap suc (sym l.0))) h1 in
+        let h1 : find (is_block d) (suc k.number) (k ∷ fs) ≡ Some g =
+        subst (λ (z : Frame). find (is_block d) (suc z.number) (k ∷ fs) ≡ Some g) (sym k_is) h in
+        let h2 : (if is_block d k.home then Some k else find (is_block d) k.link fs) ≡ Some g =
+        subst (λ z. (if z then (if is_block d k.home then Some k else find (is_block d) k.link fs) else
+        find (is_block d) (suc k.number) fs) ≡ Some g) (eq-eqb (length (k ∷ fs)) (suc k.number) (ap suc (sym l.0)))
+        h1 in
         (h2, same (is_block d k.home) refl m h2)
     inner ih false m e = deeper (is_block d k.home) refl (ih k.link e (skip (lower (is_block c) k.link fs f l.3 e)))
 
-    go : ((m : ℕ) → find (is_block c) m fs ≡ Some f → find (is_block d) (suc f.number) fs ≡ Some g → (find (is_block d) m fs ≡ Some g) × (d ≤ c)) → (z : Bool) → (if z then (if is_block c k.home then Some k else find (is_block c) k.link fs) else find (is_block c) n fs) ≡ Some f
-        → ((if z then (if is_block d k.home then Some k else find (is_block d) k.link fs) else find (is_block d) n fs) ≡ Some g) × (d ≤ c)
+    go : ((m : ℕ) → find (is_block c) m fs ≡ Some f → find (is_block d) (suc f.number) fs ≡ Some g
+        → (find (is_block d) m fs ≡ Some g) × (d ≤ c)) → (z : Bool)
+        → (if z then (if is_block c k.home then Some k else find (is_block c) k.link fs) else find (is_block c) n fs)
+        ≡ Some f
+        → ((if z then (if is_block d k.home then Some k else find (is_block d) k.link fs) else find (is_block d) n fs)
+        ≡ Some g) × (d ≤ c)
     go ih true e = inner ih (is_block c k.home) refl e
     go ih false e = ih n e (skip (lower (is_block c) n fs f l.3 e))

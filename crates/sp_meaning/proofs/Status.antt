@@ -1,9 +1,12 @@
 -- What each condition of a process says of the others: who is running, who waits, whom a step meets.
-use Rattle.std.proofs.Common.{◌≡◌, ◌≢◌, ◌⊎◌, ⊎_elim, inl, inr, ℕ, zero, suc, ◌<◌, le_refl, true, false, cond, List, ◌∷◌, Some, None, nat_lt, refl, sym, ap, ◌∙◌, subst, arith}
+use Rattle.std.proofs.Common.{◌≡◌, ◌≢◌, ◌⊎◌, ⊎_elim, inl, inr, ℕ, zero, suc, ◌<◌, le_refl, true, false, cond, List, ◌∷◌}
+use Rattle.std.proofs.Common.{Some, None, nat_lt, refl, sym, ap, ◌∙◌, subst, arith}
 use Rattle.std.proofs.lemmas.Bool.{and_from}
 use Rattle.sp_base.proofs.Facts.{first_true, second_true}
-use Rattle.sp_meaning.specs.Model.{Name, Channel, Totals, Language, Moves, Opens, Forks, Offering, Ends, Fails, Condition, Absent, Works, Waits, Joins, Ended, State, Change, after}
-use Rattle.sp_meaning.specs.Steps.{ActOf, ConditionOf, has_ended, all_ended, working_in, working, Advances, acts, passed, cost, WaitsOn, Lives, JoinsAt, Sound}
+use Rattle.sp_meaning.specs.Model.{Name, Channel, Totals, Language, Moves, Opens, Forks, Offering, Ends, Fails}
+use Rattle.sp_meaning.specs.Model.{Condition, Absent, Works, Waits, Joins, Ended, State, Change, after}
+use Rattle.sp_meaning.specs.Steps.{ActOf, ConditionOf, has_ended, all_ended, working_in, working, Advances, acts}
+use Rattle.sp_meaning.specs.Steps.{passed, cost, WaitsOn, Lives, JoinsAt, Sound}
 use Rattle.sp_meaning.proofs.Frames.{IsOn, IsPartner, IsChild, IsNear, AllIn, all_in, condition_frame}
 
 -- p can step in s, and does so without a fault, by these changes
@@ -32,14 +35,16 @@ waits_stands c (Waits w) h k = k
 waits_stands c (Joins n m o) h k = h
 waits_stands c Ended h k = h
 
-pub working_stands : {O V T : Type 0} (m : Name → Condition O V T) (p : Name) (x : Condition O V T) (own : O) → working_in m p x ≡ Some own → Stands x
+pub working_stands : {O V T : Type 0} (m : Name → Condition O V T) (p : Name) (x : Condition O V T) (own : O)
+    → working_in m p x ≡ Some own → Stands x
 working_stands m p Absent own h = absurd (cc h)
 working_stands m p (Works o) own h = tt
 working_stands m p (Waits w) own h = absurd (cc h)
 working_stands m p (Joins k n o) own h = tt
 working_stands m p Ended own h = tt
 
-pub working_lives : {O V T : Type 0} (m : Name → Condition O V T) (p : Name) (x : Condition O V T) (own : O) → working_in m p x ≡ Some own → Lives x
+pub working_lives : {O V T : Type 0} (m : Name → Condition O V T) (p : Name) (x : Condition O V T) (own : O)
+    → working_in m p x ≡ Some own → Lives x
 working_lives m p Absent own h = absurd (cc h)
 working_lives m p (Works o) own h = tt
 working_lives m p (Waits w) own h = tt
@@ -60,41 +65,53 @@ ended_stands (Waits w) e = absurd (cc e)
 ended_stands (Joins k n o) e = tt
 ended_stands Ended e = tt
 
-ended_at : {O V T : Type 0} (m : Name → Condition O V T) (q : Name) (k n i : ℕ) → all_ended m q k n ≡ true → i < n → has_ended (m ((k, i) ∷ q)) ≡ true
+ended_at : {O V T : Type 0} (m : Name → Condition O V T) (q : Name) (k n i : ℕ) → all_ended m q k n ≡ true → i < n
+    → has_ended (m ((k, i) ∷ q)) ≡ true
 ended_at m q k zero i h lt = absurd (omega arith)
 ended_at m q k (suc n) i h lt = ⊎_elim
-    (λ (is : n ≡ i). subst (λ j. has_ended (m ((k, j) ∷ q)) ≡ true) is (first_true (has_ended (m ((k, n) ∷ q))) (all_ended m q k n) h))
+    (λ (is : n ≡ i). subst (λ j. has_ended (m ((k, j) ∷ q)) ≡ true) is
+    (first_true (has_ended (m ((k, n) ∷ q))) (all_ended m q k n) h))
     (λ (less : i < n). ended_at m q k n i (second_true (has_ended (m ((k, n) ∷ q))) (all_ended m q k n) h) less)
     (last n i lt)
   where
     last : (n i : ℕ) → i < suc n → (n ≡ i) ⊎ (i < n)
-    last n i lt = elim (nat_lt i n) as (λ b. nat_lt i n ≡ b → (n ≡ i) ⊎ (i < n)) [ true ↦ λ e. inr (grind (arith, e)) | false ↦ λ e. inl (grind (arith, e)) ] refl
+    last n i lt = elim (nat_lt i n) as (λ b. nat_lt i n ≡ b → (n ≡ i) ⊎ (i < n))
+        [ true ↦ λ e. inr (grind (arith, e)) | false ↦ λ e. inl (grind (arith, e)) ] refl
 
 -- a process whose children have ended is joined by none that lives
-pub working_joins : {O V T : Type 0} (m : Name → Condition O V T) (q : Name) (x : Condition O V T) (own : O) (k i : ℕ) → working_in m q x ≡ Some own → JoinsAt k i x → has_ended (m ((k, i) ∷ q)) ≡ true
+pub working_joins : {O V T : Type 0} (m : Name → Condition O V T) (q : Name) (x : Condition O V T) (own : O) (k i : ℕ)
+    → working_in m q x ≡ Some own → JoinsAt k i x → has_ended (m ((k, i) ∷ q)) ≡ true
 working_joins m q Absent own k i h j = absurd j
 working_joins m q (Works o) own k i h j = absurd j
 working_joins m q (Waits w) own k i h j = absurd j
-working_joins m q (Joins k' n o) own k i h j = ended_at m q k n i (elim (all_ended m q k' n) as (λ b. all_ended m q k' n ≡ b → cond b (Some o) None ≡ Some own → all_ended m q k n ≡ true) [
-  | true ↦ λ e f. subst (λ z. all_ended m q z n ≡ true) j.0 e
-  | false ↦ λ e f. absurd (cc f)
-] refl h) j.1
+working_joins m q (Joins k' n o) own k i h j =
+    ended_at m q k n i (elim (all_ended m q k' n) as
+    (λ b. all_ended m q k' n ≡ b → cond b (Some o) None ≡ Some own → all_ended m q k n ≡ true) [
+      | true ↦ λ e f. subst (λ z. all_ended m q z n ≡ true) j.0 e
+      | false ↦ λ e f. absurd (cc f)
+    ] refl h) j.1
 working_joins m q Ended own k i h j = absurd j
 
-all_ended_same : {O V T : Type 0} (m l : Name → Condition O V T) (q : Name) (k n : ℕ) → ((i : ℕ) → has_ended (m ((k, i) ∷ q)) ≡ true → l ((k, i) ∷ q) ≡ m ((k, i) ∷ q)) → all_ended m q k n ≡ true → all_ended l q k n ≡ true
+all_ended_same : {O V T : Type 0} (m l : Name → Condition O V T) (q : Name) (k n : ℕ)
+    → ((i : ℕ) → has_ended (m ((k, i) ∷ q)) ≡ true → l ((k, i) ∷ q) ≡ m ((k, i) ∷ q)) → all_ended m q k n ≡ true
+    → all_ended l q k n ≡ true
 all_ended_same m l q k zero h e = refl
 all_ended_same m l q k (suc n) h e =
     let one = first_true (has_ended (m ((k, n) ∷ q))) (all_ended m q k n) e in
-    and_from (has_ended (l ((k, n) ∷ q))) (all_ended l q k n) (rw (h n one) one) (all_ended_same m l q k n h (second_true (has_ended (m ((k, n) ∷ q))) (all_ended m q k n) e))
+    and_from (has_ended (l ((k, n) ∷ q))) (all_ended l q k n) (rw (h n one) one)
+    (all_ended_same m l q k n h (second_true (has_ended (m ((k, n) ∷ q))) (all_ended m q k n) e))
 
-pub working_same : {O V T : Type 0} (m l : Name → Condition O V T) (q : Name) (x : Condition O V T) (own : O) → ((k i : ℕ) → has_ended (m ((k, i) ∷ q)) ≡ true → l ((k, i) ∷ q) ≡ m ((k, i) ∷ q)) → working_in m q x ≡ Some own → working_in l q x ≡ Some own
+pub working_same : {O V T : Type 0} (m l : Name → Condition O V T) (q : Name) (x : Condition O V T) (own : O)
+    → ((k i : ℕ) → has_ended (m ((k, i) ∷ q)) ≡ true → l ((k, i) ∷ q) ≡ m ((k, i) ∷ q)) → working_in m q x ≡ Some own
+    → working_in l q x ≡ Some own
 working_same m l q Absent own h e = e
 working_same m l q (Works o) own h e = e
 working_same m l q (Waits w) own h e = e
-working_same m l q (Joins k n o) own h e = elim (all_ended m q k n) as (λ b. all_ended m q k n ≡ b → cond b (Some o) None ≡ Some own → cond (all_ended l q k n) (Some o) None ≡ Some own) [
-  | true ↦ λ a f. rw (all_ended_same m l q k n (h k) a) f
-  | false ↦ λ a f. absurd (cc f)
-] refl e
+working_same m l q (Joins k n o) own h e = elim (all_ended m q k n) as
+    (λ b. all_ended m q k n ≡ b → cond b (Some o) None ≡ Some own → cond (all_ended l q k n) (Some o) None ≡ Some own) [
+      | true ↦ λ a f. rw (all_ended_same m l q k n (h k) a) f
+      | false ↦ λ a f. absurd (cc f)
+    ] refl e
 working_same m l q Ended own h e = e
 
 module _ {L : Language} (s : State L) (p : Name) where
@@ -115,7 +132,9 @@ module _ {L : Language} (s : State L) (p : Name) where
   child_below (Fails f) r h = absurd h
 
   pub near_stands : Sound s → (a : ActOf L) (r : Name) → r ≢ p → IsNear s p a r → Stands (s.condition r) → ⊥
-  near_stands sound a r apart n st = ⊎_elim apart (⊎_elim (λ (h : IsPartner s a r). partner a h) (λ (h : IsChild s p a r). subst (λ (c : ConditionOf L). Stands c) (child_absent sound a r h) st)) n
+  near_stands sound a r apart n st = ⊎_elim apart
+      (⊎_elim (λ (h : IsPartner s a r). partner a h)
+      (λ (h : IsChild s p a r). subst (λ (c : ConditionOf L). Stands c) (child_absent sound a r h) st)) n
     where
       partner : (a : ActOf L) → IsPartner s a r → ⊥
       partner (Offering o) h = waits_stands o.channel (s.condition r) (sound.waits o.channel r h) st
@@ -143,7 +162,8 @@ pub waits_absent : {O V T : Type 0} (c : Channel) (x : Condition O V T) → Wait
 waits_absent c x h e = subst (WaitsOn c) e h
 
 -- What p changes is not of q, nor of whom q meets
-module _ {L : Language} {limits : Totals} (s : State L) (p : Name) (cs : List (Change L)) (sound : Sound s) (does : Makes limits s p cs) where
+module _ {L : Language} {limits : Totals} (s : State L) (p : Name) (cs : List (Change L)) (sound : Sound s)
+    (does : Makes limits s p cs) where
   abbrev pub act_of : ActOf L
   act_of = L.next does.own s.store
 
@@ -160,15 +180,19 @@ module _ {L : Language} {limits : Totals} (s : State L) (p : Name) (cs : List (C
   keeps_working q own apart w =
       let e = keeps_condition q apart (working_stands s.condition q (s.condition q) own w) in
       rw e (working_same s.condition (after cs s).condition q (s.condition q) own (λ k i ended.
-      keeps_condition ((k, i) ∷ q) (λ e. lives_ended (s.condition p) (working_lives s.condition p (s.condition p) does.own does.works) (subst (λ z. has_ended (s.condition z) ≡ true) e ended)) (ended_stands (s.condition ((k, i) ∷ q)) ended)) w)
+      keeps_condition ((k, i) ∷ q) (λ e. lives_ended (s.condition p)
+      (working_lives s.condition p (s.condition p) does.own does.works)
+      (subst (λ z. has_ended (s.condition z) ≡ true) e ended)) (ended_stands (s.condition ((k, i) ∷ q)) ended)) w)
 
   joins : (q : Name) (h : IsParent q p) → JoinsAt (h.0).0 (h.0).1 (s.condition q)
-  joins q h = sound.joined q (h.0).0 (h.0).1 (subst (λ z. Lives (s.condition z)) h.1 (working_lives s.condition p (s.condition p) does.own does.works))
+  joins q h = sound.joined q (h.0).0 (h.0).1
+      (subst (λ z. Lives (s.condition z)) h.1 (working_lives s.condition p (s.condition p) does.own does.works))
 
   pub working_no_parent : (q : Name) (own : L.Own) → working s q ≡ Some own → IsParent q p → ⊥
   working_no_parent q own w h =
       let e = working_joins s.condition q (s.condition q) own (h.0).0 (h.0).1 w (joins q h) in
-      lives_ended (s.condition p) (working_lives s.condition p (s.condition p) does.own does.works) (subst (λ z. has_ended (s.condition z) ≡ true) (sym h.1) e)
+      lives_ended (s.condition p) (working_lives s.condition p (s.condition p) does.own does.works)
+      (subst (λ z. has_ended (s.condition z) ≡ true) (sym h.1) e)
 
   pub waiting_no_parent : (c : Channel) (q : Name) → WaitsOn c (s.condition q) → IsParent q p → ⊥
   waiting_no_parent c q w h = waits_joins c (h.0).0 (h.0).1 (s.condition q) w (joins q h)
@@ -183,8 +207,11 @@ module _ {L : Language} {limits : Totals} (s : State L) (p : Name) (cs : List (C
 
   pub waiting_far : (c : Channel) (z : Name) → WaitsOn c (s.condition z) → (IsOn act_of c → ⊥) → IsNear s p act_of z → ⊥
   waiting_far c z w off n = ⊎_elim
-      (λ (e : z ≡ p). waits_stands c (s.condition z) w (subst (λ r. Stands (s.condition r)) (sym e) (working_stands s.condition p (s.condition p) does.own does.works)))
+      (λ (e : z ≡ p). waits_stands c (s.condition z) w
+      (subst (λ r. Stands (s.condition r)) (sym e)
+      (working_stands s.condition p (s.condition p) does.own does.works)))
       (⊎_elim
-      (λ (h : IsPartner s act_of z). let k = on_partner act_of z h in off (subst (IsOn act_of) (waits_one k.0 c (s.condition z) k.2 w) k.1))
+      (λ (h : IsPartner s act_of z). let k = on_partner act_of z h in
+      off (subst (IsOn act_of) (waits_one k.0 c (s.condition z) k.2 w) k.1))
       (λ (h : IsChild s p act_of z). waits_absent c (s.condition z) w (child_absent s p sound act_of z h)))
       n

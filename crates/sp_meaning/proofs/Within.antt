@@ -1,5 +1,6 @@
 -- What the evaluation of an expression reads and writes is the process's to read and write.
-use Rattle.std.proofs.Common.{◌≡◌, inl, inr, sym, ap, ◌∙◌, subst, ℕ, Bool, true, false, List, [], ◌∷◌, Option, Some, None, refl, length, if◌then◌else◌}
+use Rattle.std.proofs.Common.{◌≡◌, inl, inr, sym, ap, ◌∙◌, subst, ℕ, Bool, true, false, List, [], ◌∷◌, Option, Some}
+use Rattle.std.proofs.Common.{None, refl, length, if◌then◌else◌}
 use Rattle.std.specs.Prelude.{ℤ, ◌-ℤ◌, nat_abs, slice_get, int_le, ◌&&◌, ◌++◌}
 use Rattle.sp_base.specs.declared.fault.Fault.{Fault}
 use Rattle.sp_base.specs.declared.fault.Fault.TheVariants as fault
@@ -11,17 +12,25 @@ use Rattle.sp_tree.specs.declared.operators.BinaryOp.{BinaryOp}
 use Rattle.sp_tree.specs.declared.operators.BinaryOp.TheVariants as binary
 use Rattle.sp_tree.specs.declared.operators.StandardFn.{StandardFn}
 use Rattle.sp_tree.specs.declared.operators.StandardFn.TheVariants as standard
-use Rattle.sp_tree.specs.Plain.{Expr, Typed, ExprForm, Number, Read, Unary, Binary, Apply, Standard, AtInput, Var, Entire, Index, Field, Selectors, Whole, Select, ByValue, ByReference, Actuals, Nothing, Pass, Program, Variable}
+use Rattle.sp_tree.specs.Plain.{Expr, Typed, ExprForm, Number, Read, Unary, Binary, Apply, Standard, AtInput, Var}
+use Rattle.sp_tree.specs.Plain.{Entire, Index, Field, Selectors, Whole, Select, ByValue, ByReference, Actuals, Nothing}
+use Rattle.sp_tree.specs.Plain.{Pass, Program, Variable}
 use Rattle.sp_meaning.specs.Model.{Channel, Name}
 use Rattle.sp_meaning.specs.Asking.{Asking, Done, Loads, Puts, and_then}
 use Rattle.sp_meaning.specs.Values.{Value, Undefined, Ordinal, Chan, Parts}
-use Rattle.sp_meaning.specs.Own.{Setting, Loc, Input, Output, Held, Address, Home, OfBlock, OfIndex, Frame, Own, Who, Came, Got, Bad, Lost, Long, Work, bind, go_on, give, fail, lost, look, put, fetch, assign, or_lost, visible, seen, is_block, is_index, referred}
+use Rattle.sp_meaning.specs.Own.{Setting, Loc, Input, Output, Held, Address, Home, OfBlock, OfIndex, Frame, Own, Who}
+use Rattle.sp_meaning.specs.Own.{Came, Got, Bad, Lost, Long, Work, bind, go_on, give, fail, lost, look, put, fetch}
+use Rattle.sp_meaning.specs.Own.{assign, or_lost, visible, seen, is_block, is_index, referred}
 use Rattle.sp_meaning.specs.Operators.{Worked, Yields, Faults}
-use Rattle.sp_meaning.specs.Eval.{Place, At, Fixed, Given, Calls, work_of, as_ordinal, ordinal, channel, channels_op, operate, standard_op, input_op, ordinal_read, channel_read, checked, element_at, field_kind, kind_at, indexed, fielded, read_at, address_of, index_in, place_by, place_of, left_of, value, form_value, place, selected, actuals, address, ordinal_of}
+use Rattle.sp_meaning.specs.Eval.{Place, At, Fixed, Given, Calls, work_of, as_ordinal, ordinal, channel, channels_op}
+use Rattle.sp_meaning.specs.Eval.{operate, standard_op, input_op, ordinal_read, channel_read, checked, element_at}
+use Rattle.sp_meaning.specs.Eval.{field_kind, kind_at, indexed, fielded, read_at, address_of, index_in, place_by}
+use Rattle.sp_meaning.specs.Eval.{place_of, left_of, value, form_value, place, selected, actuals, address, ordinal_of}
 use Rattle.sp_tree.specs.Uses.{Use, Target, Seen, In_expr, In_form, In_target, In_selectors, In_actuals, In_call}
 use Rattle.sp_tree.specs.Sets.{Reach}
 use Rattle.sp_tree.specs.Interference.{IsFreeOfInterference}
-use Rattle.sp_meaning.specs.Owning.{find, cell_of, spot_of, reference_of, console, stands_by, stands_at, stands, Sound, Gave}
+use Rattle.sp_meaning.specs.Owning.{find, cell_of, spot_of, reference_of, console, stands_by, stands_at, stands, Sound}
+use Rattle.sp_meaning.specs.Owning.{Gave}
 use Rattle.sp_meaning.proofs.Static.{find_is}
 
 -- what a computation reads and writes is R's and W's, and what it comes to has this fact
@@ -33,7 +42,9 @@ Within W R F (Done Long) = Unit {0}
 Within W R F (Loads l more) = R l × ((h : Held) → Within W R F (more h))
 Within W R F (Puts l h more) = W l × Within W R F more
 
-pub within_then : {A B : Type 0} (W R : Loc → Type 0) (F : A → Own → Type 0) (G : B → Own → Type 0) (x : Asking Loc Held (Came A)) (g : A → Work B) (w : Who) → Within W R F x → ((a : A) (o : Own) → F a o → Within W R G (g a w o)) → Within W R G (and_then x (λ r. go_on g w r))
+pub within_then : {A B : Type 0} (W R : Loc → Type 0) (F : A → Own → Type 0) (G : B → Own → Type 0)
+    (x : Asking Loc Held (Came A)) (g : A → Work B) (w : Who) → Within W R F x
+    → ((a : A) (o : Own) → F a o → Within W R G (g a w o)) → Within W R G (and_then x (λ r. go_on g w r))
 within_then W R F G (Done (Got a o)) g w h k = k a o h
 within_then W R F G (Done (Bad f)) g w h k = tt
 within_then W R F G (Done Lost) g w h k = tt
@@ -42,11 +53,13 @@ within_then W R F G (Loads l more) g w h k = (h.0, λ v. within_then W R F G (mo
 within_then W R F G (Puts l v more) g w h k = (h.0, within_then W R F G more g w h.1 k)
 
 -- what stands in a part is sound where the whole is
-pub reach_part : (p : Program) {Here Above : Use → Type 0} → ((u : Use) → Here u → Above u) → (bs : List ℕ) (u : Use) → Reach p Here bs u → Reach p Above bs u
+pub reach_part : (p : Program) {Here Above : Use → Type 0} → ((u : Use) → Here u → Above u) → (bs : List ℕ) (u : Use)
+    → Reach p Here bs u → Reach p Above bs u
 reach_part p i [] u r = i u r
 reach_part p i (b ∷ bs) u r = (r.0, i _ r.1, r.2, r.3, r.4, r.5)
 
-pub part : {p : Program} {W R : Loc → Type 0} {fs : List Frame} {Here Above : Use → Type 0} → ((u : Use) → Here u → Above u) → Sound p W R fs Above → Sound p W R fs Here
+pub part : {p : Program} {W R : Loc → Type 0} {fs : List Frame} {Here Above : Use → Type 0}
+    → ((u : Use) → Here u → Above u) → Sound p W R fs Above → Sound p W R fs Here
 part {p} i s = record {
   allowed = λ bs u r. s.allowed bs u (reach_part p i bs u r);
   apart = λ bs cs u v r t. s.apart bs cs u v (reach_part p i bs u r) (reach_part p i cs v t);
@@ -54,7 +67,8 @@ part {p} i s = record {
 }
 
 -- begun by q with these frames it keeps within W and R, and then these frames stand again, and its value has this fact
-pub record Keeps {A : Type 0} (q : Name) (W R : Loc → Type 0) (fs : List Frame) (F : A → Type 0) (h : Work A) : Type 0 where
+pub record Keeps {A : Type 0} (q : Name) (W R : Loc → Type 0) (fs : List Frame) (F : A → Type 0) (h : Work A) : Type
+    0 where
   pub by : (w : Who) (o : Own) → w.name ≡ q → o.frames ≡ fs → Within W R (λ a o1. (o1.frames ≡ fs) × F a) (h w o)
 
 abbrev pub variable_of : Var → ℕ
@@ -70,10 +84,16 @@ module _ (q : Name) (W R : Loc → Type 0) (fs : List Frame) where
   abbrev pub Stays : {A : Type 0} → Work A → Type 0
   Stays h = Keeps q W R fs Any h
 
-  pub then_keeps : {A B : Type 0} {F : A → Type 0} {G : B → Type 0} (h : Work A) (g : A → Work B) → Keeps q W R fs F h → ((a : A) → F a → Keeps q W R fs G (g a)) → Keeps q W R fs G (bind h g)
-  then_keeps {F = F} {G = G} h g a b = record { by = λ w o n e. within_then W R (λ x o1. (o1.frames ≡ fs) × F x) (λ x o1. (o1.frames ≡ fs) × G x) (h w o) g w (a.by w o n e) (λ x o1 f. (b x f.1).by w o1 n f.0) }
+  pub then_keeps : {A B : Type 0} {F : A → Type 0} {G : B → Type 0} (h : Work A) (g : A → Work B) → Keeps q W R fs F h
+      → ((a : A) → F a → Keeps q W R fs G (g a)) → Keeps q W R fs G (bind h g)
+  then_keeps {F = F} {G = G} h g a b = record {
+    by =
+        λ w o n e. within_then W R (λ x o1. (o1.frames ≡ fs) × F x) (λ x o1. (o1.frames ≡ fs) × G x) (h w o) g w
+        (a.by w o n e) (λ x o1 f. (b x f.1).by w o1 n f.0);
+  }
 
-  pub then_stays : {A B : Type 0} {G : B → Type 0} (h : Work A) (g : A → Work B) → Stays h → ((a : A) → Keeps q W R fs G (g a)) → Keeps q W R fs G (bind h g)
+  pub then_stays : {A B : Type 0} {G : B → Type 0} (h : Work A) (g : A → Work B) → Stays h
+      → ((a : A) → Keeps q W R fs G (g a)) → Keeps q W R fs G (bind h g)
   then_stays h g a b = then_keeps h g a (λ x u. b x)
 
   pub give_keeps : {A : Type 0} {F : A → Type 0} (a : A) → F a → Keeps q W R fs F (give a)
@@ -119,8 +139,10 @@ module _ (q : Name) (W R : Loc → Type 0) (fs : List Frame) where
 
   pub visible_keeps : (fits : Home → Bool) → Keeps q W R fs (Is (find fits (length fs) fs)) (visible fits)
   visible_keeps fits = record {
-    by = λ w o n e. subst (λ z. Within W R (λ a o1. (o1.frames ≡ fs) × Is (find fits (length fs) fs) a) (or_lost (seen fits z) w o)) (sym e)
-        (subst (λ x. Within W R (λ a o1. (o1.frames ≡ fs) × Is (find fits (length fs) fs) a) (or_lost x w o)) (sym (find_is fits (length fs) fs)) ((or_lost_keeps (find fits (length fs) fs)).by w o n e));
+    by = λ w o n e. subst (λ z. Within W R (λ a o1. (o1.frames ≡ fs) × Is (find fits (length fs) fs) a)
+        (or_lost (seen fits z) w o)) (sym e)
+        (subst (λ x. Within W R (λ a o1. (o1.frames ≡ fs) × Is (find fits (length fs) fs) a) (or_lost x w o))
+        (sym (find_is fits (length fs) fs)) ((or_lost_keeps (find fits (length fs) fs)).by w o n e));
   }
 
   work_stays : (x : Worked) → Stays (work_of x)
@@ -212,14 +234,17 @@ module _ (q : Name) (W R : Loc → Type 0) (fs : List Frame) where
   Of x (At a) = x ≡ Some a.spot
   Of x (Fixed n) = Unit {0}
 
-  element_keeps : (x : Option Loc) (a : Address) (n : ℤ) (k : KindOf) → x ≡ Some a.spot → Keeps q W R fs (Of x) (element_at a n k)
+  element_keeps : (x : Option Loc) (a : Address) (n : ℤ) (k : KindOf) → x ≡ Some a.spot
+      → Keeps q W R fs (Of x) (element_at a n k)
   element_keeps x a n kind.Integer e = lost_keeps
   element_keeps x a n kind.Boolean e = lost_keeps
   element_keeps x a n kind.Char e = lost_keeps
   element_keeps x a n (kind.Enumeration m) e = lost_keeps
   element_keeps x a n (kind.Array low high index element) e = go (int_le low n && int_le n high)
     where
-      go : (b : Bool) → Keeps q W R fs (Of x) (if b then give (At (record { spot = a.spot; path = a.path ++ nat_abs (n -ℤ low) ∷ []; kind = element })) else fail fault.F1)
+      go : (b : Bool) → Keeps q W R fs (Of x)
+          (if b then give (At (record { spot = a.spot; path = a.path ++ nat_abs (n -ℤ low) ∷ []; kind = element })) else
+          fail fault.F1)
       go true = give_keeps _ e
       go false = fail_keeps fault.F1
   element_keeps x a n (kind.Fields fs) e = lost_keeps
@@ -234,7 +259,8 @@ module _ (q : Name) (W R : Loc → Type 0) (fs : List Frame) where
     indexed_keeps x (Fixed m) n e = lost_keeps
 
     fielded_keeps : (x : Option Loc) (f : ℕ) (z : Place) → Of x z → Keeps q W R fs (Of x) (fielded set f z)
-    fielded_keeps x f (At a) e = then_stays (kind_at set a.kind) _ (kind_stays a.kind) (λ k. then_stays (or_lost (field_kind f k)) _ (or_lost_stays _) (λ u. give_keeps _ e))
+    fielded_keeps x f (At a) e = then_stays (kind_at set a.kind) _ (kind_stays a.kind)
+        (λ k. then_stays (or_lost (field_kind f k)) _ (or_lost_stays _) (λ u. give_keeps _ e))
     fielded_keeps x f (Fixed m) e = lost_keeps
 
     -- a place whose entire variable may be read, or may be written
@@ -243,7 +269,8 @@ module _ (q : Name) (W R : Loc → Type 0) (fs : List Frame) where
     MayRead (Fixed n) = Unit {0}
 
     pub read_stays : (z : Place) → MayRead z → Stays (read_at set z)
-    read_stays (At a) r = then_stays (kind_at set a.kind) _ (kind_stays a.kind) (λ k. then_stays (fetch a) _ (fetch_stays a r) (λ v. checked_stays k v))
+    read_stays (At a) r = then_stays (kind_at set a.kind) _ (kind_stays a.kind)
+        (λ k. then_stays (fetch a) _ (fetch_stays a r) (λ v. checked_stays k v))
     read_stays (Fixed n) r = give_stays _
 
     abbrev pub Entirely : Option Loc → Address → Type 0
@@ -259,16 +286,23 @@ module _ (q : Name) (W R : Loc → Type 0) (fs : List Frame) where
 
     place_by_keeps : (x : ℕ) (i : Variable) (r : Role) → Keeps q W R fs (Of (stands_by fs x i r)) (place_by set x i r)
     place_by_keeps x i role.Console = lost_keeps
-    place_by_keeps x i role.Local = then_keeps (visible (is_block i.block)) _ (visible_keeps _) (λ f e. give_keeps _ (ap (cell_of x) e))
-    place_by_keeps x i role.Value = then_keeps (visible (is_block i.block)) _ (visible_keeps _) (λ f e. give_keeps _ (ap (cell_of x) e))
-    place_by_keeps x i role.Reference = then_keeps (visible (is_block i.block)) _ (visible_keeps _) (λ f e. then_keeps (or_lost (referred x f.references)) _ (or_lost_keeps _) (λ a d. give_keeps _ (ap (reference_of x) e ∙ ap spot_of d)))
-    place_by_keeps x i role.Index = then_keeps (visible (is_index x)) _ (visible_keeps _) (λ f e. index_in_keeps None f.home)
-    place_by_keeps x i role.Answer = then_keeps (visible (is_block i.block)) _ (visible_keeps _) (λ f e. give_keeps _ (ap (cell_of x) e))
+    place_by_keeps x i role.Local = then_keeps (visible (is_block i.block)) _ (visible_keeps _)
+        (λ f e. give_keeps _ (ap (cell_of x) e))
+    place_by_keeps x i role.Value = then_keeps (visible (is_block i.block)) _ (visible_keeps _)
+        (λ f e. give_keeps _ (ap (cell_of x) e))
+    place_by_keeps x i role.Reference = then_keeps (visible (is_block i.block)) _ (visible_keeps _)
+        (λ f e. then_keeps (or_lost (referred x f.references)) _ (or_lost_keeps _)
+        (λ a d. give_keeps _ (ap (reference_of x) e ∙ ap spot_of d)))
+    place_by_keeps x i role.Index = then_keeps (visible (is_index x)) _ (visible_keeps _)
+        (λ f e. index_in_keeps None f.home)
+    place_by_keeps x i role.Answer = then_keeps (visible (is_block i.block)) _ (visible_keeps _)
+        (λ f e. give_keeps _ (ap (cell_of x) e))
 
     pub place_of_keeps : (x : ℕ) → Keeps q W R fs (Of (stands set.program fs x)) (place_of set x)
     place_of_keeps x = go (slice_get set.program.variables x)
       where
-        go : (v : Option Variable) → Keeps q W R fs (Of (stands_at fs x v)) (bind (or_lost v) (λ i. place_by set x i i.role))
+        go : (v : Option Variable) → Keeps q W R fs (Of (stands_at fs x v))
+            (bind (or_lost v) (λ i. place_by set x i i.role))
         go None = record { by = λ w o n e. tt }
         go (Some i) = record { by = λ w o n e. (place_by_keeps x i i.role).by w o n e }
 
@@ -278,9 +312,11 @@ module _ (q : Name) (W R : Loc → Type 0) (fs : List Frame) where
 
       -- calls keep within what their call may do
       pub record CallsKeep (call : Calls) : Type 0 where
-        pub by : (f : ℕ) (args : Actuals) (gs : List Given) → IsSound (In_call f args) → Gave set.program fs args gs → Stays (call f gs)
+        pub by : (f : ℕ) (args : Actuals) (gs : List Given) → IsSound (In_call f args) → Gave set.program fs args gs
+            → Stays (call f gs)
 
-      at_console : (x : ℕ) → (i : Variable) × (slice_get set.program.variables x ≡ Some i) × (i.role ≡ role.Console) → stands set.program fs x ≡ Some (console x)
+      at_console : (x : ℕ) → (i : Variable) × (slice_get set.program.variables x ≡ Some i) × (i.role ≡ role.Console)
+          → stands set.program fs x ≡ Some (console x)
       at_console x c = ap (stands_at fs x) c.1 ∙ ap (stands_by fs x c.0) c.2
 
       pub input_read : {Here : Use → Type 0} → IsSound Here → Here (Seen 0) → R Input
@@ -295,7 +331,8 @@ module _ (q : Name) (W R : Loc → Type 0) (fs : List Frame) where
       pub left_stays : R Input → Stays (left_of set)
       left_stays r = then_stays (look Input) _ (look_stays Input r) (λ h. give_stays _)
 
-      may_read : {Here : Use → Type 0} → IsSound Here → (x : ℕ) → Here (Seen x) → (z : Place) → Of (stands set.program fs x) z → MayRead z
+      may_read : {Here : Use → Type 0} → IsSound Here → (x : ℕ) → Here (Seen x) → (z : Place)
+          → Of (stands set.program fs x) z → MayRead z
       may_read s x a (At z) e = s.allowed [] (Seen x) a x z.spot (refl, e)
       may_read s x a (Fixed n) e = tt
 
@@ -303,41 +340,72 @@ module _ (q : Name) (W R : Loc → Type 0) (fs : List Frame) where
         pub value_stays : (call : Calls) → CallsKeep call → (e : Expr) → IsSound (In_expr e) → Stays (value set call e)
         value_stays call ok (Typed k form) s = form_stays call ok k form s
 
-        form_stays : (call : Calls) → CallsKeep call → (k : ℕ) (e : ExprForm) → IsSound (In_form e) → Stays (form_value set call k e)
+        form_stays : (call : Calls) → CallsKeep call → (k : ℕ) (e : ExprForm) → IsSound (In_form e)
+            → Stays (form_value set call k e)
         form_stays call ok k (Number n) s = give_stays _
-        form_stays call ok k (Read (Entire x ss)) s = then_keeps (place set call (Entire x ss)) _ (place_keeps call ok (Entire x ss) (part (λ u. inr) s)) (λ z e. read_stays z (may_read s x (inl refl) z e))
-        form_stays call ok k (Unary op a) s = then_stays (as_ordinal (value set call a)) _ (as_ordinal_stays _ (value_stays call ok a s)) (λ n. work_stays _)
-        form_stays call ok k (Binary op a b) s = then_stays (value set call a) _ (value_stays call ok a (part (λ u. inl) s)) (λ v. then_stays (value set call b) _ (value_stays call ok b (part (λ u. inr) s)) (λ w. operate_stays op v w))
-        form_stays call ok k (Apply f args) s = then_keeps (actuals set call args) _ (actuals_keeps call ok args (part (λ u. inr) s)) (λ gs g. ok.by f args gs s g)
+        form_stays call ok k (Read (Entire x ss)) s =
+            then_keeps (place set call (Entire x ss)) _ (place_keeps call ok (Entire x ss) (part (λ u. inr) s))
+            (λ z e. read_stays z (may_read s x (inl refl) z e))
+        form_stays call ok k (Unary op a) s =
+            then_stays (as_ordinal (value set call a)) _ (as_ordinal_stays _ (value_stays call ok a s))
+            (λ n. work_stays _)
+        form_stays call ok k (Binary op a b) s =
+            then_stays (value set call a) _ (value_stays call ok a (part (λ u. inl) s))
+            (λ v. then_stays (value set call b) _ (value_stays call ok b (part (λ u. inr) s))
+            (λ w. operate_stays op v w))
+        form_stays call ok k (Apply f args) s =
+            then_keeps (actuals set call args) _ (actuals_keeps call ok args (part (λ u. inr) s))
+            (λ gs g. ok.by f args gs s g)
         form_stays call ok k (Standard f a) s =
-            then_stays (as_ordinal (value set call a)) _ (as_ordinal_stays _ (value_stays call ok a s)) (λ n. then_stays (kind_at set k) _ (kind_stays k) (λ u. standard_stays f u n))
-        form_stays call ok k (AtInput f) s = then_stays (left_of set) _ (left_stays (input_read s refl)) (λ bs. input_stays f bs)
+            then_stays (as_ordinal (value set call a)) _ (as_ordinal_stays _ (value_stays call ok a s))
+            (λ n. then_stays (kind_at set k) _ (kind_stays k) (λ u. standard_stays f u n))
+        form_stays call ok k (AtInput f) s =
+            then_stays (left_of set) _ (left_stays (input_read s refl)) (λ bs. input_stays f bs)
 
-        pub place_keeps : (call : Calls) → CallsKeep call → (v : Var) → IsSound (In_selectors (selectors_of v)) → Keeps q W R fs (Of (stands set.program fs (variable_of v))) (place set call v)
-        place_keeps call ok (Entire x ss) s = then_keeps (place_of set x) _ (place_of_keeps x) (λ z e. selected_keeps call ok (stands set.program fs x) ss z e s)
+        pub place_keeps : (call : Calls) → CallsKeep call → (v : Var) → IsSound (In_selectors (selectors_of v))
+            → Keeps q W R fs (Of (stands set.program fs (variable_of v))) (place set call v)
+        place_keeps call ok (Entire x ss) s =
+            then_keeps (place_of set x) _ (place_of_keeps x)
+            (λ z e. selected_keeps call ok (stands set.program fs x) ss z e s)
 
-        selected_keeps : (call : Calls) → CallsKeep call → (x : Option Loc) (ss : Selectors) (z : Place) → Of x z → IsSound (In_selectors ss) → Keeps q W R fs (Of x) (selected set call ss z)
+        selected_keeps : (call : Calls) → CallsKeep call → (x : Option Loc) (ss : Selectors) (z : Place) → Of x z
+            → IsSound (In_selectors ss) → Keeps q W R fs (Of x) (selected set call ss z)
         selected_keeps call ok x Whole z e s = give_keeps z e
         selected_keeps call ok x (Select (Index i) rest) z e s =
-            then_stays (as_ordinal (value set call i)) _ (as_ordinal_stays _ (value_stays call ok i (part (λ u. inl) s))) (λ n. then_keeps (indexed set z n) _ (indexed_keeps x z n e) (λ r d. selected_keeps call ok x rest r d (part (λ u. inr) s)))
-        selected_keeps call ok x (Select (Field f) rest) z e s = then_keeps (fielded set f z) _ (fielded_keeps x f z e) (λ r d. selected_keeps call ok x rest r d s)
+            then_stays (as_ordinal (value set call i)) _
+            (as_ordinal_stays _ (value_stays call ok i (part (λ u. inl) s)))
+            (λ n. then_keeps (indexed set z n) _ (indexed_keeps x z n e)
+            (λ r d. selected_keeps call ok x rest r d (part (λ u. inr) s)))
+        selected_keeps call ok x (Select (Field f) rest) z e s =
+            then_keeps (fielded set f z) _ (fielded_keeps x f z e) (λ r d. selected_keeps call ok x rest r d s)
 
-        pub actuals_keeps : (call : Calls) → CallsKeep call → (args : Actuals) → IsSound (In_actuals args) → Keeps q W R fs (Gave set.program fs args) (actuals set call args)
+        pub actuals_keeps : (call : Calls) → CallsKeep call → (args : Actuals) → IsSound (In_actuals args)
+            → Keeps q W R fs (Gave set.program fs args) (actuals set call args)
         actuals_keeps call ok Nothing s = give_keeps _ tt
-        actuals_keeps call ok (Pass (ByValue e) rest) s = then_stays (value set call e) _ (value_stays call ok e (part (λ u. inl) s)) (λ v. then_keeps (actuals set call rest) _ (actuals_keeps call ok rest (part (λ u. inr) s)) (λ gs g. give_keeps _ g))
+        actuals_keeps call ok (Pass (ByValue e) rest) s =
+            then_stays (value set call e) _ (value_stays call ok e (part (λ u. inl) s))
+            (λ v. then_keeps (actuals set call rest) _ (actuals_keeps call ok rest (part (λ u. inr) s))
+            (λ gs g. give_keeps _ g))
         actuals_keeps call ok (Pass (ByReference (Entire x ss)) rest) s =
-            then_keeps (place set call (Entire x ss)) _ (place_keeps call ok (Entire x ss) (part (λ u h. inl (inr h)) s)) (λ z e. then_keeps (address_of set z) _ (address_of_keeps (stands set.program fs x) z e) (λ a d. then_keeps (actuals set call rest) _ (actuals_keeps call ok rest (part (λ u. inr) s)) (λ gs g. give_keeps _ (d, g))))
+            then_keeps (place set call (Entire x ss)) _
+            (place_keeps call ok (Entire x ss) (part (λ u h. inl (inr h)) s))
+            (λ z e. then_keeps (address_of set z) _ (address_of_keeps (stands set.program fs x) z e)
+            (λ a d. then_keeps (actuals set call rest) _ (actuals_keeps call ok rest (part (λ u. inr) s))
+            (λ gs g. give_keeps _ (d, g))))
 
       -- a target's address: its entire variable may be written
       abbrev pub Writable : Address → Type 0
       Writable a = W a.spot
 
-      pub address_keeps : (call : Calls) → CallsKeep call → (v : Var) → IsSound (In_target v) → Keeps q W R fs Writable (address set call v)
-      address_keeps call ok (Entire x ss) s = then_keeps (place set call (Entire x ss)) _ (place_keeps call ok (Entire x ss) (part (λ u. inr) s)) go
+      pub address_keeps : (call : Calls) → CallsKeep call → (v : Var) → IsSound (In_target v)
+          → Keeps q W R fs Writable (address set call v)
+      address_keeps call ok (Entire x ss) s =
+          then_keeps (place set call (Entire x ss)) _ (place_keeps call ok (Entire x ss) (part (λ u. inr) s)) go
         where
           go : (z : Place) → Of (stands set.program fs x) z → Keeps q W R fs Writable (address_of set z)
           go (At a) e = give_keeps a (s.allowed [] (Target x) (inl refl) x a.spot (refl, e))
           go (Fixed n) e = lost_keeps
 
-      pub ordinal_of_stays : (call : Calls) → CallsKeep call → (e : Expr) → IsSound (In_expr e) → Stays (ordinal_of set call e)
+      pub ordinal_of_stays : (call : Calls) → CallsKeep call → (e : Expr) → IsSound (In_expr e)
+          → Stays (ordinal_of set call e)
       ordinal_of_stays call ok e s = as_ordinal_stays _ (value_stays call ok e s)

@@ -1,8 +1,10 @@
+-- Some of this belongs to what the program promises (docs/promise.txt).
 -- The way of a run along a journal: the states between its entries, with the ticks that each entry fixes. The
 -- headline of a run, the judge's promises and `sp_link` go by it, since a journal alone says how far each process
 -- went. The ticks that a process had made at its last entry are those after the operands of that step, functions
 -- called there included.
-use Rattle.std.specs.Prelude.{◌≡◌, ℕ, zero, suc, ◌+◌, Bool, true, false, cond, ◌&&◌, ◌||◌, if◌then◌else◌, nat_le, List, [], ◌∷◌, Some, None}
+use Rattle.std.specs.Prelude.{◌≡◌, ℕ, zero, suc, ◌+◌, Bool, true, false, cond, ◌&&◌, ◌||◌, if◌then◌else◌, nat_le, List}
+use Rattle.std.specs.Prelude.{[], ◌∷◌, Some, None}
 use Rattle.sp_meaning.specs.Model.{Name, Condition, Absent, Works, Waits, Joins, Ended, same_name}
 use Rattle.sp_meaning.specs.Own.{Setting, Held, Address, Process}
 use Rattle.sp_meaning.specs.SuperPascal.{beats}
@@ -56,20 +58,24 @@ module _ (g : Setting) where
 
   -- n local steps of q lead from s to t: up to the first moment at which it is due, or its next step is a kernel step
   abbrev pub Turn : ℕ → ℕ → Name → ℕ → StateOf g → StateOf g → Bool → Type 0
-  Turn turn since q zero s t paused = (t ≡ s) × (paused ≡ false) × (own : Process) × (running g s q ≡ Some own) × (what : Happening) × (says g s q own ≡ Some what)
+  Turn turn since q zero s t paused = (t ≡ s) × (paused ≡ false) × (own : Process) × (running g s q ≡ Some own)
+      × (what : Happening) × (says g s q own ≡ Some what)
   Turn turn since q (suc n) s t paused =
       (own : Process) × (running g s q ≡ Some own) × (says g s q own ≡ None) × (m : StateOf g) × (next g s q ≡ Some m)
       × Either (due turn since s own q m) ((n ≡ 0) × (t ≡ m) × (paused ≡ true)) (Turn turn since q n m t paused)
 
   -- the entry's step at s: it makes this entry
   abbrev pub Enters : StateOf g → Name → Happening → StateOf g → Type 0
-  Enters s q what t = (own : Process) × (running g s q ≡ Some own) × (says g s q own ≡ Some what) × (next g s q ≡ Some t)
+  Enters s q what t = (own : Process) × (running g s q ≡ Some own) × (says g s q own ≡ Some what)
+      × (next g s q ≡ Some t)
 
   -- a kernel step: only where no fault stands, and where the process is not due
   abbrev pub Kernel : (Course → StateOf g → ℕ → Type 0) → Course → StateOf g → Bool → Name → Happening → ℕ → Type 0
-  Kernel left c m paused q what n = (c.faulted ≡ false) × (paused ≡ false) × (u : StateOf g) × (rest : ℕ) × (n ≡ suc rest) × Enters m q what u × left (after_entry q what (ticks_of u q) c) u rest
+  Kernel left c m paused q what n = (c.faulted ≡ false) × (paused ≡ false) × (u : StateOf g) × (rest : ℕ)
+      × (n ≡ suc rest) × Enters m q what u × left (after_entry q what (ticks_of u q) c) u rest
 
-  -- what the entry's process does after its local steps, which led to m, and what is then left. Laid comes only after a fault
+  -- what the entry's process does after its local steps, which led to m, and what is then left. Laid comes only after a
+  -- fault
   abbrev pub Entered : (Course → StateOf g → ℕ → Type 0) → Course → StateOf g → Bool → Name → Happening → ℕ → Type 0
   Entered left c m paused q Laid n = (c.faulted ≡ true) × left (stopped q c) m n
   Entered left c m paused q Paused n = (c.faulted ≡ false) × (paused ≡ true) × left (noted q (ticks_of m q) c) m n
@@ -83,7 +89,8 @@ module _ (g : Setting) where
   abbrev pub Along : ℕ → Course → StateOf g → List Occurrence → ℕ → StateOf g → Type 0
   Along turn c s [] n t = (n ≡ 0) × (t ≡ s)
   Along turn c s (e ∷ es) n t =
-      (c.laid e.who ≡ false) × (k rest : ℕ) × (m : StateOf g) × (paused : Bool) × (n ≡ k + rest) × Turn turn (c.since e.who) e.who k s m paused
+      (c.laid e.who ≡ false) × (k rest : ℕ) × (m : StateOf g) × (paused : Bool) × (n ≡ k + rest)
+      × Turn turn (c.since e.who) e.who k s m paused
       × Entered (λ c1 u r. Along turn c1 u es r t) c m paused e.who e.what rest
 
   -- along a journal from the start

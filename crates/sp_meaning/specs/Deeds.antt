@@ -1,21 +1,30 @@
+-- All of this belongs to what the program promises (docs/promise.txt).
 -- Statements in steps: what a process does first, and what is left to do. The language of the model is made of it;
 -- generated code is compared with it, and the interpreter promises it.
-use Rattle.std.specs.Prelude.{ℕ, zero, suc, ◌+◌, ◌-◌, ℤ, pos, ◌+ℤ◌, ◌-ℤ◌, nat_abs, int_lt, int_le, List, [], ◌∷◌, ◌++◌, Option, Some, None, Bool, true, false, if◌then◌else◌, nat_lt, length, take, slice_get}
+use Rattle.std.specs.Prelude.{ℕ, zero, suc, ◌+◌, ◌-◌, ℤ, pos, ◌+ℤ◌, ◌-ℤ◌, nat_abs, int_lt, int_le, List, [], ◌∷◌, ◌++◌}
+use Rattle.std.specs.Prelude.{Option, Some, None, Bool, true, false, if◌then◌else◌, nat_lt, length, take, slice_get}
 use Rattle.std.specs.Fmt.{signed_decimal}
 use Rattle.sp_base.specs.declared.fault.Fault.TheVariants as fault
 use Rattle.sp_tree.specs.declared.checked.KindOf.{KindOf}
 use Rattle.sp_tree.specs.declared.checked.KindOf.TheVariants as kind
 use Rattle.sp_tree.specs.declared.checked.Role.{Role}
 use Rattle.sp_tree.specs.declared.checked.Role.TheVariants as role
-use Rattle.sp_tree.specs.Plain.{Expr, Typed, Variable, Block, Stmt, Empty, Assign, Call, Sequence, If, IfElse, While, Repeat, For, Case, Parallel, Forall, Assume, ReadValue, ReadLine, WriteValue, WriteText, WriteLine, Open, Send, Receive, Stmts, No, And, On, Arms, NoArm, Or}
+use Rattle.sp_tree.specs.Plain.{Expr, Typed, Variable, Block, Stmt, Empty, Assign, Call, Sequence, If, IfElse, While}
+use Rattle.sp_tree.specs.Plain.{Repeat, For, Case, Parallel, Forall, Assume, ReadValue, ReadLine, WriteValue, WriteText}
+use Rattle.sp_tree.specs.Plain.{WriteLine, Open, Send, Receive, Stmts, No, And, On, Arms, NoArm, Or}
 use Rattle.sp_meaning.specs.Model.{Name, Channel, Cargo, Message, Takes}
 use Rattle.sp_tree.specs.Cells.{variables_of, cells_of_frame}
 use Rattle.sp_meaning.specs.Values.{Value, Undefined, Ordinal, Chan, Parts, initials}
-use Rattle.sp_meaning.specs.Own.{Setting, Cell, Input, Output, Held, Tree, Position, Written, Address, Home, OfBlock, OfIndex, Frame, Own, Who, Item, Do, First, Again, Test, Leave, Break, Process, Work, bind, give, fail, lost, long, mine, who, become, look, put, fetch, assign, or_lost, position_in, bytes_in, reach, is_block, tick, deepen, widen}
+use Rattle.sp_meaning.specs.Own.{Setting, Cell, Input, Output, Held, Tree, Position, Written, Address, Home, OfBlock}
+use Rattle.sp_meaning.specs.Own.{OfIndex, Frame, Own, Who, Item, Do, First, Again, Test, Leave, Break, Process, Work}
+use Rattle.sp_meaning.specs.Own.{bind, give, fail, lost, long, mine, who, become, look, put, fetch, assign, or_lost}
+use Rattle.sp_meaning.specs.Own.{position_in, bytes_in, reach, is_block, tick, deepen, widen}
 pub use Rattle.sp_meaning.specs.Operators.{is_range, is_before, next_value}
 use Rattle.sp_meaning.specs.Operators.{same_ordinal}
-use Rattle.sp_meaning.specs.Texts.{Taken, Takes as Took, Fails as Stops, number_in, char_in, line_length, padded, truth_text, byte}
-use Rattle.sp_meaning.specs.Eval.{Given, ValueOf, PlaceOf, Calls, kind_at, read_at, address_of, place_of, left_of, value, actuals, address, ordinal_of, ordinal, channel}
+use Rattle.sp_meaning.specs.Texts.{Taken, Takes as Took, Fails as Stops, number_in, char_in, line_length, padded}
+use Rattle.sp_meaning.specs.Texts.{truth_text, byte}
+use Rattle.sp_meaning.specs.Eval.{Given, ValueOf, PlaceOf, Calls, kind_at, read_at, address_of, place_of, left_of}
+use Rattle.sp_meaning.specs.Eval.{value, actuals, address, ordinal_of, ordinal, channel}
 
 -- a child that is to be born: what it does, and the index of a forall with its value
 pub record Birth : Type 0 where
@@ -101,7 +110,8 @@ references (x ∷ xs) (PlaceOf a ∷ gs) = (x, a) ∷ references xs gs
 -- the text of an item with its width: the bytes, or F1
 abbrev pub in_width : Bool → List ℕ → Option ℤ → Work (List ℕ)
 in_width cut t None = give t
-in_width cut t (Some m) = if int_le m (pos 0) then fail fault.F1 else give (padded (nat_abs m) (if cut then take (nat_abs m) t else t))
+in_width cut t (Some m) = if int_le m (pos 0) then fail fault.F1 else
+    give (padded (nat_abs m) (if cut then take (nat_abs m) t else t))
 
 -- an item of a type as text, and whether a width cuts it
 abbrev pub shown : KindOf → ℤ → Bool × List ℕ
@@ -131,19 +141,31 @@ children (And s rest) = record { todo = push s []; index = None } ∷ children r
 -- one child for each of n values from low on
 abbrev pub indexed_children : ℕ → Stmt → ℤ → ℕ → List Birth
 indexed_children x s low zero = []
-indexed_children x s low (suc n) = record { todo = push s []; index = Some (x, low) } ∷ indexed_children x s (low +ℤ pos 1) n
+indexed_children x s low (suc n) = record { todo = push s []; index = Some (x, low) }
+    ∷ indexed_children x s (low +ℤ pos 1) n
 
 -- a forall's child has its index in a frame of its own
 abbrev pub with_index : Name → Option (ℕ × ℤ) → List Frame → List Frame
 with_index q None fs = fs
-with_index q (Some x) fs = record { owner = q; number = length fs; home = OfIndex x.0 x.1; link = length fs; references = [] } ∷ fs
+with_index q (Some x) fs = record {
+  owner = q;
+  number = length fs;
+  home = OfIndex x.0 x.1;
+  link = length fs;
+  references = [];
+} ∷ fs
 
 -- a child is born, of its parent
 abbrev pub newborn : Who → Own → ℕ → Birth → Process
 newborn w o i b = record {
   todo = b.todo;
   who = record { name = (w.forks, i) ∷ w.name; forks = 0; opens = 0 };
-  own = record { frames = with_index ((w.forks, i) ∷ w.name) b.index o.frames; depth = o.depth + 1; ticks = 0; cells = 0 };
+  own = record {
+    frames = with_index ((w.forks, i) ∷ w.name) b.index o.frames;
+    depth = o.depth + 1;
+    ticks = 0;
+    cells = 0;
+  };
 }
 
 -- the processes of a fork, from child i on
@@ -174,7 +196,10 @@ module _ (g : Setting) where
 
   -- the own part with a new frame
   abbrev pub pushed_frame : ℕ → ℕ → List (ℕ × Address) → Who → Own → Own
-  pushed_frame b link rs w o = record o { frames = record { owner = w.name; number = length o.frames; home = OfBlock b; link = link; references = rs } ∷ o.frames }
+  pushed_frame b link rs w o = record o {
+    frames =
+        record { owner = w.name; number = length o.frames; home = OfBlock b; link = link; references = rs } ∷ o.frames;
+  }
 
   -- the frame of the block around
   abbrev pub enclosing : Option ℕ → Work ℕ
@@ -184,9 +209,12 @@ module _ (g : Setting) where
   -- a call, after its arguments: tick, depth, cells, the new frame
   abbrev pub enter : ℕ → List Given → Work Block
   enter f gs =
-      bind (or_lost (slice_get g.program.blocks f)) (λ b. bind (tick g.limits) (λ u. bind (deepen g.limits) (λ u. bind (widen g.limits (size_of_frame f)) (λ u.
-      bind (enclosing b.parent) (λ link. bind mine (λ o. bind who (λ w. bind (become (pushed_frame f link (references b.formals gs) w o)) (λ u.
-      bind (lay (length o.frames) (variables_of f 0 g.program.variables)) (λ u. bind (copy_in (length o.frames) b.formals gs) (λ u. give b))))))))))
+      bind (or_lost (slice_get g.program.blocks f))
+      (λ b. bind (tick g.limits) (λ u. bind (deepen g.limits) (λ u. bind (widen g.limits (size_of_frame f)) (λ u.
+      bind (enclosing b.parent) (λ link. bind mine
+      (λ o. bind who (λ w. bind (become (pushed_frame f link (references b.formals gs) w o)) (λ u.
+      bind (lay (length o.frames) (variables_of f 0 g.program.variables))
+      (λ u. bind (copy_in (length o.frames) b.formals gs) (λ u. give b))))))))))
 
   abbrev pub cells_of_home : Home → ℕ
   cells_of_home (OfBlock b) = size_of_frame b
@@ -203,7 +231,8 @@ module _ (g : Setting) where
 
   -- the output gets a text, or F16
   abbrev pub write : List ℕ → Work (Unit {0})
-  write t = bind (look Output) (λ h. if nat_lt g.limits.output (length (bytes_in h) + length t) then fail fault.F16 else put Output (Written (bytes_in h ++ t)))
+  write t = bind (look Output) (λ h. if nat_lt g.limits.output (length (bytes_in h) + length t) then fail fault.F16 else
+      put Output (Written (bytes_in h ++ t)))
 
   -- so many bytes of the input are taken
   abbrev pub advance : ℕ → Work (Unit {0})
@@ -226,7 +255,9 @@ module _ (g : Setting) where
   -- the for variable gets a value, and then there is a tick
   abbrev pub turn_of : ℕ → ℤ → ℤ → Bool → Stmt → List Item → Work Deed
   turn_of x n limit down s todo =
-      bind (place_of g x) (λ q. bind (address_of g q) (λ a. bind (assign a (Ordinal n)) (λ u. bind (tick g.limits) (λ u. give (Ticked (push s (Again x limit down s ∷ todo)))))))
+      bind (place_of g x) (λ q. bind (address_of g q)
+      (λ a. bind (assign a (Ordinal n)) (λ u. bind (tick g.limits)
+      (λ u. give (Ticked (push s (Again x limit down s ∷ todo)))))))
 
   -- the children are made, if one level more is allowed
   abbrev pub fork : List Birth → List Item → Work Deed
@@ -240,15 +271,21 @@ module _ (g : Setting) where
   -- the step of a statement that is first
   abbrev pub start : Calls → Stmt → List Item → Work Deed
   start call Empty todo = give (Stepped todo)
-  start call (Assign v e) todo = bind (address g call v) (λ a. bind (value g call e) (λ w. bind (assign a w) (λ u. give (Stepped todo))))
-  start call (Call f args) todo = bind (actuals g call args) (λ gs. bind (enter f gs) (λ b. give (Ticked (push b.body (Leave ∷ todo)))))
+  start call (Assign v e) todo = bind (address g call v)
+      (λ a. bind (value g call e) (λ w. bind (assign a w) (λ u. give (Stepped todo))))
+  start call (Call f args) todo = bind (actuals g call args)
+      (λ gs. bind (enter f gs) (λ b. give (Ticked (push b.body (Leave ∷ todo)))))
   start call (Sequence ss) todo = give (Stepped (push_all ss todo))
   start call (If e a) todo = bind (ordinal_of g call e) (λ n. give (Stepped (if_true n (push a todo) todo)))
-  start call (IfElse e a b) todo = bind (ordinal_of g call e) (λ n. give (Stepped (if_true n (push a todo) (push b todo))))
-  start call (While e s) todo = bind (ordinal_of g call e) (λ n. if_true n (bind (tick g.limits) (λ u. give (Ticked (push s (Do (While e s) ∷ todo))))) (give (Stepped todo)))
+  start call (IfElse e a b) todo = bind (ordinal_of g call e)
+      (λ n. give (Stepped (if_true n (push a todo) (push b todo))))
+  start call (While e s) todo = bind (ordinal_of g call e)
+      (λ n. if_true n (bind (tick g.limits) (λ u. give (Ticked (push s (Do (While e s) ∷ todo)))))
+      (give (Stepped todo)))
   start call (Repeat s e) todo = bind (tick g.limits) (λ u. give (Ticked (push s (Test s e ∷ todo))))
   start call (For x from down to s) todo =
-      bind (ordinal_of g call from) (λ m. bind (ordinal_of g call to) (λ n. give (Stepped (if is_range down m n then First x m n down s ∷ todo else todo))))
+      bind (ordinal_of g call from) (λ m. bind (ordinal_of g call to)
+      (λ n. give (Stepped (if is_range down m n then First x m n down s ∷ todo else todo))))
   start call (Case e arms) todo = bind (ordinal_of g call e) (λ n. chosen (arm_for n arms) todo)
   start call (Parallel ss) todo = fork (children ss) todo
   start call (Forall x from to s) todo =
@@ -256,25 +293,32 @@ module _ (g : Setting) where
       if int_lt n m then give (Stepped todo) else fork (indexed_children x s m (nat_abs ((n -ℤ m) +ℤ pos 1))) todo))
   start call (Assume e) todo = bind (ordinal_of g call e) (λ n. if_true n (give (Stepped todo)) (fail fault.F8))
   start call (ReadValue v) todo =
-      bind (address g call v) (λ a. bind (kind_at g a.kind) (λ k. bind (left_of g) (λ bs. bind (or_lost (taken_by k bs)) (λ t. bind (take_in a t) (λ u. give (Stepped todo))))))
+      bind (address g call v) (λ a. bind (kind_at g a.kind)
+      (λ k. bind (left_of g) (λ bs. bind (or_lost (taken_by k bs))
+      (λ t. bind (take_in a t) (λ u. give (Stepped todo))))))
   start call ReadLine todo = bind (left_of g) (λ bs. bind (advance (line_length bs)) (λ u. give (Stepped todo)))
   start call (WriteValue (Typed k form) w) todo =
       bind (ordinal_of g call (Typed k form)) (λ n. bind (width call w) (λ m. bind (kind_at g k) (λ t.
       bind (in_width (shown t n).0 (shown t n).1 m) (λ bs. bind (write bs) (λ u. give (Stepped todo))))))
-  start call (WriteText t w) todo = bind (width call w) (λ m. bind (in_width true t m) (λ bs. bind (write bs) (λ u. give (Stepped todo))))
+  start call (WriteText t w) todo = bind (width call w)
+      (λ m. bind (in_width true t m) (λ bs. bind (write bs) (λ u. give (Stepped todo))))
   start call WriteLine todo = bind (write (10 ∷ [])) (λ u. give (Stepped todo))
   start call (Open v) todo =
-      bind (address g call v) (λ a. bind who (λ w. bind (assign a (Chan (record { owner = w.name; nth = w.opens }))) (λ u. give (Opened todo))))
+      bind (address g call v) (λ a. bind who
+      (λ w. bind (assign a (Chan (record { owner = w.name; nth = w.opens }))) (λ u. give (Opened todo))))
   start call (Send c (Typed k form)) todo =
-      bind (value g call c) (λ v. bind (channel v) (λ to. bind (value g call (Typed k form)) (λ w. give (Offered to k (Message (Tree w)) todo))))
+      bind (value g call c) (λ v. bind (channel v)
+      (λ to. bind (value g call (Typed k form)) (λ w. give (Offered to k (Message (Tree w)) todo))))
   start call (Receive c x) todo =
-      bind (value g call c) (λ v. bind (channel v) (λ from. bind (address g call x) (λ a. give (Offered from a.kind (Takes a) todo))))
+      bind (value g call c) (λ v. bind (channel v)
+      (λ from. bind (address g call x) (λ a. give (Offered from a.kind (Takes a) todo))))
 
   -- the step of what is first
   abbrev pub act : Calls → Item → List Item → Work Deed
   act call (Do s) todo = start call s todo
   act call (First x m n down s) todo = turn_of x m n down s todo
-  act call (Again x n down s) todo = bind (place_of g x) (λ q. bind (read_at g q) (λ v. bind (ordinal v) (λ m. turn_of x (next_value down m) n down s todo)))
+  act call (Again x n down s) todo = bind (place_of g x)
+      (λ q. bind (read_at g q) (λ v. bind (ordinal v) (λ m. turn_of x (next_value down m) n down s todo)))
   act call (Test s e) todo = bind (ordinal_of g call e) (λ n. give (Stepped (if_true n todo (Do (Repeat s e) ∷ todo))))
   act call Leave todo = bind leave (λ u. give (Stepped todo))
   act call (Break f) todo = fail f
@@ -284,7 +328,8 @@ module _ (g : Setting) where
   settle [] = give []
   settle (Do s ∷ todo) = give (Do s ∷ todo)
   settle (First x m n down s ∷ todo) = give (First x m n down s ∷ todo)
-  settle (Again x n down s ∷ todo) = bind (peek x) (λ v. if goes_on down n v then give (Again x n down s ∷ todo) else settle todo)
+  settle (Again x n down s ∷ todo) = bind (peek x)
+      (λ v. if goes_on down n v then give (Again x n down s ∷ todo) else settle todo)
   settle (Test s e ∷ todo) = give (Test s e ∷ todo)
   settle (Leave ∷ todo) = give (Leave ∷ todo)
   settle (Break f ∷ todo) = give (Break f ∷ todo)
@@ -305,7 +350,8 @@ module _ (g : Setting) where
 
   -- a call of a function, where go does all that is left
   abbrev pub call_by : (List Item → Work (List Item)) → Calls
-  call_by go f gs = bind (enter f gs) (λ b. bind (go (push b.body [])) (λ rest. bind (answer_of b.answer) (λ v. bind leave (λ u. give v))))
+  call_by go f gs = bind (enter f gs) (λ b. bind (go (push b.body []))
+      (λ rest. bind (answer_of b.answer) (λ v. bind leave (λ u. give v))))
 
   -- what is left once the first item went
   abbrev pub rest_by : (List Item → Work (List Item)) → List Item → Work (List Item)

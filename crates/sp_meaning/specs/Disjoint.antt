@@ -1,7 +1,9 @@
+-- All of this belongs to what the program promises (docs/promise.txt).
 -- Disjoint programs: in no schedule does a process write what a parallel one uses. The promise of a program without
 -- interference is said by it, in the words of the model and of no rule.
 use Rattle.std.specs.Prelude.{◌≡◌, ◌≢◌, ◌⊎◌, ℕ, List, [], ◌∷◌, ◌++◌, Some}
-use Rattle.sp_meaning.specs.Model.{Name, Totals, Language, Act, Moves, Opens, Forks, Offering, Ends, Fails, Cargo, Message, Takes, Waits, State}
+use Rattle.sp_meaning.specs.Model.{Name, Totals, Language, Act, Moves, Opens, Forks, Offering, Ends, Fails, Cargo}
+use Rattle.sp_meaning.specs.Model.{Message, Takes, Waits, State}
 use Rattle.sp_meaning.specs.Steps.{ActOf, OfferOf, working, message, step, processes}
 use Rattle.sp_meaning.specs.Schedules.{Leads}
 
@@ -64,9 +66,12 @@ AccessesIn {L} s p own who l = ((who ≡ p) × (L.touches own s.store l)) ⊎ Wr
 -- somewhere along the schedule from s
 abbrev pub Happens : {L : Language} → Totals → (State L → Name → L.Own → Type 0) → State L → List Name → Type 0
 Happens limits it s [] = ⊥
-Happens {L} limits it s (p ∷ ps) = ((own : L.Own) × (working s p ≡ Some own) × it s p own) ⊎ ((m : State L) × (step limits s p ≡ Some m) × Happens limits it m ps)
+Happens {L} limits it s (p ∷ ps) = ((own : L.Own) × (working s p ≡ Some own) × it s p own)
+    ⊎ ((m : State L) × (step limits s p ≡ Some m) × Happens limits it m ps)
 
 -- from this opening state no schedule has a process write what a parallel one reads or writes
 abbrev pub IsDisjoint : (L : Language) → Totals → State L → Type 0
-IsDisjoint L limits s = (ps : List Name) (t : State L) → Leads (processes L limits) s ps t → (a b : Name) → AreParallel a b → (l : L.Loc)
-    → Happens limits (λ u p own. WritesIn u p own a l) s ps → Happens limits (λ u p own. AccessesIn u p own b l) s ps → ⊥
+IsDisjoint L limits s = (ps : List Name) (t : State L) → Leads (processes L limits) s ps t → (a b : Name)
+    → AreParallel a b → (l : L.Loc)
+    → Happens limits (λ u p own. WritesIn u p own a l) s ps → Happens limits (λ u p own. AccessesIn u p own b l) s ps
+    → ⊥

@@ -1,6 +1,8 @@
+-- All of this belongs to what the program promises (docs/promise.txt).
 -- How a run ends: done, in a deadlock, or with a fault. The contracts of runs, of the judge and of the interpreter
 -- cite it, with the waiting processes in the order of their names.
-use Rattle.std.specs.Prelude.{◌≡◌, ◌≢◌, ◌⊎◌, ℕ, Bool, true, false, if◌then◌else◌, nat_lt, List, [], ◌∷◌, map, reverse, Option, Some, None}
+use Rattle.std.specs.Prelude.{◌≡◌, ◌≢◌, ◌⊎◌, ℕ, Bool, true, false, if◌then◌else◌, nat_lt, List, [], ◌∷◌, map, reverse}
+use Rattle.std.specs.Prelude.{Option, Some, None}
 use Rattle.sp_base.specs.declared.fault.Fault.{Fault}
 use Rattle.sp_journal.specs.declared.entry.Way.{Way}
 use Rattle.sp_journal.specs.declared.outcome.End.{End}
@@ -19,7 +21,8 @@ pairs_before [] [] = false
 pairs_before [] (b ∷ q) = true
 pairs_before (a ∷ p) [] = false
 pairs_before (a ∷ p) (b ∷ q) =
-    if nat_lt a.0 b.0 then true else (if nat_lt b.0 a.0 then false else (if nat_lt a.1 b.1 then true else (if nat_lt b.1 a.1 then false else pairs_before p q)))
+    if nat_lt a.0 b.0 then true else (if nat_lt b.0 a.0 then false else
+    (if nat_lt a.1 b.1 then true else (if nat_lt b.1 a.1 then false else pairs_before p q)))
 
 -- the order of names goes from the root on
 abbrev pub name_before : Name → Name → Bool
@@ -53,9 +56,11 @@ module _ (g : Setting) where
 
   -- the process waits so
   abbrev pub WaitsSo : StateOf g → Waiting → Type 0
-  WaitsSo s w = (o : OfferOf (superpascal g)) × (s.condition w.who ≡ Waits o) × (w.way ≡ way_of o.cargo) × (w.channel ≡ o.channel)
+  WaitsSo s w = (o : OfferOf (superpascal g)) × (s.condition w.who ≡ Waits o) × (w.way ≡ way_of o.cargo)
+      × (w.channel ≡ o.channel)
 
-  -- no process is running, the root has not ended and no fault stands; the list is every process that waits, in order of names
+  -- no process is running, the root has not ended and no fault stands; the list is every process that waits, in order
+  -- of names
   pub record IsDeadlock (s : StateOf g) (ws : List Waiting) : Type 0 where
     pub idle : IsIdle s
     pub goes_on : s.condition [] ≢ Ended

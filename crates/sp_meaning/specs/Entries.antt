@@ -1,3 +1,4 @@
+-- All of this belongs to what the program promises (docs/promise.txt).
 -- Entries of a journal by names, as the journal has them: those of `sp_journal`, under the names by which the meaning
 -- speaks of them.
 use Rattle.std.specs.Prelude.{Bool, true, false}

@@ -1,6 +1,8 @@
+-- All of this belongs to what the program promises (docs/promise.txt).
 -- Expressions, variables and arguments, evaluated from left to right. Deeds are made of it, and the interpreter
 -- promises it; each evaluation is a tree of reads and writes.
-use Rattle.std.specs.Prelude.{ℕ, ◌==◌, ℤ, pos, ◌-ℤ◌, nat_abs, int_le, List, [], ◌∷◌, ◌++◌, Option, Some, None, ◌&&◌, not, if◌then◌else◌, length, drop, slice_get}
+use Rattle.std.specs.Prelude.{ℕ, ◌==◌, ℤ, pos, ◌-ℤ◌, nat_abs, int_le, List, [], ◌∷◌, ◌++◌, Option, Some, None, ◌&&◌}
+use Rattle.std.specs.Prelude.{not, if◌then◌else◌, length, drop, slice_get}
 use Rattle.sp_base.specs.declared.fault.Fault.TheVariants as fault
 use Rattle.sp_tree.specs.declared.checked.KindOf.{KindOf}
 use Rattle.sp_tree.specs.declared.checked.KindOf.TheVariants as kind
@@ -10,11 +12,15 @@ use Rattle.sp_tree.specs.declared.operators.BinaryOp.{BinaryOp}
 use Rattle.sp_tree.specs.declared.operators.BinaryOp.TheVariants as binary
 use Rattle.sp_tree.specs.declared.operators.StandardFn.{StandardFn}
 use Rattle.sp_tree.specs.declared.operators.StandardFn.TheVariants as standard
-use Rattle.sp_tree.specs.Plain.{Expr, Typed, ExprForm, Number, Read, Unary, Binary, Apply, Standard, AtInput, Var, Entire, Index, Field, Selectors, Whole, Select, ByValue, ByReference, Actuals, Nothing, Pass, Variable}
+use Rattle.sp_tree.specs.Plain.{Expr, Typed, ExprForm, Number, Read, Unary, Binary, Apply, Standard, AtInput, Var}
+use Rattle.sp_tree.specs.Plain.{Entire, Index, Field, Selectors, Whole, Select, ByValue, ByReference, Actuals, Nothing}
+use Rattle.sp_tree.specs.Plain.{Pass, Variable}
 use Rattle.sp_meaning.specs.Model.{Channel, same_channel}
 use Rattle.sp_meaning.specs.Values.{Value, Undefined, Ordinal, Chan, Parts}
-use Rattle.sp_meaning.specs.Own.{Cell, Input, Address, Home, OfBlock, OfIndex, Frame, Setting, Work, bind, give, fail, lost, look, fetch, or_lost, position_in, visible, is_block, is_index, referred}
-use Rattle.sp_meaning.specs.Operators.{Worked, Yields, Faults, truth, ranged, successor, predecessor, absolute, square, is_odd, unary_op, binary_op, least, greatest}
+use Rattle.sp_meaning.specs.Own.{Cell, Input, Address, Home, OfBlock, OfIndex, Frame, Setting, Work, bind, give, fail}
+use Rattle.sp_meaning.specs.Own.{lost, look, fetch, or_lost, position_in, visible, is_block, is_index, referred}
+use Rattle.sp_meaning.specs.Operators.{Worked, Yields, Faults, truth, ranged, successor, predecessor, absolute, square}
+use Rattle.sp_meaning.specs.Operators.{is_odd, unary_op, binary_op, least, greatest}
 use Rattle.sp_meaning.specs.Texts.{at_line_end}
 
 -- where a variable stands: an address, or a forall's index with its value
@@ -134,7 +140,8 @@ element_at a n kind.Boolean = lost
 element_at a n kind.Char = lost
 element_at a n (kind.Enumeration m) = lost
 element_at a n (kind.Array low high index element) =
-    if int_le low n && int_le n high then give (At (record { spot = a.spot; path = a.path ++ nat_abs (n -ℤ low) ∷ []; kind = element })) else fail fault.F1
+    if int_le low n && int_le n high then give
+    (At (record { spot = a.spot; path = a.path ++ nat_abs (n -ℤ low) ∷ []; kind = element })) else fail fault.F1
 element_at a n (kind.Fields fs) = lost
 element_at a n (kind.Channel ks) = lost
 
@@ -162,7 +169,8 @@ module _ (g : Setting) where
 
   -- a field of what stands at a place
   abbrev pub fielded : ℕ → Place → Work Place
-  fielded f (At a) = bind (kind_at a.kind) (λ k. bind (or_lost (field_kind f k)) (λ t. give (At (record { spot = a.spot; path = a.path ++ f ∷ []; kind = t }))))
+  fielded f (At a) = bind (kind_at a.kind) (λ k. bind (or_lost (field_kind f k))
+      (λ t. give (At (record { spot = a.spot; path = a.path ++ f ∷ []; kind = t }))))
   fielded f (Fixed m) = lost
 
   -- what stands at a place
@@ -188,7 +196,8 @@ module _ (g : Setting) where
   place_by x i role.Console = lost
   place_by x i role.Local = bind (visible (is_block i.block)) (λ f. give (At (in_frame x i f)))
   place_by x i role.Value = bind (visible (is_block i.block)) (λ f. give (At (in_frame x i f)))
-  place_by x i role.Reference = bind (visible (is_block i.block)) (λ f. bind (or_lost (referred x f.references)) (λ a. give (At a)))
+  place_by x i role.Reference = bind (visible (is_block i.block))
+      (λ f. bind (or_lost (referred x f.references)) (λ a. give (At a)))
   place_by x i role.Index = bind (visible (is_index x)) (λ f. index_in f.home)
   place_by x i role.Answer = bind (visible (is_block i.block)) (λ f. give (At (in_frame x i f)))
 
@@ -220,14 +229,17 @@ module _ (g : Setting) where
 
     pub selected : Calls → Selectors → Place → Work Place
     selected call Whole q = give q
-    selected call (Select (Index e) rest) q = bind (as_ordinal (value call e)) (λ n. bind (indexed q n) (λ r. selected call rest r))
+    selected call (Select (Index e) rest) q =
+        bind (as_ordinal (value call e)) (λ n. bind (indexed q n) (λ r. selected call rest r))
     selected call (Select (Field f) rest) q = bind (fielded f q) (λ r. selected call rest r)
 
     -- the arguments of a call
     pub actuals : Calls → Actuals → Work (List Given)
     actuals call Nothing = give []
-    actuals call (Pass (ByValue e) rest) = bind (value call e) (λ v. bind (actuals call rest) (λ gs. give (ValueOf v ∷ gs)))
-    actuals call (Pass (ByReference x) rest) = bind (place call x) (λ q. bind (address_of q) (λ a. bind (actuals call rest) (λ gs. give (PlaceOf a ∷ gs))))
+    actuals call (Pass (ByValue e) rest) = bind (value call e)
+        (λ v. bind (actuals call rest) (λ gs. give (ValueOf v ∷ gs)))
+    actuals call (Pass (ByReference x) rest) =
+        bind (place call x) (λ q. bind (address_of q) (λ a. bind (actuals call rest) (λ gs. give (PlaceOf a ∷ gs))))
 
   abbrev pub address : Calls → Var → Work Address
   address call v = bind (place call v) address_of

@@ -1,3 +1,4 @@
+-- None of this belongs to what the program promises: it is for contracts between crates.
 -- The longest lawful front of a schedule: how far a list of names leads. The interpreter's contract promises it, since
 -- any list may be given to it.
 use Rattle.std.specs.Prelude.{◌≡◌, ◌≢◌, ◌⊎◌, ℕ, suc, List, [], ◌∷◌, ◌++◌, length, Option, Some, None}
@@ -22,7 +23,8 @@ module _ (g : Setting) where
     pub stops : Stops t rest
 
   -- on to the next state, if there is one and no fault stands, or else what is here
-  abbrev pub go_on_or : (StateOf g → ℕ × StateOf g) → ℕ × StateOf g → Option (Name × Fault) → Option (StateOf g) → ℕ × StateOf g
+  abbrev pub go_on_or : (StateOf g → ℕ × StateOf g) → ℕ × StateOf g → Option (Name × Fault) → Option (StateOf g) → ℕ
+      × StateOf g
   go_on_or go here None None = here
   go_on_or go here None (Some m) = go m
   go_on_or go here (Some f) m = here

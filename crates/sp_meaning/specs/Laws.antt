@@ -1,3 +1,4 @@
+-- None of this belongs to what the program promises: it is for contracts between crates.
 -- What holds of every state that a lawful schedule leads to: names, ticks, what nobody writes. The laws of the meaning
 -- promise it, so that what is above needs no look at steps.
 use Rattle.std.specs.Prelude.{◌≡◌, ◌≢◌, ◌⊎◌, ℕ, ◌≤◌, List, Some}
@@ -38,7 +39,8 @@ module _ (g : Setting) where
 
   -- nobody writes it in the step of p at s
   abbrev pub IsUnwritten : StateOf g → Name → Loc → Type 0
-  IsUnwritten s p l = (own : Process) → running g s p ≡ Some own → (who : Name) → WritesIn {L = superpascal g} s p own who l → ⊥
+  IsUnwritten s p l = (own : Process) → running g s p ≡ Some own → (who : Name)
+      → WritesIn {L = superpascal g} s p own who l → ⊥
 
   -- it is running, or waits for a message
   abbrev pub IsAlone : StateOf g → Name → Type 0

@@ -1,3 +1,4 @@
+-- All of this belongs to what the program promises (docs/promise.txt).
 -- Processes with structural names, channels, a store and totals: the state of a run, and what a step changes. What one
 -- process does next is left to a Language; the rest is concrete. Laws of schedules and of disjoint runs are proved
 -- over it once, for any language.
@@ -41,7 +42,8 @@ pub record Language : Type 1 where
   pub place : Target → Loc
   pub put : Target → Value → Value → Value
 
--- what a process is doing. One that joins waits for the children 0 to count - 1 of this fork, and goes on where all of them have ended
+-- what a process is doing. One that joins waits for the children 0 to count - 1 of this fork, and goes on where all of
+-- them have ended
 pub data Condition (Own Value Target : Type 0) : Type 0 where
   Absent : Condition Own Value Target
   Works : (own : Own) → Condition Own Value Target
@@ -74,7 +76,11 @@ pub data Change (L : Language) : Type 0 where
   Faults : (p : Name) (f : Fault) → Change L
 
 abbrev pub add : Totals → Totals → Totals
-add a b = record { processes = a.processes + b.processes; channels = a.channels + b.channels; entries = a.entries + b.entries }
+add a b = record {
+  processes = a.processes + b.processes;
+  channels = a.channels + b.channels;
+  entries = a.entries + b.entries;
+}
 
 abbrev pub changed : {L : Language} → Change L → State L → State L
 changed (Becomes p c) s = record s { condition = at_key same_name p c s.condition }

@@ -1,6 +1,8 @@
+-- All of this belongs to what the program promises (docs/promise.txt).
 -- What a process has of its own, and its local work as a tree of reads and writes. Expressions and statements are
 -- written in these words, as `bind` and `give`, so that order of evaluation is seen.
-use Rattle.std.specs.Prelude.{ℕ, ◌+◌, ◌==◌, ℤ, List, [], ◌∷◌, Option, Some, None, Bool, true, false, ◌&&◌, if◌then◌else◌, nat_lt, length}
+use Rattle.std.specs.Prelude.{ℕ, ◌+◌, ◌==◌, ℤ, List, [], ◌∷◌, Option, Some, None, Bool, true, false, ◌&&◌}
+use Rattle.std.specs.Prelude.{if◌then◌else◌, nat_lt, length}
 use Rattle.sp_base.specs.declared.fault.Fault.{Fault}
 use Rattle.sp_base.specs.declared.fault.Fault.TheVariants as fault
 use Rattle.sp_base.specs.declared.limits.Limits.{Limits}
@@ -39,8 +41,8 @@ pub data Home : Type 0 where
   OfBlock : (block : ℕ) → Home
   OfIndex : (variable : ℕ) (value : ℤ) → Home
 
--- number is how many frames stand below it; link is how long the list of frames is that begins with the enclosing block's,
--- 0 where there is none; references are what the variable parameters stand for
+-- number is how many frames stand below it; link is how long the list of frames is that begins with the enclosing
+-- block's, 0 where there is none; references are what the variable parameters stand for
 pub record Frame : Type 0 where
   pub owner : Name
   pub number : ℕ
@@ -189,7 +191,8 @@ is_index x (OfIndex y v) = x == y
 -- from where the list is so long outward along the links, the frames that begin with the first one that fits
 abbrev pub seek : (Home → Bool) → ℕ → List Frame → List Frame
 seek fits n [] = []
-seek fits n (f ∷ fs) = if length (f ∷ fs) == n then (if fits f.home then f ∷ fs else seek fits f.link fs) else seek fits n fs
+seek fits n (f ∷ fs) = if length (f ∷ fs) == n then (if fits f.home then f ∷ fs else seek fits f.link fs) else
+    seek fits n fs
 
 -- the newest frame
 abbrev pub newest : List Frame → Option Frame
@@ -223,4 +226,5 @@ deepen lim w o = if nat_lt o.depth lim.depth then become (record o { depth = o.d
 
 -- so many cells more, or F12
 abbrev pub widen : Limits → ℕ → Work (Unit {0})
-widen lim n w o = if nat_lt lim.cells (o.cells + n) then fail fault.F12 w o else become (record o { cells = o.cells + n }) w o
+widen lim n w o = if nat_lt lim.cells (o.cells + n) then fail fault.F12 w o else
+    become (record o { cells = o.cells + n }) w o

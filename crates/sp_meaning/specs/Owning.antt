@@ -1,11 +1,14 @@
+-- None of this belongs to what the program promises: it is for contracts between crates.
 -- What a process may read and write, and that what it has left to do keeps to it (the invariant behind disjointness).
 -- The proof for programs without interference keeps it, and so does the comparison of generated code.
-use Rattle.std.specs.Prelude.{◌≡◌, ◌≢◌, ℕ, zero, suc, ◌<◌, ◌==◌, Bool, if◌then◌else◌, List, [], ◌∷◌, length, Option, Some, None, slice_get}
+use Rattle.std.specs.Prelude.{◌≡◌, ◌≢◌, ℕ, zero, suc, ◌<◌, ◌==◌, Bool, if◌then◌else◌, List, [], ◌∷◌, length, Option}
+use Rattle.std.specs.Prelude.{Some, None, slice_get}
 use Rattle.sp_tree.specs.declared.checked.Role.{Role}
 use Rattle.sp_tree.specs.declared.checked.Role.TheVariants as role
 use Rattle.sp_tree.specs.Plain.{Program, Variable, Entire, ByValue, ByReference, Actuals, Nothing, Pass, Stmt, Repeat}
 use Rattle.sp_meaning.specs.Model.{Cargo, Message, Takes}
-use Rattle.sp_meaning.specs.Own.{Held, Loc, Cell, Input, Output, Address, Home, OfBlock, OfIndex, Frame, Item, Do, First, Again, Test, Leave, Break, is_block, referred}
+use Rattle.sp_meaning.specs.Own.{Held, Loc, Cell, Input, Output, Address, Home, OfBlock, OfIndex, Frame, Item, Do}
+use Rattle.sp_meaning.specs.Own.{First, Again, Test, Leave, Break, is_block, referred}
 use Rattle.sp_meaning.specs.Deeds.{Birth, Deed, Stepped, Ticked, Opened, Forked, Offered, Ended, push}
 use Rattle.sp_meaning.specs.Eval.{Given, ValueOf, PlaceOf}
 use Rattle.sp_tree.specs.Uses.{Use, Target, Seen, CallOf, ParallelOf, ForallOf, Stop, In_stmt, In_loop}
@@ -15,7 +18,8 @@ use Rattle.sp_tree.specs.Interference.{KeepsRules}
 -- from where the list is so long outward along the links, the first frame that fits
 abbrev pub find : (Home → Bool) → ℕ → List Frame → Option Frame
 find fits n [] = None
-find fits n (f ∷ fs) = if length (f ∷ fs) == n then (if fits f.home then Some f else find fits f.link fs) else find fits n fs
+find fits n (f ∷ fs) = if length (f ∷ fs) == n then (if fits f.home then Some f else find fits f.link fs) else
+    find fits n fs
 
 -- the entire location that a variable stands for in these frames
 
@@ -48,7 +52,8 @@ abbrev pub stands_at : List Frame → ℕ → Option Variable → Option Loc
 stands_at fs x None = None
 stands_at fs x (Some i) = stands_by fs x i i.role
 
--- Frames: numbered from below; outward along the static links the numbers of the blocks fall; what a variable parameter stands for is older than its frame
+-- Frames: numbered from below; outward along the static links the numbers of the blocks fall; what a variable parameter
+-- stands for is older than its frame
 
 -- a location in an older frame
 abbrev pub IsOlder : ℕ → Loc → Type 0
@@ -134,10 +139,12 @@ module _ (p : Program) where
     Right (ForallOf x s) l = Unit
     Right Stop l = Unit
 
-    -- what stands there may be done in these frames: the locations are the process's to write or read, no two variables are one location, and the rules are kept
+    -- what stands there may be done in these frames: the locations are the process's to write or read, no two variables
+    -- are one location, and the rules are kept
     pub record Sound (fs : List Frame) (Here : Use → Type 0) : Type 0 where
       pub allowed : (bs : List ℕ) (u : Use) → Reach p Here bs u → (x : ℕ) (l : Loc) → Touches fs u x l → Right u l
-      pub apart : (bs cs : List ℕ) (u v : Use) → Reach p Here bs u → Reach p Here cs v → (x y : ℕ) (l : Loc) → x ≢ y → Touches fs u x l → Touches fs v y l → ⊥
+      pub apart : (bs cs : List ℕ) (u v : Use) → Reach p Here bs u → Reach p Here cs v → (x y : ℕ) (l : Loc) → x ≢ y
+          → Touches fs u x l → Touches fs v y l → ⊥
       pub kept : (u : Use) → Here u → KeepsRules p u
 
     -- each item in the frames in which it will be done

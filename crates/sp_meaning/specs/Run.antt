@@ -1,3 +1,4 @@
+-- None of this belongs to what the program promises: it is for contracts between crates.
 -- A computation run on a store, and what it meets: the form in which code is compared with it. `sp_codegen`'s
 -- contracts speak so, since a machine has one store and a computation a tree.
 use Rattle.sp_base.specs.declared.fault.Fault.{Fault}

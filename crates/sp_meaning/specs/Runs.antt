@@ -1,3 +1,4 @@
+-- All of this belongs to what the program promises (docs/promise.txt).
 -- The runs of a program: its opening state, its steps, its lawful schedules, and the entry that a step makes. All
 -- contracts on meaning begin here: the model and the language put together, for a setting.
 use Rattle.std.specs.Prelude.{ℕ, List, length, Option, Some, None}

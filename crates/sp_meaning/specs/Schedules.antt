@@ -1,3 +1,4 @@
+-- Some of this belongs to what the program promises (docs/promise.txt).
 -- Schedules of a system of named processes, and what it means that each of them ends alike. A verdict's promise is
 -- said by it, over any system, so that it is read without the language.
 use Rattle.std.specs.Prelude.{◌≡◌, ℕ, ◌≤◌, List, [], ◌∷◌, ◌++◌, length, Option, Some, None}
@@ -18,7 +19,8 @@ Leads y s (p ∷ ps) t = (m : y.State) × y.Quiet s × (y.step s p ≡ Some m) �
 abbrev pub IsStuck : (y : System) → y.State → Type 0
 IsStuck y t = (p : y.Name) → y.step t p ≡ None
 
--- A schedule that leads from s to u ends as a run of n steps to t does: it is no longer than n, meets no fault, and is the front of a lawful one of length n that leads to t
+-- A schedule that leads from s to u ends as a run of n steps to t does: it is no longer than n, meets no fault, and is
+-- the front of a lawful one of length n that leads to t
 pub record EndsAlike (y : System) (s : y.State) (n : ℕ) (t : y.State) (qs : List y.Name) (u : y.State) : Type 0 where
   pub bounded : length qs ≤ n
   pub quiet : y.Quiet u

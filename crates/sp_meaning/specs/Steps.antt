@@ -1,12 +1,16 @@
+-- Some of this belongs to what the program promises (docs/promise.txt).
 -- One step of one process in a state: what it does, what it costs against the limits, and the state after it. Runs are
 -- made of it, and the interpreter's step promises it; limits are faults of the step that would pass them.
-use Rattle.std.specs.Prelude.{◌≡◌, ℕ, suc, zero, ◌+◌, ◌<◌, ◌≤◌, Bool, true, false, ◌&&◌, if◌then◌else◌, List, [], ◌∷◌, length, Option, Some, None, nat_lt, ◌==◌}
+use Rattle.std.specs.Prelude.{◌≡◌, ℕ, suc, zero, ◌+◌, ◌<◌, ◌≤◌, Bool, true, false, ◌&&◌, if◌then◌else◌, List, [], ◌∷◌}
+use Rattle.std.specs.Prelude.{length, Option, Some, None, nat_lt, ◌==◌}
 use Rattle.sp_base.specs.declared.fault.Fault.{Fault}
 use Rattle.sp_base.specs.declared.fault.Fault.TheVariants as fault
 use Rattle.sp_journal.specs.declared.entry.Way.{Way}
 use Rattle.sp_journal.specs.declared.entry.Way.TheVariants as way
 use Rattle.sp_meaning.specs.Maps.{IsTest}
-use Rattle.sp_meaning.specs.Model.{Name, Channel, Totals, Language, Act, Moves, Opens, Forks, Offering, Ends, Fails, Cargo, Message, Takes, Offer, Condition, Absent, Works, Waits, Joins, Ended, State, Change, Becomes, Forked, Writes, Pends, Adds, Faults, changed, after}
+use Rattle.sp_meaning.specs.Model.{Name, Channel, Totals, Language, Act, Moves, Opens, Forks, Offering, Ends, Fails}
+use Rattle.sp_meaning.specs.Model.{Cargo, Message, Takes, Offer, Condition, Absent, Works, Waits, Joins, Ended, State}
+use Rattle.sp_meaning.specs.Model.{Change, Becomes, Forked, Writes, Pends, Adds, Faults, changed, after}
 use Rattle.sp_meaning.specs.Schedules.{System}
 
 abbrev pub ActOf : Language → Type 0
@@ -32,7 +36,8 @@ abbrev pub all_ended : {O V T : Type 0} → (Name → Condition O V T) → Name 
 all_ended m p k zero = true
 all_ended m p k (suc i) = has_ended (m ((k, i) ∷ p)) && all_ended m p k i
 
--- the own part of a process in this condition, where it is running: it works, or it joins and all its children have ended
+-- the own part of a process in this condition, where it is running: it works, or it joins and all its children have
+-- ended
 abbrev pub working_in : {O V T : Type 0} → (Name → Condition O V T) → Name → Condition O V T → Option O
 working_in m p Absent = None
 working_in m p (Works o) = Some o
@@ -77,16 +82,19 @@ abbrev pub an_entry : Totals
 an_entry = record { processes = 0; channels = 0; entries = 1 }
 
 -- p's offer meets that of z: both go on, nothing is pending, and the message is assigned
-abbrev pub meeting : {L : Language} → State L → Name → OfferOf L → Name → OfferOf L → L.Target × L.Value → List (Change L)
+abbrev pub meeting : {L : Language} → State L → Name → OfferOf L → Name → OfferOf L → L.Target × L.Value
+    → List (Change L)
 meeting {L} s p o z w m =
-    Becomes p (Works o.next) ∷ Becomes z (Works w.next) ∷ Pends o.channel None ∷ Writes (L.place m.0) (L.put m.0 (s.store (L.place m.0)) m.1) ∷ Adds an_entry ∷ []
+    Becomes p (Works o.next) ∷ Becomes z (Works w.next) ∷ Pends o.channel None
+    ∷ Writes (L.place m.0) (L.put m.0 (s.store (L.place m.0)) m.1) ∷ Adds an_entry ∷ []
 
 -- the offer waits
 abbrev pub waiting : {L : Language} → State L → Name → OfferOf L → List (Change L)
 waiting s p o = Becomes p (Waits o) ∷ Pends o.channel (Some p) ∷ Adds an_entry ∷ []
 
 -- F6 where both have one way, F7 where the message types differ
-abbrev pub hands : {L : Language} → State L → Name → OfferOf L → Name → OfferOf L → Option (L.Target × L.Value) → Outcome L
+abbrev pub hands : {L : Language} → State L → Name → OfferOf L → Name → OfferOf L → Option (L.Target × L.Value)
+    → Outcome L
 hands s p o z w None = Faulty fault.F6
 hands s p o z w (Some m) = if o.kind == w.kind then Advances (meeting s p o z w m) else Faulty fault.F7
 
@@ -106,8 +114,10 @@ offered s p o (Some z) = meets s p o z (s.condition z)
 -- what p's act does to the state
 abbrev pub acts : {L : Language} → State L → Name → ActOf L → Outcome L
 acts s p (Moves o ws) = Advances (Becomes p (Works o) ∷ puts ws)
-acts s p (Opens o ws) = Advances (Becomes p (Works o) ∷ Adds (record { processes = 0; channels = 1; entries = 1 }) ∷ puts ws)
-acts s p (Forks o os) = Advances (Becomes p (Joins (s.forks p) (length os) o) ∷ Forked p ∷ Adds (record { processes = length os; channels = 0; entries = 1 }) ∷ births p (s.forks p) 0 os)
+acts s p (Opens o ws) = Advances (Becomes p (Works o) ∷ Adds (record { processes = 0; channels = 1; entries = 1 })
+    ∷ puts ws)
+acts s p (Forks o os) = Advances (Becomes p (Joins (s.forks p) (length os) o) ∷ Forked p
+    ∷ Adds (record { processes = length os; channels = 0; entries = 1 }) ∷ births p (s.forks p) 0 os)
 acts s p (Offering o) = offered s p o (s.pending o.channel)
 acts s p Ends = Advances (Becomes p Ended ∷ [])
 acts s p (Fails f) = Faulty f
@@ -167,7 +177,8 @@ processes L limits = record { State = State L; Name = Name; step = step limits; 
 pub record Laws (L : Language) : Type 0 where
   pub told : IsTest L.same_loc
   -- the next step goes by the own part and the locations that it touches alone
-  pub local : (own : L.Own) (m n : L.Loc → L.Value) → ((l : L.Loc) → L.touches own m l → m l ≡ n l) → L.next own m ≡ L.next own n
+  pub local : (own : L.Own) (m n : L.Loc → L.Value) → ((l : L.Loc) → L.touches own m l → m l ≡ n l)
+      → L.next own m ≡ L.next own n
 
 -- what holds in each state that a lawful schedule comes to
 

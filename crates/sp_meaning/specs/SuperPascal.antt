@@ -1,15 +1,21 @@
+-- All of this belongs to what the program promises (docs/promise.txt).
 -- The language of this compiler as one of the model's: its acts, its root, its first store. Runs are those of this
 -- language; the weight of statements bounds what one step evaluates.
-use Rattle.std.specs.Prelude.{ℕ, zero, suc, ◌+◌, ◌-◌, ◌*◌, List, [], ◌∷◌, Bool, true, false, ◌==◌, if◌then◌else◌, nat_lt}
+use Rattle.std.specs.Prelude.{ℕ, zero, suc, ◌+◌, ◌-◌, ◌*◌, List, [], ◌∷◌, Bool, true, false, ◌==◌, if◌then◌else◌}
+use Rattle.std.specs.Prelude.{nat_lt}
 use Rattle.sp_base.specs.declared.fault.Fault.TheVariants as fault
-use Rattle.sp_tree.specs.Plain.{Program, Variable, Block, Stmt, Empty, Assign, Call, Sequence, If, IfElse, While, Repeat, For, Case, Parallel, Forall, Assume, ReadValue, ReadLine, WriteValue, WriteText, WriteLine, Open, Send, Receive, Stmts, No, And, On, Arms, NoArm, Or}
+use Rattle.sp_tree.specs.Plain.{Program, Variable, Block, Stmt, Empty, Assign, Call, Sequence, If, IfElse, While}
+use Rattle.sp_tree.specs.Plain.{Repeat, For, Case, Parallel, Forall, Assume, ReadValue, ReadLine, WriteValue, WriteText}
+use Rattle.sp_tree.specs.Plain.{WriteLine, Open, Send, Receive, Stmts, No, And, On, Arms, NoArm, Or}
 use Rattle.sp_meaning.specs.Model.{Act, Moves, Opens, Forks, Offering, Ends, Fails, Language}
 use Rattle.sp_meaning.specs.Asking.{Asking, Done, and_then, answer}
 use Rattle.sp_meaning.specs.Trees.{of_trees}
 use Rattle.sp_tree.specs.Cells.{first_or, variables_of}
 use Rattle.sp_meaning.specs.Values.{Value, Undefined, initials}
-use Rattle.sp_meaning.specs.Own.{Setting, Loc, Cell, Input, Output, Held, Tree, Position, Written, Address, assigned, same_loc, OfBlock, Own, Who, Item, Break, Process, Came, Got, Bad, Lost, Long}
-use Rattle.sp_meaning.specs.Deeds.{Deed, Stepped, Ticked, Opened, Forked, Offered, Ended, push, newborns, deed, size_of_frame, begins}
+use Rattle.sp_meaning.specs.Own.{Setting, Loc, Cell, Input, Output, Held, Tree, Position, Written, Address, assigned}
+use Rattle.sp_meaning.specs.Own.{same_loc, OfBlock, Own, Who, Item, Break, Process, Came, Got, Bad, Lost, Long}
+use Rattle.sp_meaning.specs.Deeds.{Deed, Stepped, Ticked, Opened, Forked, Offered, Ended, push, newborns, deed}
+use Rattle.sp_meaning.specs.Deeds.{size_of_frame, begins}
 
 -- How many steps stand between two ticks, at most: a bound for what a step evaluates
 
@@ -62,13 +68,15 @@ with_todo todo w o = record { todo = todo; who = w; own = o }
 
 -- what a deed is to the other processes. A tree that breaks a rule has no meaning (Lost), and Long never comes up;
 -- so that a step is a function both stand under F8, a false assumption
--- The writes of a step that forks, offers or ends are left out: they are of frames that calls made and that are gone (proofs/QuietDeeds)
+-- The writes of a step that forks, offers or ends are left out: they are of frames that calls made and that are gone
+-- (proofs/QuietDeeds)
 abbrev pub act_of : Who → Came Deed → List (Loc × Held) → Act Process Loc Held Address
 act_of w (Got (Stepped todo) o) ws = Moves (with_todo todo w o) ws
 act_of w (Got (Ticked todo) o) ws = Moves (with_todo todo w o) ws
 act_of w (Got (Opened todo) o) ws = Opens (with_todo todo (record w { opens = w.opens + 1 }) o) ws
 act_of w (Got (Forked os todo) o) ws = Forks (with_todo todo (record w { forks = w.forks + 1 }) o) (newborns w o 0 os)
-act_of w (Got (Offered c k cargo todo) o) ws = Offering (record { channel = c; kind = k; cargo = cargo; next = with_todo todo w o })
+act_of w (Got (Offered c k cargo todo) o) ws =
+    Offering (record { channel = c; kind = k; cargo = cargo; next = with_todo todo w o })
 act_of w (Got Ended o) ws = Ends
 act_of w (Bad f) ws = Fails f
 act_of w Lost ws = Fails fault.F8
@@ -124,7 +132,8 @@ module _ (g : Setting) where
   -- the first value of the variable with this number among these
   abbrev pub value_among : ℕ → List (ℕ × Variable) → Value
   value_among x [] = Undefined
-  value_among x (y ∷ ys) = if y.0 == x then first_or Undefined (begins (initials g.program.kinds) y.1.role y.1.kind) else value_among x ys
+  value_among x (y ∷ ys) = if y.0 == x then first_or Undefined
+      (begins (initials g.program.kinds) y.1.role y.1.kind) else value_among x ys
 
   -- the first value of a variable of the program
   abbrev pub first_value : ℕ → Value

@@ -1,3 +1,4 @@
+-- None of this belongs to what the program promises: it is for contracts between crates.
 -- A turn of a process: its local steps up to the first moment at which it is due, or its next step is a kernel step.
 -- Generated code is compared with the meaning turn by turn.
 use Rattle.std.specs.Prelude.{ℕ, zero, suc, Bool, if◌then◌else◌, List}

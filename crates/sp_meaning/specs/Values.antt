@@ -1,3 +1,4 @@
+-- All of this belongs to what the program promises (docs/promise.txt).
 -- Values: trees of ordinals and channel names; the types' first values. The meaning and the interpreter share it; the
 -- machine's cells are compared with it.
 use Rattle.std.specs.Prelude.{ℕ, zero, suc, ℤ, List, [], ◌∷◌, slice_get, replicate, map}
@@ -68,7 +69,8 @@ initial_by known kind.Integer = Undefined
 initial_by known kind.Boolean = Undefined
 initial_by known kind.Char = Undefined
 initial_by known (kind.Enumeration n) = Undefined
-initial_by known (kind.Array low high index element) = Parts (values (replicate (count low high) (first_or Undefined (slice_get known element))))
+initial_by known (kind.Array low high index element) =
+    Parts (values (replicate (count low high) (first_or Undefined (slice_get known element))))
 initial_by known (kind.Fields fs) = Parts (values (field_values known fs))
 initial_by known (kind.Channel ks) = Undefined
 

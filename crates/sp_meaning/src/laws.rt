@@ -29,23 +29,27 @@ pub fn fronts_are_lawful()
 /// Each schedule has exactly one longest lawful front: `longest` gives its length and its state.
 pub fn longest_fronts_are_exact()
     ensures is_one { (g : Setting) (qs : List Name) → IsLongestFront g (start g) qs (longest g qs).0 (longest g qs).1 }
-    ensures is_only { (g : Setting) (qs : List Name) (n : ℕ) (t : StateOf g) → IsLongestFront g (start g) qs n t → longest g qs ≡ (n, t) }
+    ensures is_only { (g : Setting) (qs : List Name) (n : ℕ) (t : StateOf g) → IsLongestFront g (start g) qs n t
+        → longest g qs ≡ (n, t) }
 {}
 
 /// Along a journal without a fault the names of the steps are a lawful schedule, as long as the run has steps.
 pub fn journals_have_schedules()
-    ensures { (g : Setting) (turn : ℕ) (es : List Occurrence) (n : ℕ) (t : StateOf g) → IsAlong g turn es n t → IsClean es
+    ensures { (g : Setting) (turn : ℕ) (es : List Occurrence) (n : ℕ) (t : StateOf g) → IsAlong g turn es n t
+        → IsClean es
         → (qs : List Name) × (length qs ≡ n) × Lawful g (start g) qs t }
 {}
 
 /// A process that has not ended never has fewer ticks than before.
 pub fn ticks_never_fall()
-    ensures { (g : Setting) (s : StateOf g) → IsReached g s → (p : Name) (t : StateOf g) → next g s p ≡ Some t → (q : Name) → HasNotFallen g s t q }
+    ensures { (g : Setting) (s : StateOf g) → IsReached g s → (p : Name) (t : StateOf g) → next g s p ≡ Some t
+        → (q : Name) → HasNotFallen g s t q }
 {}
 
 /// A step changes no location that nobody writes in it.
 pub fn unwritten_stays()
-    ensures { (g : Setting) (s : StateOf g) (p : Name) (t : StateOf g) → next g s p ≡ Some t → (l : Loc) → IsUnwritten g s p l → t.store l ≡ s.store l }
+    ensures { (g : Setting) (s : StateOf g) (p : Name) (t : StateOf g) → next g s p ≡ Some t → (l : Loc)
+        → IsUnwritten g s p l → t.store l ≡ s.store l }
 {}
 
 /// A step gives the same in two stores that agree on what it reads and writes.
@@ -66,7 +70,8 @@ pub fn states_are_sound()
 
 /// Two processes that run or wait for a message are parallel.
 pub fn active_are_parallel()
-    ensures { (g : Setting) (s : StateOf g) → IsReached g s → (a b : Name) → IsAlone g s a → IsAlone g s b → a ≢ b → AreParallel a b }
+    ensures { (g : Setting) (s : StateOf g) → IsReached g s → (a b : Name) → IsAlone g s a → IsAlone g s b → a ≢ b
+        → AreParallel a b }
 {}
 
 /// Where the root has ended, no process is running.

@@ -1,11 +1,13 @@
 -- Entry by entry, the machine's journal is the numbered one.
-use Rattle.std.proofs.Common.{◌≡◌, ⊎_elim, ℕ, ◌<◌, Bool, true, false, List, [], ◌∷◌, ◌++◌, append_assoc, append-nil, refl, sym, ap, ◌∙◌, subst}
+use Rattle.std.proofs.Common.{◌≡◌, ⊎_elim, ℕ, ◌<◌, Bool, true, false, List, [], ◌∷◌, ◌++◌, append_assoc, append-nil}
+use Rattle.std.proofs.Common.{refl, sym, ap, ◌∙◌, subst}
 use Rattle.sp_base.specs.declared.fault.Fault.{Fault}
 use Rattle.sp_tree.specs.Plain.{Stmt}
 use Rattle.sp_journal.specs.declared.entry.Entry.{Entry}
 use Rattle.sp_journal.specs.declared.entry.Event.TheVariants as event
 use Rattle.sp_journal.specs.Names.{Happening, Occurrence}
-use Rattle.sp_journal.specs.Births.{Births, at_start, after_entry, births_from, happening, occurrence, occurrences_from, NameableFrom}
+use Rattle.sp_journal.specs.Births.{Births, at_start, after_entry, births_from, happening, occurrence, occurrences_from}
+use Rattle.sp_journal.specs.Births.{NameableFrom}
 use Rattle.sp_cell.specs.Map.{Plain}
 use Rattle.sp_meaning.specs.Steps.{Lives as IsLive}
 use Rattle.sp_meaning.specs.Own.{Setting}
@@ -60,7 +62,9 @@ module _ (g : Setting) (moves shares : Stmt → List ℕ) (pause : ℕ) (ready :
   leads_last s (x ∷ es) e t u h k = (h.0, h.1, leads_last h.0 es e t u h.2 k)
 
   -- one more entry
-  module _ (done : List Occurrence) (o : Occurrence) (clean : IsClean done) (n : ℕ) (s : StateOf g) (along : IsAlong g pause (done ++ o ∷ []) n s) (es : List Entry) (named : NameableFrom at_start es) (names : occurrences_from at_start es ≡ done) where
+  module _ (done : List Occurrence) (o : Occurrence) (clean : IsClean done) (n : ℕ) (s : StateOf g)
+      (along : IsAlong g pause (done ++ o ∷ []) n s) (es : List Entry) (named : NameableFrom at_start es)
+      (names : occurrences_from at_start es ≡ done) where
     before : Front g pause no_course (start g) done o.who
     before = front g pause done o [] no_course (start g) n s along
 

@@ -1,5 +1,6 @@
 -- Fronts of a run along a journal, and that the state says what the next entry of a process is.
-use Rattle.std.proofs.Common.{◌≡◌, ℕ, zero, suc, ◌+◌, Bool, true, false, List, [], ◌∷◌, ◌++◌, Option, Some, None, refl, sym, ap, ◌∙◌, subst}
+use Rattle.std.proofs.Common.{◌≡◌, ℕ, zero, suc, ◌+◌, Bool, true, false, List, [], ◌∷◌, ◌++◌, Option, Some, None, refl}
+use Rattle.std.proofs.Common.{sym, ap, ◌∙◌, subst}
 use Rattle.std.proofs.lemmas.List.{append-nil}
 use Rattle.std.proofs.lemmas.Option.{same_Some}
 use Rattle.sp_meaning.specs.Model.{Name}
@@ -28,7 +29,9 @@ module _ (g : Setting) (turn : ℕ) where
     own : Process
     runs : running g state r ≡ Some own
 
-  module _ (xs : List Occurrence) (r : Name) (left : Course → StateOf g → ℕ → Type 0) (go : (c1 : Course) (u : StateOf g) (k : ℕ) → left c1 u k → Front c1 u xs r) (c : Course) (m : StateOf g) (p : Bool) (q : Name) where
+  module _ (xs : List Occurrence) (r : Name) (left : Course → StateOf g → ℕ → Type 0)
+      (go : (c1 : Course) (u : StateOf g) (k : ℕ) → left c1 u k → Front c1 u xs r) (c : Course) (m : StateOf g)
+      (p : Bool) (q : Name) where
     entry : (what : Happening) (n : ℕ) → Entered g left c m p q what n → Entry xs r c m p q what
     entry Laid n h = let x = go (stopped q c) m n h.1 in
         record { state = x.state; count = x.steps; entered = (h.0, x.along); own = x.own; runs = x.runs }
@@ -134,7 +137,8 @@ module _ (g : Setting) (turn : ℕ) where
     entry_says (Faulted f) n h = kernel_says (Faulted f) n h
 
   -- two ways on after one entry
-  module _ (A : Type 0) (left right : Course → StateOf g → ℕ → Type 0) (c : Course) (m : StateOf g) (p : Bool) (q : Name) (go : (c1 : Course) (u : StateOf g) (n k : ℕ) → left c1 u n → right c1 u k → A) where
+  module _ (A : Type 0) (left right : Course → StateOf g → ℕ → Type 0) (c : Course) (m : StateOf g) (p : Bool)
+      (q : Name) (go : (c1 : Course) (u : StateOf g) (n k : ℕ) → left c1 u n → right c1 u k → A) where
     kernel_two : (what : Happening) (n k : ℕ) → Kernel g left c m p q what n → Kernel g right c m p q what k → A
     kernel_two what n k h i =
         let own = same_Some h.5.0 i.5.0 (sym h.5.1 ∙ i.5.1) in

@@ -1,3 +1,4 @@
+-- Some of this belongs to what the program promises (docs/promise.txt).
 -- Counts of faults, and what it means that a count rose. Each contract on a source, a sink or a library says of an
 -- error that its count rose. A counter may stand at its last value, so "rose" is said and not "one more".
 use Rattle.std.specs.Prelude.{◌≡◌, ◌⊎◌, ℕ, ◌<◌, ◌+◌, min}

@@ -1,3 +1,4 @@
+-- None of this belongs to what the program promises: it is for contracts between crates.
 -- Files in memory: the contracts of `MemoryLibrary` say by it what a name holds. Of files with one name the first
 -- counts.
 use Rattle.std.specs.Prelude.{ℕ, List, Option}

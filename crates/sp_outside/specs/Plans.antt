@@ -1,3 +1,4 @@
+-- None of this belongs to what the program promises: it is for contracts between crates.
 -- Which calls of an outside in memory fail. The contracts of the sources, sinks and libraries in memory cite it:
 -- failures go by the numbers of calls, so that a test can place each one.
 use Rattle.std.specs.Prelude.{ℕ, List, Bool, ◌==◌, cond}

@@ -1,3 +1,4 @@
+-- None of this belongs to what the program promises: it is for contracts between crates.
 -- Bytes that are put into a room of a fixed length, which the sinks in memory write to. What did not fit is lost, and
 -- from then on nothing is told of what was put.
 use Rattle.std.specs.Prelude.{◌≡◌, ℕ, List, [], ◌++◌, take, length, ◌+◌, nat_le, Option, Some, None, true, ◌&&◌, cond}

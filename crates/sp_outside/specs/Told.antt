@@ -1,3 +1,4 @@
+-- Some of this belongs to what the program promises (docs/promise.txt).
 -- What is told of the bytes that the outside holds, gives or gets. The traits `Source` and `Sink` and all that read
 -- and write through them cite it. A real stream tells nothing (`None`), so each clause holds of it too.
 use Rattle.std.specs.Prelude.{◌≡◌, ℕ, List, [], ◌++◌, Option, None, Some}

@@ -60,7 +60,8 @@ impl Source for MemorySource {
         ensures exact { IsErr result ↔ IsTrue (fails_next self.old.plan) }
         ensures plan { self.new.plan ≡ after_call (fails_next self.old.plan) self.old.plan }
         ensures most { self.new.most ≡ self.old.most }
-        ensures count { IfOk result (λ n. n ≡ min (min (length buf.old) self.old.most) (length (left_on self.old.tape))) }
+        ensures count { IfOk result (λ n. n ≡ min (min (length buf.old) self.old.most)
+            (length (left_on self.old.tape))) }
     {
         let fails = self.plan.fails();
         self.plan.call();

@@ -28,7 +28,8 @@ pub trait Sink {
 /// Puts all bytes, piece by piece. Where a put fails, the sink has got a first part of them.
 pub fn put_all<S: Sink>(sink: &mut S, bytes: &[u8]) -> Result<(), Failed>
     ensures ok { OnOk result (Grows (S.written sink.old) (S.written sink.new) bytes.now) }
-    ensures part { (n : ℕ) × (n ≤ length bytes.now) × Grows (S.written sink.old) (S.written sink.new) (take n bytes.now) }
+    ensures part { (n : ℕ) × (n ≤ length bytes.now)
+        × Grows (S.written sink.old) (S.written sink.new) (take n bytes.now) }
     ensures failed { OnErr result (Rose (S.faults sink.old) (S.faults sink.new)) }
     ensures counted { S.faults sink.old ≤ S.faults sink.new }
 {

@@ -1,5 +1,6 @@
 -- The tokens of a text that breaks no rule of characters lie in it, and their numbers are integers.
-use Rattle.std.proofs.Common.{◌≡◌, ℕ, suc, ◌-◌, ◌<◌, ◌≤◌, Bool, true, List, [], ◌∷◌, ◌++◌, length, map, take, drop, refl, sym as back_of, ap, ◌∙◌, subst, arith, length-append, append_assoc}
+use Rattle.std.proofs.Common.{◌≡◌, ℕ, suc, ◌-◌, ◌<◌, ◌≤◌, Bool, true, List, [], ◌∷◌, ◌++◌, length, map, take, drop}
+use Rattle.std.proofs.Common.{refl, sym as back_of, ap, ◌∙◌, subst, arith, length-append, append_assoc}
 use Rattle.std.proofs.lemmas.Bool.Decides.{nat_tests}
 use Rattle.std.proofs.Math.Seq.{drop-append_seam}
 use Rattle.sp_base.specs.declared.place.Place.{Place}
@@ -11,7 +12,9 @@ use Rattle.sp_tree.specs.declared.token.Kind.TheVariants as kind
 use Rattle.sp_tree.specs.Characters.{is_digit, lower}
 use Rattle.sp_tree.specs.Places.{place_at}
 use Rattle.sp_tree.specs.Spelling.{spelling, number_of, digits_value}
-use Rattle.sp_tree.specs.Lexemes.{Run, run_ends, run_goes_on, TextBody, text_ends, two_quotes, text_byte, BraceBody, brace_ends, brace_byte, StarBody, star_ends, star_byte, Comment, brace_comment, star_comment, Lexeme, Longest, lowered}
+use Rattle.sp_tree.specs.Lexemes.{Run, run_ends, run_goes_on, TextBody, text_ends, two_quotes, text_byte, BraceBody}
+use Rattle.sp_tree.specs.Lexemes.{brace_ends, brace_byte, StarBody, star_ends, star_byte, Comment, brace_comment}
+use Rattle.sp_tree.specs.Lexemes.{star_comment, Lexeme, Longest, lowered}
 use Rattle.sp_tree.specs.Lexemes as l
 use Rattle.sp_tree.specs.Scans.{Scans, nothing, blank, comment, token, offset, token_from, BreaksLexis, IsTokens}
 use Rattle.sp_grammar.proofs.Rising.{lexeme_length}
@@ -67,52 +70,72 @@ dropped text bs h =
 digit_lower : (b : ℕ) → is_digit b ≡ true → lower b ≡ b
 digit_lower b h = grind (arith, nat_tests)
 
-digits_lower : {bs r : List ℕ} → Run is_digit bs r → map lower (take (length bs - length r) bs) ≡ take (length bs - length r) bs
-digits_lower {bs} run_ends = let n : length bs - length bs ≡ 0 = omega arith in ap (λ n. map lower (take n bs)) n ∙ ap (λ n. take n bs) (back_of n)
+digits_lower : {bs r : List ℕ} → Run is_digit bs r
+    → map lower (take (length bs - length r) bs) ≡ take (length bs - length r) bs
+digits_lower {bs} run_ends = let n : length bs - length bs ≡ 0 = omega arith in
+    ap (λ n. map lower (take n bs)) n ∙ ap (λ n. take n bs) (back_of n)
 digits_lower {bs = b ∷ bs} {r} (run_goes_on b' h x) =
     let n : suc (length bs) - length r ≡ suc (length bs - length r) = omega (arith, tail_length (run_tail x)) in
-    ap (λ n. map lower (take n (b ∷ bs))) n ∙ (λ i. digit_lower b h i ∷ digits_lower x i) ∙ ap (λ n. take n (b ∷ bs)) (back_of n)
+    ap (λ n. map lower (take n (b ∷ bs))) n ∙ (λ i. digit_lower b h i ∷ digits_lower x i)
+    ∙ ap (λ n. take n (b ∷ bs)) (back_of n)
 
 number_lower : {bs r : List ℕ} → Lexeme kind.Number bs r → lowered bs r ≡ take (length bs - length r) bs
 number_lower {bs = b ∷ bs} {r} (l.number b' h x) = digits_lower (run_goes_on b h x)
 number_lower {bs = []} {r = r} x = elim x [ ]
 
 -- a part of a text behind another
-append_scans : {text bs u r : List ℕ} {ts us : List Token} → Scans text bs u ts → Scans text u r us → Scans text bs r (ts ++ us)
+append_scans : {text bs u r : List ℕ} {ts us : List Token} → Scans text bs u ts → Scans text u r us
+    → Scans text bs r (ts ++ us)
 append_scans nothing y = y
 append_scans (blank b h x) y = blank b h (append_scans x y)
 append_scans (comment c x) y = comment c (append_scans x y)
 append_scans (token k o g x) y = token k o g (append_scans x y)
 
 module _ (text : List ℕ) (kept : (r : Rule) (at : Place) → BreaksLexis text r at → ⊥) where
-  spelled : (k : Kind) (bs u : List ℕ) → Tail text bs → Tail bs u → spelling text (token_from text k bs u) ≡ take (length bs - length u) bs
+  spelled : (k : Kind) (bs u : List ℕ) → Tail text bs → Tail bs u
+      → spelling text (token_from text k bs u) ≡ take (length bs - length u) bs
   spelled k bs u a b =
       let n : offset text u - offset text bs ≡ length bs - length u = omega (arith, tail_length a, tail_length b) in
       ap (λ n. take n (drop (offset text bs) text)) n ∙ ap (take (length bs - length u)) (dropped text bs a)
 
-  small : (bs u : List ℕ) (before : List Token) → Scans text text bs before → Longest kind.Number bs u → digits_value 0 (lowered bs u) ≤ 9223372036854775807
-  small bs u before along g = by_size (λ h. kept rule.S4 (place_at text (offset text bs)) (record { rest = bs; tokens = before; along = along; here = record { rest = u; number = g; above = h }; place = refl }))
+  small : (bs u : List ℕ) (before : List Token) → Scans text text bs before → Longest kind.Number bs u
+      → digits_value 0 (lowered bs u) ≤ 9223372036854775807
+  small bs u before along g = by_size (λ h. kept rule.S4 (place_at text (offset text bs))
+      (record {
+        rest = bs;
+        tokens = before;
+        along = along;
+        here = record { rest = u; number = g; above = h };
+        place = refl;
+      }))
     where
-      by_size : (9223372036854775807 < digits_value 0 (lowered bs u) → ⊥) → digits_value 0 (lowered bs u) ≤ 9223372036854775807
+      by_size : (9223372036854775807 < digits_value 0 (lowered bs u) → ⊥)
+          → digits_value 0 (lowered bs u) ≤ 9223372036854775807
       by_size h = grind (arith, nat_tests)
 
-  number_fits : (k : Kind) (bs u : List ℕ) (before : List Token) → Tail text bs → Scans text text bs before → Longest k bs u → k ≡ kind.Number → number_of text (token_from text k bs u) ≤ 9223372036854775807
+  number_fits : (k : Kind) (bs u : List ℕ) (before : List Token) → Tail text bs → Scans text text bs before
+      → Longest k bs u → k ≡ kind.Number → number_of text (token_from text k bs u) ≤ 9223372036854775807
   number_fits k bs u before a along g p =
       let n : Longest kind.Number bs u = subst (λ k. Longest k bs u) p g in
-      let e : number_of text (token_from text k bs u) ≡ digits_value 0 (lowered bs u) = ap (digits_value 0) (spelled k bs u a (lexeme_tail g.spelled) ∙ back_of (number_lower n.spelled)) in
+      let e : number_of text (token_from text k bs u) ≡ digits_value 0 (lowered bs u) =
+      ap (digits_value 0) (spelled k bs u a (lexeme_tail g.spelled) ∙ back_of (number_lower n.spelled)) in
       omega (arith, e, small bs u before along n)
 
-  fit : {bs r : List ℕ} {ts : List Token} (before : List Token) → Tail text bs → Scans text text bs before → Scans text bs r ts → AllFit text ts
+  fit : {bs r : List ℕ} {ts : List Token} (before : List Token) → Tail text bs → Scans text text bs before
+      → Scans text bs r ts → AllFit text ts
   fit before a along nothing = tt
-  fit {bs = b ∷ bs} before a along (blank b' h x) = fit (before ++ []) (behind a (b ∷ [], refl)) (append_scans along (blank b h nothing)) x
-  fit {bs} before a along (comment {u = u} c x) = fit (before ++ []) (behind a (comment_tail c)) (append_scans along (comment c nothing)) x
+  fit {bs = b ∷ bs} before a along (blank b' h x) =
+      fit (before ++ []) (behind a (b ∷ [], refl)) (append_scans along (blank b h nothing)) x
+  fit {bs} before a along (comment {u = u} c x) =
+      fit (before ++ []) (behind a (comment_tail c)) (append_scans along (comment c nothing)) x
   fit {bs} before a along (token {u = u} k o g x) = (
     record {
       order = omega (arith, lexeme_length g.spelled);
       within = omega arith;
       number = λ p. number_fits k bs u before a along g p;
     },
-    fit (before ++ token_from text k bs u ∷ []) (behind a (lexeme_tail g.spelled)) (append_scans along (token k o g nothing)) x,
+    fit (before ++ token_from text k bs u ∷ []) (behind a (lexeme_tail g.spelled))
+        (append_scans along (token k o g nothing)) x,
   )
 
 pub all_fit : (text : List ℕ) (ts : List Token) → IsTokens text ts → AllFit text ts

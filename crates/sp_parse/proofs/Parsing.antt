@@ -1,5 +1,6 @@
 -- From the parts of the parser to the tree of a text.
-use Rattle.std.proofs.Common.{◌≡◌, ℕ, ◌+◌, ◌≤◌, List, [], ◌∷◌, length, take, Some, Result, Ok, Err, refl, sym as back_of, ap, ◌∙◌, subst}
+use Rattle.std.proofs.Common.{◌≡◌, ℕ, ◌+◌, ◌≤◌, List, [], ◌∷◌, length, take, Some, Result, Ok, Err, refl}
+use Rattle.std.proofs.Common.{sym as back_of, ap, ◌∙◌, subst}
 use Rattle.std.proofs.Math.Seq.{take-append_seam}
 use Rattle.std.proofs.lemmas.List.{append-nil}
 use Rattle.sp_base.specs.declared.place.Place.{Place}
@@ -41,35 +42,48 @@ whole_text text = ap (take (length text)) (back_of (append-nil text)) ∙ take-a
 pub at_end : (text : List ℕ) (p : Place) → p ≡ place_behind start text → p ≡ place_at text (length text)
 at_end text p h = h ∙ ap (place_behind start) (back_of (whole_text text))
 
-pub is_ready : (source : Source) (ts : List Token) → source.end ≡ place_at source.text.now (length source.text.now) → IsTokens source.text.now ts → Ready source ts
+pub is_ready : (source : Source) (ts : List Token) → source.end ≡ place_at source.text.now (length source.text.now)
+    → IsTokens source.text.now ts → Ready source ts
 is_ready source ts e h = record { end = e; fit = all_fit source.text.now ts h }
 
 -- a refusal is that of the machine
-stopped : (text : List ℕ) (ts : List Token) (f : Refusal) (x : End) → run (Some nesting) ts (AProgram ∷ []) ≡ x → refused_by text x ≡ Some f → Stops text ts (AProgram ∷ []) f
+stopped : (text : List ℕ) (ts : List Token) (f : Refusal) (x : End) → run (Some nesting) ts (AProgram ∷ []) ≡ x
+    → refused_by text x ≡ Some f → Stops text ts (AProgram ∷ []) f
 stopped text ts f Done e h = absurd cc
 stopped text ts f (Stuck w us) e h = record { why = w; rest = us; by = e; is = cc }
 
-stops : (source : Source) (ts : List Token) (f : Refusal) → breaks source ts (AProgram ∷ []) ≡ Some f → Stops source.text.now ts (AProgram ∷ []) f
+stops : (source : Source) (ts : List Token) (f : Refusal) → breaks source ts (AProgram ∷ []) ≡ Some f
+    → Stops source.text.now ts (AProgram ∷ []) f
 unfolding breaks
 stops source ts f h = stopped source.text.now ts f (run (Some nesting) ts (AProgram ∷ [])) refl h
 
-first : (source : Source) (ts : List Token) (f : Refusal) → IsTokens source.text.now ts → breaks source ts (AProgram ∷ []) ≡ Some f → IsFirst (BreaksGrammar source.text.now ts) f
+first : (source : Source) (ts : List Token) (f : Refusal) → IsTokens source.text.now ts
+    → breaks source ts (AProgram ∷ []) ≡ Some f → IsFirst (BreaksGrammar source.text.now ts) f
 first source ts f h b = first_broken source.text.now ts h.scans f (stops source ts f b)
 
-pub refused : (source : Source) (ts : List Token) (result : Result Syntax Halt) (e : Halt) → IsTokens source.text.now ts → (y : Halt) × (result ≡ Err y) × (y ≡ e) → Halts source (AProgram ∷ []) ts e → Parsed source.text.now ts result
-refused source ts result halt.Memory h p x = let q : result ≡ Err halt.Memory = p.1 ∙ ap Err p.2 in subst (Parsed source.text.now ts) (back_of q) tt
-refused source ts result (halt.Refused f) h p x = let q : result ≡ Err (halt.Refused f) = p.1 ∙ ap Err p.2 in subst (Parsed source.text.now ts) (back_of q) (first source ts f h (x []))
+pub refused : (source : Source) (ts : List Token) (result : Result Syntax Halt) (e : Halt) → IsTokens source.text.now ts
+    → (y : Halt) × (result ≡ Err y) × (y ≡ e) → Halts source (AProgram ∷ []) ts e → Parsed source.text.now ts result
+refused source ts result halt.Memory h p x = let q : result ≡ Err halt.Memory = p.1 ∙ ap Err p.2 in
+    subst (Parsed source.text.now ts) (back_of q) tt
+refused source ts result (halt.Refused f) h p x = let q : result ≡ Err (halt.Refused f) = p.1 ∙ ap Err p.2 in
+    subst (Parsed source.text.now ts) (back_of q) (first source ts f h (x []))
 
 -- nothing may stand behind a program
-nothing_behind : (source : Source) (t : Token) (us : List Token) → breaks source (t ∷ us) [] ≡ Some (record { rule = rule.G1; at = t.at })
+nothing_behind : (source : Source) (t : Token) (us : List Token)
+    → breaks source (t ∷ us) [] ≡ Some (record { rule = rule.G1; at = t.at })
 unfolding breaks
 nothing_behind source t us = refl
 
-more_behind : (source : Source) (rest : List Token) (t : Token) (us : List Token) → rest ≡ t ∷ us → breaks source rest [] ≡ Some (record { rule = rule.G1; at = t.at })
+more_behind : (source : Source) (rest : List Token) (t : Token) (us : List Token) → rest ≡ t ∷ us
+    → breaks source rest [] ≡ Some (record { rule = rule.G1; at = t.at })
 more_behind source rest t us e = ap (λ l. breaks source l []) e ∙ nothing_behind source t us
 
-pub too_long : (source : Source) (ts rest : List Token) (t : Token) (us : List Token) (tree : Syntax) (e : Halt) → IsTokens source.text.now ts → HasRead source (AProgram ∷ []) (λ vs. vs.0) program_of ts rest tree → rest ≡ t ∷ us → e ≡ halt.Refused (record { rule = rule.G1; at = t.at }) → Parsed source.text.now ts (Err e)
-too_long source ts rest t us tree e h x q p = subst (λ e. Parsed source.text.now ts (Err e)) (back_of p) (first source ts (record { rule = rule.G1; at = t.at }) h (x.leads [] ∙ more_behind source rest t us q))
+pub too_long : (source : Source) (ts rest : List Token) (t : Token) (us : List Token) (tree : Syntax) (e : Halt)
+    → IsTokens source.text.now ts → HasRead source (AProgram ∷ []) (λ vs. vs.0) program_of ts rest tree → rest ≡ t ∷ us
+    → e ≡ halt.Refused (record { rule = rule.G1; at = t.at }) → Parsed source.text.now ts (Err e)
+too_long source ts rest t us tree e h x q p =
+    subst (λ e. Parsed source.text.now ts (Err e)) (back_of p)
+    (first source ts (record { rule = rule.G1; at = t.at }) h (x.leads [] ∙ more_behind source rest t us q))
 
 -- no token is left
 pub none_left : (source : Source) (ts : List Token) (e : Halt) → Cuts source ts (Err e) → ts ≡ []
@@ -77,14 +91,19 @@ none_left source ts halt.Memory h = absurd h
 none_left source ts (halt.Refused f) h = h.0
 
 -- the tree
-shallow : (source : Source) (ts : List Token) (p : Program) → IsProgram source.text.now Within ts [] p → IsProgram source.text.now (Shallow nesting 0) ts [] p
+shallow : (source : Source) (ts : List Token) (p : Program) → IsProgram source.text.now Within ts [] p
+    → IsProgram source.text.now (Shallow nesting 0) ts [] p
 shallow source ts p x = wider_program source.text.now Within (Shallow nesting 0) (λ d us h g. h) x
 
-spelled : (source : Source) (ts : List Token) (p : Program) → IsProgram source.text.now (Shallow nesting 0) ts [] p → SpellsWell source.text.now ts p
+spelled : (source : Source) (ts : List Token) (p : Program) → IsProgram source.text.now (Shallow nesting 0) ts [] p
+    → SpellsWell source.text.now ts p
 spelled source ts p x = record { spells = spells source.text.now ts p x; kept = none_broken source.text.now ts p x }
 
-pub is_tree : (source : Source) (ts rest : List Token) (tree : Syntax) → HasRead source (AProgram ∷ []) (λ vs. vs.0) program_of ts rest tree → rest ≡ [] → Parsed source.text.now ts (Ok tree)
+pub is_tree : (source : Source) (ts rest : List Token) (tree : Syntax)
+    → HasRead source (AProgram ∷ []) (λ vs. vs.0) program_of ts rest tree → rest ≡ []
+    → Parsed source.text.now ts (Ok tree)
 is_tree source ts rest tree x q =
     let text = source.text.now in
-    let y : IsProgram text Within ts [] x.values.0 = subst (λ r. IsProgram text Within ts r x.values.0) q (from text Within (one x)) in
+    let y : IsProgram text Within ts [] x.values.0 =
+    subst (λ r. IsProgram text Within ts r x.values.0) q (from text Within (one x)) in
     subst (SpellsWell text ts) (back_of x.same) (spelled source ts x.values.0 (shallow source ts x.values.0 y))

@@ -1,5 +1,6 @@
 -- How formal parameters are read.
-use Rattle.std.proofs.Common.{◌≡◌, true, false, List, [], ◌∷◌, ◌++◌, Some, None, cond, refl, sym as back_of, ap, ◌∙◌, append_assoc}
+use Rattle.std.proofs.Common.{◌≡◌, true, false, List, [], ◌∷◌, ◌++◌, Some, None, cond, refl, sym as back_of, ap, ◌∙◌}
+use Rattle.std.proofs.Common.{append_assoc}
 use Rattle.std.proofs.lemmas.List.{append-nil}
 use Rattle.sp_base.specs.declared.halt.Halt.{Halt}
 use Rattle.sp_tree.specs.declared.token.Token.{Token}
@@ -26,32 +27,51 @@ parameters_of g = record { by_reference = false; names = g.names; kind = g.kind 
 abbrev references_of : SynGroup → SynFormal
 references_of g = record { by_reference = true; names = g.names; kind = g.kind }
 
-pub by_reference : {source : Source} {ts rest r : List Token} {g : SynGroup} {f : SynFormal} → BeginsWith source ts w.Var rest → GroupRead source rest r g → f ≡ record { by_reference = true; names = g.names; kind = g.kind } → FormalRead source ts r f
+pub by_reference : {source : Source} {ts rest r : List Token} {g : SynGroup} {f : SynFormal}
+    → BeginsWith source ts w.Var rest → GroupRead source rest r g
+    → f ≡ record { by_reference = true; names = g.names; kind = g.kind } → FormalRead source ts r f
 by_reference b h e = row_reads row.by_reference refl b tt h (e ∙ ap references_of h.same)
 
-pub by_value : {source : Source} {ts r : List Token} {g : SynGroup} {f : SynFormal} → Ready source ts → GroupRead source ts r g → f ≡ record { by_reference = false; names = g.names; kind = g.kind } → FormalRead source ts r f
+pub by_value : {source : Source} {ts r : List Token} {g : SynGroup} {f : SynFormal} → Ready source ts
+    → GroupRead source ts r g → f ≡ record { by_reference = false; names = g.names; kind = g.kind }
+    → FormalRead source ts r f
 by_value a h e = let n = name_first a h in row_reads row.by_value refl n.begins tt n.read (e ∙ ap parameters_of n.same)
 
-pub no_formal : (source : Source) {ts : List Token} → BeginsOther ts w.Var → (e : Halt) → Halts source GroupSymbols ts e → Halts source (AFormal ∷ []) ts e
-no_formal source b e h = named_halts source row.by_value refl refl b.token b.rest b.all (λ n. none_if _ n (none_if _ b.other refl)) refl e h
+pub no_formal : (source : Source) {ts : List Token} → BeginsOther ts w.Var → (e : Halt) → Halts source GroupSymbols ts e
+    → Halts source (AFormal ∷ []) ts e
+no_formal source b e h = named_halts source row.by_value refl refl b.token b.rest b.all
+    (λ n. none_if _ n (none_if _ b.other refl)) refl e h
 
 abbrev pub FormalsSoFar : Source → List SynFormal → List Token → List Token → Type 0
-FormalsSoFar source all ts rest = SoFar source (AFormal ∷ MoreFormals ∷ []) (λ vs. vs.0 ∷ vs.1.0) MoreFormals (λ fs. all ++ fs) ts rest
+FormalsSoFar source all ts rest = SoFar source (AFormal ∷ MoreFormals ∷ []) (λ vs. vs.0 ∷ vs.1.0) MoreFormals
+    (λ fs. all ++ fs) ts rest
 
 abbrev pub FormalsPending : Source → List SynFormal → List Token → List Token → Type 0
-FormalsPending source all ts rest = Pending source (AFormal ∷ MoreFormals ∷ []) (λ vs. vs.0 ∷ vs.1.0) (AFormal ∷ MoreFormals ∷ []) (λ vs. all ++ vs.0 ∷ vs.1.0) ts rest
+FormalsPending source all ts rest = Pending source (AFormal ∷ MoreFormals ∷ []) (λ vs. vs.0 ∷ vs.1.0)
+    (AFormal ∷ MoreFormals ∷ []) (λ vs. all ++ vs.0 ∷ vs.1.0) ts rest
 
-pub formals_none : {source : Source} {ts : List Token} (all : List SynFormal) → all ≡ [] → Ready source ts → FormalsPending source all ts ts
+pub formals_none : {source : Source} {ts : List Token} (all : List SynFormal) → all ≡ [] → Ready source ts
+    → FormalsPending source all ts ts
 formals_none all e a = none_read (λ vs. ap (λ l. l ++ vs.0 ∷ vs.1.0) e) a
 
-pub formals_read : {source : Source} {ts rest left : List Token} {f : SynFormal} (all new : List SynFormal) → FormalsPending source all ts rest → FormalRead source rest left f → new ≡ all ++ f ∷ [] → FormalsSoFar source new ts left
-formals_read all new p h e = item_read p h (λ fs. ap (λ l. l ++ fs) e ∙ append_assoc all _ fs ∙ ap (λ f. all ++ f ∷ fs) h.same)
+pub formals_read : {source : Source} {ts rest left : List Token} {f : SynFormal} (all new : List SynFormal)
+    → FormalsPending source all ts rest → FormalRead source rest left f → new ≡ all ++ f ∷ []
+    → FormalsSoFar source new ts left
+formals_read all new p h e = item_read p h (λ fs. ap (λ l. l ++ fs) e ∙ append_assoc all _ fs
+    ∙ ap (λ f. all ++ f ∷ fs) h.same)
 
-pub formals_on : {source : Source} {ts rest behind : List Token} (all : List SynFormal) → FormalsSoFar source all ts rest → BeginsWith source rest w.Semicolon behind → FormalsPending source all ts behind
+pub formals_on : {source : Source} {ts rest behind : List Token} (all : List SynFormal)
+    → FormalsSoFar source all ts rest → BeginsWith source rest w.Semicolon behind → FormalsPending source all ts behind
 formals_on all so b = round_on row.next_formal refl refl so b (λ vs. refl)
 
-pub formals_close : {source : Source} {ts rest r : List Token} (all : List SynFormal) → FormalsSoFar source all ts rest → BeginsWith source rest w.Close r → HasRead source (AFormal ∷ MoreFormals ∷ []) (λ vs. vs.0 ∷ vs.1.0) (λ (fs : List SynFormal). fs) ts r all
+pub formals_close : {source : Source} {ts rest r : List Token} (all : List SynFormal) → FormalsSoFar source all ts rest
+    → BeginsWith source rest w.Close r → HasRead source (AFormal ∷ MoreFormals ∷ []) (λ vs. vs.0 ∷ vs.1.0)
+    (λ (fs : List SynFormal). fs) ts r all
 formals_close all so b = closes row.formals_end refl refl so b (back_of (append-nil all))
 
-pub no_formals : {source : Source} {ts rest : List Token} (all : List SynFormal) → FormalsSoFar source all ts rest → BeginsOther rest w.Semicolon → (e : Halt) → Halts source (AToken w.Close ∷ []) rest e → Halts source (AFormal ∷ MoreFormals ∷ []) ts e
-no_formals all so b e h = halts_close row.formals_end b (ap (λ x. cond (kind_is w.Close b.token.kind) (Some (entry w.Close [] row.formals_end)) (cond x (Some (entry w.Semicolon (AFormal ∷ MoreFormals ∷ []) row.next_formal)) None)) b.other) refl refl so e h
+pub no_formals : {source : Source} {ts rest : List Token} (all : List SynFormal) → FormalsSoFar source all ts rest
+    → BeginsOther rest w.Semicolon → (e : Halt) → Halts source (AToken w.Close ∷ []) rest e
+    → Halts source (AFormal ∷ MoreFormals ∷ []) ts e
+no_formals all so b e h = halts_close row.formals_end b
+    (ap (λ x. cond (kind_is w.Close b.token.kind) (Some (entry w.Close [] row.formals_end))
+    (cond x (Some (entry w.Semicolon (AFormal ∷ MoreFormals ∷ []) row.next_formal)) None)) b.other) refl refl so e h

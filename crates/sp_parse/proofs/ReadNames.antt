@@ -1,5 +1,6 @@
 -- How names are read.
-use Rattle.std.proofs.Common.{◌≡◌, List, [], ◌∷◌, ◌++◌, Some, None, cond, refl, sym as back_of, ap, ◌∙◌, subst, append_assoc}
+use Rattle.std.proofs.Common.{◌≡◌, List, [], ◌∷◌, ◌++◌, Some, None, cond, refl, sym as back_of, ap, ◌∙◌, subst}
+use Rattle.std.proofs.Common.{append_assoc}
 use Rattle.std.proofs.lemmas.List.{append-nil}
 use Rattle.sp_tree.specs.declared.token.Token.{Token}
 use Rattle.sp_tree.specs.declared.token.Kind.{Kind}
@@ -21,23 +22,36 @@ pub not_name : (k : Kind) → (k ≡ kind.Name → ⊥) → look (rows AName) k 
 not_name kind.Name h = absurd (h refl)
 not_name k h = refl
 
-pub name_is : {source : Source} {ts r : List Token} {t : Token} {n : Name} → Begins source ts t r → t.kind ≡ kind.Name → n ≡ name_of source.text.now t → HasRead source (AName ∷ []) (λ vs. vs.0) (λ (n : Name). n) ts r n
-name_is {source} {ts} {r} {t} {n} b p e = has_read b.ready (subst (λ l. DerivesAll source.text.now Within (AName ∷ []) l r (name_of source.text.now t, tt)) (back_of b.all) (and (take (entry _ _ row.name) refl t p tt none) none)) e
+pub name_is : {source : Source} {ts r : List Token} {t : Token} {n : Name} → Begins source ts t r → t.kind ≡ kind.Name
+    → n ≡ name_of source.text.now t → HasRead source (AName ∷ []) (λ vs. vs.0) (λ (n : Name). n) ts r n
+name_is {source} {ts} {r} {t} {n} b p e = has_read b.ready
+    (subst (λ l. DerivesAll source.text.now Within (AName ∷ []) l r (name_of source.text.now t, tt)) (back_of b.all)
+    (and (take (entry _ _ row.name) refl t p tt none) none)) e
 
 abbrev pub NamesSoFar : Source → List Name → List Token → List Token → Type 0
-NamesSoFar source all ts rest = SoFar source (AName ∷ MoreNames ∷ []) (λ vs. vs.0 ∷ vs.1.0) MoreNames (λ ns. all ++ ns) ts rest
+NamesSoFar source all ts rest = SoFar source (AName ∷ MoreNames ∷ []) (λ vs. vs.0 ∷ vs.1.0) MoreNames (λ ns. all ++ ns)
+    ts rest
 
 abbrev pub NamesPending : Source → List Name → List Token → List Token → Type 0
-NamesPending source all ts rest = Pending source (AName ∷ MoreNames ∷ []) (λ vs. vs.0 ∷ vs.1.0) (AName ∷ MoreNames ∷ []) (λ vs. all ++ vs.0 ∷ vs.1.0) ts rest
+NamesPending source all ts rest = Pending source (AName ∷ MoreNames ∷ []) (λ vs. vs.0 ∷ vs.1.0) (AName ∷ MoreNames ∷ [])
+    (λ vs. all ++ vs.0 ∷ vs.1.0) ts rest
 
-pub names_none : {source : Source} {ts : List Token} (all : List Name) → all ≡ [] → Ready source ts → NamesPending source all ts ts
+pub names_none : {source : Source} {ts : List Token} (all : List Name) → all ≡ [] → Ready source ts
+    → NamesPending source all ts ts
 names_none all e a = none_read (λ vs. ap (λ l. l ++ vs.0 ∷ vs.1.0) e) a
 
-pub names_read : {source : Source} {ts rest left : List Token} {n : Name} (all new : List Name) → NamesPending source all ts rest → HasRead source (AName ∷ []) (λ vs. vs.0) (λ (n : Name). n) rest left n → new ≡ all ++ n ∷ [] → NamesSoFar source new ts left
-names_read all new p h e = item_read p h (λ ns. ap (λ l. l ++ ns) e ∙ append_assoc all _ ns ∙ ap (λ n. all ++ n ∷ ns) h.same)
+pub names_read : {source : Source} {ts rest left : List Token} {n : Name} (all new : List Name)
+    → NamesPending source all ts rest → HasRead source (AName ∷ []) (λ vs. vs.0) (λ (n : Name). n) rest left n
+    → new ≡ all ++ n ∷ [] → NamesSoFar source new ts left
+names_read all new p h e = item_read p h (λ ns. ap (λ l. l ++ ns) e ∙ append_assoc all _ ns
+    ∙ ap (λ n. all ++ n ∷ ns) h.same)
 
-pub names_on : {source : Source} {ts rest behind : List Token} (all : List Name) → NamesSoFar source all ts rest → BeginsWith source rest w.Comma behind → NamesPending source all ts behind
+pub names_on : {source : Source} {ts rest behind : List Token} (all : List Name) → NamesSoFar source all ts rest
+    → BeginsWith source rest w.Comma behind → NamesPending source all ts behind
 names_on all so b = round_on row.next_name refl refl so b (λ vs. refl)
 
-pub names_end : {source : Source} {ts rest : List Token} (all : List Name) → NamesSoFar source all ts rest → BeginsOther rest w.Comma → HasRead source (AName ∷ MoreNames ∷ []) (λ vs. vs.0 ∷ vs.1.0) (λ (ns : List Name). ns) ts rest all
-names_end all so b = ends so (skipped MoreNames b.token b.rest b.all (ap (λ x. cond x (Some (entry _ _ row.next_name)) None) b.other) refl) so.ready (back_of (append-nil all))
+pub names_end : {source : Source} {ts rest : List Token} (all : List Name) → NamesSoFar source all ts rest
+    → BeginsOther rest w.Comma → HasRead source (AName ∷ MoreNames ∷ []) (λ vs. vs.0 ∷ vs.1.0) (λ (ns : List Name). ns)
+    ts rest all
+names_end all so b = ends so (skipped MoreNames b.token b.rest b.all
+    (ap (λ x. cond x (Some (entry _ _ row.next_name)) None) b.other) refl) so.ready (back_of (append-nil all))

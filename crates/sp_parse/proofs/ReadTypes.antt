@@ -1,5 +1,6 @@
 -- How the fields of a record are read.
-use Rattle.std.proofs.Common.{◌≡◌, false, List, [], ◌∷◌, ◌++◌, Some, None, cond, refl, sym as back_of, ap, ◌∙◌, append_assoc}
+use Rattle.std.proofs.Common.{◌≡◌, false, List, [], ◌∷◌, ◌++◌, Some, None, cond, refl, sym as back_of, ap, ◌∙◌}
+use Rattle.std.proofs.Common.{append_assoc}
 use Rattle.std.proofs.lemmas.List.{append-nil}
 use Rattle.sp_base.specs.declared.halt.Halt.{Halt}
 use Rattle.sp_tree.specs.declared.token.Token.{Token}
@@ -29,43 +30,69 @@ group_value vs = record { names = vs.0 ∷ vs.1.0; kind = vs.1.1.1.0 }
 abbrev pub GroupRead : Source → List Token → List Token → SynGroup → Type 0
 GroupRead source ts r g = HasRead source GroupSymbols group_value (λ (g : SynGroup). g) ts r g
 
-pub group_same : {ns ms : List Name} {n m : Name} → ns ≡ ms → n ≡ m → (let g : SynGroup = record { names = ns; kind = n } in g) ≡ record { names = ms; kind = m }
-group_same {ns} {ms} {n} {m} p q = ap (λ ns. record { names = ns; kind = n }) p ∙ ap (λ n. record { names = ms; kind = n }) q
+pub group_same : {ns ms : List Name} {n m : Name} → ns ≡ ms → n ≡ m
+    → (let g : SynGroup = record { names = ns; kind = n } in g) ≡ record { names = ms; kind = m }
+group_same {ns} {ms} {n} {m} p q = ap (λ ns. record { names = ns; kind = n }) p
+    ∙ ap (λ n. record { names = ms; kind = n }) q
 
 pub array_same : {a b e f : SynConst} {n m : Name} → a ≡ e → b ≡ f → n ≡ m → kinds.Array a b n ≡ kinds.Array e f m
-array_same {a} {b} {e} {f} {n} {m} p q r = ap (λ a. kinds.Array a b n) p ∙ ap (λ b. kinds.Array e b n) q ∙ ap (λ n. kinds.Array e f n) r
+array_same {a} {b} {e} {f} {n} {m} p q r = ap (λ a. kinds.Array a b n) p ∙ ap (λ b. kinds.Array e b n) q
+    ∙ ap (λ n. kinds.Array e f n) r
 
 -- tokens with which no type begins
-pub no_type : (k : Kind) → kind_is kind.Name k ≡ false → kind_is w.Open k ≡ false → kind_is w.Array k ≡ false → kind_is w.Record k ≡ false → kind_is w.Times k ≡ false → look (rows AType) k ≡ None
+pub no_type : (k : Kind) → kind_is kind.Name k ≡ false → kind_is w.Open k ≡ false → kind_is w.Array k ≡ false
+    → kind_is w.Record k ≡ false → kind_is w.Times k ≡ false → look (rows AType) k ≡ None
 no_type k a b c d e = none_if _ a (none_if _ b (none_if _ c (none_if _ d (none_if _ e refl))))
 
 abbrev pub FieldsSoFar : Source → List SynGroup → List Token → List Token → Type 0
-FieldsSoFar source all ts rest = SoFar source (AName ∷ MoreNames ∷ AToken w.Colon ∷ AName ∷ MoreFields ∷ []) (λ vs. record { names = vs.0 ∷ vs.1.0; kind = vs.1.1.1.0 } ∷ vs.1.1.1.1.0) MoreFields (λ gs. all ++ gs) ts rest
+FieldsSoFar source all ts rest = SoFar source (AName ∷ MoreNames ∷ AToken w.Colon ∷ AName ∷ MoreFields ∷ [])
+    (λ vs. record { names = vs.0 ∷ vs.1.0; kind = vs.1.1.1.0 } ∷ vs.1.1.1.1.0) MoreFields (λ gs. all ++ gs) ts rest
 
 -- behind a `;`
 abbrev pub FieldsUpTo : Source → List SynGroup → List Token → List Token → Type 0
-FieldsUpTo source all ts rest = SoFar source (AName ∷ MoreNames ∷ AToken w.Colon ∷ AName ∷ MoreFields ∷ []) (λ vs. record { names = vs.0 ∷ vs.1.0; kind = vs.1.1.1.0 } ∷ vs.1.1.1.1.0) FieldOrEnd (λ gs. all ++ gs) ts rest
+FieldsUpTo source all ts rest = SoFar source (AName ∷ MoreNames ∷ AToken w.Colon ∷ AName ∷ MoreFields ∷ [])
+    (λ vs. record { names = vs.0 ∷ vs.1.0; kind = vs.1.1.1.0 } ∷ vs.1.1.1.1.0) FieldOrEnd (λ gs. all ++ gs) ts rest
 
 abbrev pub FieldsPending : Source → List SynGroup → List Token → List Token → Type 0
-FieldsPending source all ts rest = Pending source (AName ∷ MoreNames ∷ AToken w.Colon ∷ AName ∷ MoreFields ∷ []) (λ vs. record { names = vs.0 ∷ vs.1.0; kind = vs.1.1.1.0 } ∷ vs.1.1.1.1.0) (AName ∷ MoreNames ∷ AToken w.Colon ∷ AName ∷ MoreFields ∷ []) (λ vs. all ++ record { names = vs.0 ∷ vs.1.0; kind = vs.1.1.1.0 } ∷ vs.1.1.1.1.0) ts rest
+FieldsPending source all ts rest = Pending source (AName ∷ MoreNames ∷ AToken w.Colon ∷ AName ∷ MoreFields ∷ [])
+    (λ vs. record { names = vs.0 ∷ vs.1.0; kind = vs.1.1.1.0 } ∷ vs.1.1.1.1.0)
+    (AName ∷ MoreNames ∷ AToken w.Colon ∷ AName ∷ MoreFields ∷ [])
+    (λ vs. all ++ record { names = vs.0 ∷ vs.1.0; kind = vs.1.1.1.0 } ∷ vs.1.1.1.1.0) ts rest
 
-pub fields_none : {source : Source} {ts : List Token} (all : List SynGroup) → all ≡ [] → Ready source ts → FieldsPending source all ts ts
-fields_none all e a = none_read (λ vs. ap (λ l. l ++ record { names = vs.0 ∷ vs.1.0; kind = vs.1.1.1.0 } ∷ vs.1.1.1.1.0) e) a
+pub fields_none : {source : Source} {ts : List Token} (all : List SynGroup) → all ≡ [] → Ready source ts
+    → FieldsPending source all ts ts
+fields_none all e a = none_read (λ vs. ap (λ l. l ++ record { names = vs.0 ∷ vs.1.0; kind = vs.1.1.1.0 } ∷ vs.1.1.1.1.0)
+    e) a
 
-pub fields_read : {source : Source} {ts rest left : List Token} {g : SynGroup} (all new : List SynGroup) → FieldsPending source all ts rest → GroupRead source rest left g → new ≡ all ++ g ∷ [] → FieldsSoFar source new ts left
-fields_read {g = g} all new p h e = item_read p h (λ gs. ap (λ l. l ++ gs) e ∙ append_assoc all (g ∷ []) gs ∙ ap (λ g. all ++ g ∷ gs) h.same)
+pub fields_read : {source : Source} {ts rest left : List Token} {g : SynGroup} (all new : List SynGroup)
+    → FieldsPending source all ts rest → GroupRead source rest left g → new ≡ all ++ g ∷ []
+    → FieldsSoFar source new ts left
+fields_read {g = g} all new p h e = item_read p h
+    (λ gs. ap (λ l. l ++ gs) e ∙ append_assoc all (g ∷ []) gs ∙ ap (λ g. all ++ g ∷ gs) h.same)
 
-pub fields_on : {source : Source} {ts rest behind : List Token} (all : List SynGroup) → FieldsSoFar source all ts rest → BeginsWith source rest w.Semicolon behind → FieldsUpTo source all ts behind
-fields_on all so b = chain row.fields_go_on refl refl so b (nothing_yet FieldOrEnd (λ vs. all ++ vs.0) (λ gs. all ++ gs) (λ gs. refl) b.ready) (λ vs. refl)
+pub fields_on : {source : Source} {ts rest behind : List Token} (all : List SynGroup) → FieldsSoFar source all ts rest
+    → BeginsWith source rest w.Semicolon behind → FieldsUpTo source all ts behind
+fields_on all so b = chain row.fields_go_on refl refl so b
+    (nothing_yet FieldOrEnd (λ vs. all ++ vs.0) (λ gs. all ++ gs) (λ gs. refl) b.ready) (λ vs. refl)
 
-pub fields_next : {source : Source} {ts rest : List Token} (all : List SynGroup) → FieldsUpTo source all ts rest → BeginsOther rest w.End → FieldsPending source all ts rest
-fields_next all so b = round_at row.next_field refl refl so b.token b.rest b.all (λ n. none_if _ b.other (none_if _ n refl)) refl (λ t vs. refl)
+pub fields_next : {source : Source} {ts rest : List Token} (all : List SynGroup) → FieldsUpTo source all ts rest
+    → BeginsOther rest w.End → FieldsPending source all ts rest
+fields_next all so b = round_at row.next_field refl refl so b.token b.rest b.all
+    (λ n. none_if _ b.other (none_if _ n refl)) refl (λ t vs. refl)
 
-pub fields_close : {source : Source} {ts rest r : List Token} (all : List SynGroup) → FieldsSoFar source all ts rest → BeginsWith source rest w.End r → HasRead source (AName ∷ MoreNames ∷ AToken w.Colon ∷ AName ∷ MoreFields ∷ []) (λ vs. record { names = vs.0 ∷ vs.1.0; kind = vs.1.1.1.0 } ∷ vs.1.1.1.1.0) (λ (gs : List SynGroup). gs) ts r all
+pub fields_close : {source : Source} {ts rest r : List Token} (all : List SynGroup) → FieldsSoFar source all ts rest
+    → BeginsWith source rest w.End r → HasRead source (AName ∷ MoreNames ∷ AToken w.Colon ∷ AName ∷ MoreFields ∷ [])
+    (λ vs. record { names = vs.0 ∷ vs.1.0; kind = vs.1.1.1.0 } ∷ vs.1.1.1.1.0) (λ (gs : List SynGroup). gs) ts r all
 fields_close all so b = closes row.fields_end refl refl so b (back_of (append-nil all))
 
-pub fields_up : {source : Source} {ts rest r : List Token} (all : List SynGroup) → FieldsUpTo source all ts rest → BeginsWith source rest w.End r → HasRead source (AName ∷ MoreNames ∷ AToken w.Colon ∷ AName ∷ MoreFields ∷ []) (λ vs. record { names = vs.0 ∷ vs.1.0; kind = vs.1.1.1.0 } ∷ vs.1.1.1.1.0) (λ (gs : List SynGroup). gs) ts r all
+pub fields_up : {source : Source} {ts rest r : List Token} (all : List SynGroup) → FieldsUpTo source all ts rest
+    → BeginsWith source rest w.End r → HasRead source (AName ∷ MoreNames ∷ AToken w.Colon ∷ AName ∷ MoreFields ∷ [])
+    (λ vs. record { names = vs.0 ∷ vs.1.0; kind = vs.1.1.1.0 } ∷ vs.1.1.1.1.0) (λ (gs : List SynGroup). gs) ts r all
 fields_up all so b = closes row.no_field refl refl so b (back_of (append-nil all))
 
-pub no_fields : {source : Source} {ts rest : List Token} (all : List SynGroup) → FieldsSoFar source all ts rest → BeginsOther rest w.Semicolon → (e : Halt) → Halts source (AToken w.End ∷ []) rest e → Halts source (AName ∷ MoreNames ∷ AToken w.Colon ∷ AName ∷ MoreFields ∷ []) ts e
-no_fields all so b e h = halts_close row.fields_end b (ap (λ x. cond (kind_is w.End b.token.kind) (Some (entry w.End [] row.fields_end)) (cond x (Some (entry w.Semicolon (FieldOrEnd ∷ []) row.fields_go_on)) None)) b.other) refl refl so e h
+pub no_fields : {source : Source} {ts rest : List Token} (all : List SynGroup) → FieldsSoFar source all ts rest
+    → BeginsOther rest w.Semicolon → (e : Halt) → Halts source (AToken w.End ∷ []) rest e
+    → Halts source (AName ∷ MoreNames ∷ AToken w.Colon ∷ AName ∷ MoreFields ∷ []) ts e
+no_fields all so b e h = halts_close row.fields_end b
+    (ap (λ x. cond (kind_is w.End b.token.kind) (Some (entry w.End [] row.fields_end))
+    (cond x (Some (entry w.Semicolon (FieldOrEnd ∷ []) row.fields_go_on)) None)) b.other) refl refl so e h

@@ -1,5 +1,6 @@
 -- Single steps of the machine, and what a part that is read says of it.
-use Rattle.std.proofs.Common.{◌≡◌, ℕ, ◌<◌, ◌≤◌, Bool, true, false, cond, List, [], ◌∷◌, ◌++◌, length, Option, Some, None, Result, Ok, Err, ◌⊎◌, inl, inr, refl, sym as back_of, ap, ◌∙◌, subst, arith, eq-eqb}
+use Rattle.std.proofs.Common.{◌≡◌, ℕ, ◌<◌, ◌≤◌, Bool, true, false, cond, List, [], ◌∷◌, ◌++◌, length, Option, Some}
+use Rattle.std.proofs.Common.{None, Result, Ok, Err, ◌⊎◌, inl, inr, refl, sym as back_of, ap, ◌∙◌, subst, arith, eq-eqb}
 use borrow.Author.Tests.{eqb-true}
 use Rattle.std.proofs.lemmas.Bool.Decides.{nat_tests}
 use Rattle.std.specs.Borrow.{Bor}
@@ -18,7 +19,8 @@ use Rattle.sp_grammar.specs.Derives.{Begins as MayBegin, Derives, takes, skips, 
 use Rattle.sp_grammar.proofs.Run.{at_act, act_takes, act_skips, leads_all}
 use Rattle.sp_parse.specs.declared.source.Source.{Source}
 use Rattle.sp_parse.specs.Productions.{Production}
-use Rattle.sp_parse.specs.Reads.{Within, Ready, breaks, refused_by, HasRead, Halts, Reads, Begins, BeginsOther, BeginsWith, Passes, Expected, ReadsSoFar}
+use Rattle.sp_parse.specs.Reads.{Within, Ready, breaks, refused_by, HasRead, Halts, Reads, Begins, BeginsOther}
+use Rattle.sp_parse.specs.Reads.{BeginsWith, Passes, Expected, ReadsSoFar}
 
 -- a part inside fewer than 200 others is allowed
 pub below : (a b : ℕ) → a < b → (allows (Some b) (Some a) ≡ true)
@@ -35,55 +37,80 @@ same_end x y (inl p) = p
 same_end x y (inr (w, us, h, p)) = absurd (omega (arith, h))
 
 -- the machine follows what is derived
-pub follows : (source : Source) {l : List Symbol} {ts r : List Token} {vs : Values l} → DerivesAll source.text.now Within l ts r vs → (q : List Symbol) → breaks source ts (l ++ q) ≡ breaks source r q
+pub follows : (source : Source) {l : List Symbol} {ts r : List Token} {vs : Values l}
+    → DerivesAll source.text.now Within l ts r vs → (q : List Symbol) → breaks source ts (l ++ q) ≡ breaks source r q
 unfolding breaks
-follows source {l} {ts} {r} d q = ap (refused_by source.text.now) (same_end (run (Some nesting) ts (l ++ q)) (run (Some nesting) r q) (leads_all source.text.now Within (Some nesting) 0 reaches d q).by)
+follows source {l} {ts} {r} d q = ap (refused_by source.text.now)
+    (same_end (run (Some nesting) ts (l ++ q)) (run (Some nesting) r q)
+    (leads_all source.text.now Within (Some nesting) 0 reaches d q).by)
 
 mutual
-  shorter_one : {text : List ℕ} {s : Symbol} {ts r : List Token} {v : Value s} → Derives text Within s ts r v → length r ≤ length ts
+  shorter_one : {text : List ℕ} {s : Symbol} {ts r : List Token} {v : Value s} → Derives text Within s ts r v
+      → length r ≤ length ts
   shorter_one (takes t e h o x) = omega (arith, shorter_all x)
   shorter_one (skips t h g) = omega arith
 
-  shorter_all : {text : List ℕ} {l : List Symbol} {ts r : List Token} {vs : Values l} → DerivesAll text Within l ts r vs → length r ≤ length ts
+  shorter_all : {text : List ℕ} {l : List Symbol} {ts r : List Token} {vs : Values l} → DerivesAll text Within l ts r vs
+      → length r ≤ length ts
   shorter_all none = omega arith
   shorter_all (and x xs) = omega (arith, shorter_one x, shorter_all xs)
 
 -- what is derived is read
-pub has_read : {X V : Type 0} {source : Source} {l : List Symbol} {of : Values l → V} {plain : X → V} {ts r : List Token} {x : X} {vs : Values l} → Ready source r → DerivesAll source.text.now Within l ts r vs → plain x ≡ of vs → HasRead source l of plain ts r x
-has_read {source = source} {vs = vs} a d e = record { values = vs; derives = d; same = e; leads = λ q. follows source d q; shorter = shorter_all d; ready = a }
+pub has_read : {X V : Type 0} {source : Source} {l : List Symbol} {of : Values l → V} {plain : X → V}
+    {ts r : List Token} {x : X} {vs : Values l} → Ready source r → DerivesAll source.text.now Within l ts r vs
+    → plain x ≡ of vs → HasRead source l of plain ts r x
+has_read {source = source} {vs = vs} a d e =
+    record { values = vs; derives = d; same = e; leads = λ q. follows source d q; shorter = shorter_all d; ready = a }
 
 -- the first of what is derived
-pub head : {text : List ℕ} {s : Symbol} {ts r : List Token} {vs : Values (s ∷ [])} → DerivesAll text Within (s ∷ []) ts r vs → Derives text Within s ts r vs.0
+pub head : {text : List ℕ} {s : Symbol} {ts r : List Token} {vs : Values (s ∷ [])}
+    → DerivesAll text Within (s ∷ []) ts r vs → Derives text Within s ts r vs.0
 head (and x none) = x
 
-pub one : {X V : Type 0} {source : Source} {s : Symbol} {of : Values (s ∷ []) → V} {plain : X → V} {ts r : List Token} {x : X} (h : HasRead source (s ∷ []) of plain ts r x) → Derives source.text.now Within s ts r h.values.0
+pub one : {X V : Type 0} {source : Source} {s : Symbol} {of : Values (s ∷ []) → V} {plain : X → V} {ts r : List Token}
+    {x : X} (h : HasRead source (s ∷ []) of plain ts r x) → Derives source.text.now Within s ts r h.values.0
 one h = head h.derives
 
 -- a symbol takes this token by this row
-pub take : {text : List ℕ} {s : Symbol} (e : Entry (Row s)) → look (rows s) e.key ≡ Some e → (t : Token) → t.kind ≡ e.key → {ts r : List Token} {vs : Values e.left} → MayBegin Within (part s) (t ∷ ts) → DerivesAll text Within e.left ts r vs → Derives text Within s (t ∷ ts) r (build text e.row t vs)
+pub take : {text : List ℕ} {s : Symbol} (e : Entry (Row s)) → look (rows s) e.key ≡ Some e → (t : Token)
+    → t.kind ≡ e.key → {ts r : List Token} {vs : Values e.left} → MayBegin Within (part s) (t ∷ ts)
+    → DerivesAll text Within e.left ts r vs → Derives text Within s (t ∷ ts) r (build text e.row t vs)
 take {s = s} e h t p o x = takes t e (ap (look (rows s)) p ∙ h) o x
 
 -- the steps of the machine
-pub step_takes : (source : Source) (s : Symbol) (t : Token) (ts : List Token) (e : Entry (Row s)) → look (rows s) t.kind ≡ Some e → allows (Some nesting) (part s) ≡ true → (q : List Symbol) → breaks source (t ∷ ts) (s ∷ q) ≡ breaks source ts (e.left ++ q)
+pub step_takes : (source : Source) (s : Symbol) (t : Token) (ts : List Token) (e : Entry (Row s))
+    → look (rows s) t.kind ≡ Some e → allows (Some nesting) (part s) ≡ true → (q : List Symbol)
+    → breaks source (t ∷ ts) (s ∷ q) ≡ breaks source ts (e.left ++ q)
 unfolding breaks
-step_takes source s t ts e h b q = ap (refused_by source.text.now) (at_act (Some nesting) s t ts q (Take e.left) (act_takes (Some nesting) s t e true h b))
+step_takes source s t ts e h b q = ap (refused_by source.text.now)
+    (at_act (Some nesting) s t ts q (Take e.left) (act_takes (Some nesting) s t e true h b))
 
-pub step_skips : (source : Source) (s : Symbol) (t : Token) (ts : List Token) (v : Value s) → look (rows s) t.kind ≡ None → gap s t ≡ Some v → (q : List Symbol) → breaks source (t ∷ ts) (s ∷ q) ≡ breaks source (t ∷ ts) q
+pub step_skips : (source : Source) (s : Symbol) (t : Token) (ts : List Token) (v : Value s)
+    → look (rows s) t.kind ≡ None → gap s t ≡ Some v → (q : List Symbol)
+    → breaks source (t ∷ ts) (s ∷ q) ≡ breaks source (t ∷ ts) q
 unfolding breaks
-step_skips source s t ts v h g q = ap (refused_by source.text.now) (at_act (Some nesting) s t ts q Skip (act_skips (Some nesting) s t v h g))
+step_skips source s t ts v h g q = ap (refused_by source.text.now)
+    (at_act (Some nesting) s t ts q Skip (act_skips (Some nesting) s t v h g))
 
 act_fails : (s : Symbol) (t : Token) → look (rows s) t.kind ≡ None → gap s t ≡ None → act (Some nesting) s t ≡ Fail Bad
 act_fails s t h g = ap (λ o. acts (allows (Some nesting) (part s)) o (gap s t)) h ∙ ap skips_if g
 
-pub step_fails : (source : Source) (s : Symbol) (t : Token) (ts : List Token) → look (rows s) t.kind ≡ None → gap s t ≡ None → (q : List Symbol) → breaks source (t ∷ ts) (s ∷ q) ≡ Some (record { rule = rule.G1; at = t.at })
+pub step_fails : (source : Source) (s : Symbol) (t : Token) (ts : List Token) → look (rows s) t.kind ≡ None
+    → gap s t ≡ None → (q : List Symbol) → breaks source (t ∷ ts) (s ∷ q) ≡ Some (record { rule = rule.G1; at = t.at })
 unfolding breaks
-step_fails source s t ts h g q = ap (refused_by source.text.now) (at_act (Some nesting) s t ts q (Fail Bad) (act_fails s t h g))
+step_fails source s t ts h g q = ap (refused_by source.text.now)
+    (at_act (Some nesting) s t ts q (Fail Bad) (act_fails s t h g))
 
-pub step_deep : (source : Source) (s : Symbol) (t : Token) (ts : List Token) (e : Entry (Row s)) → look (rows s) t.kind ≡ Some e → allows (Some nesting) (part s) ≡ false → (q : List Symbol) → breaks source (t ∷ ts) (s ∷ q) ≡ Some (record { rule = rule.L2; at = t.at })
+pub step_deep : (source : Source) (s : Symbol) (t : Token) (ts : List Token) (e : Entry (Row s))
+    → look (rows s) t.kind ≡ Some e → allows (Some nesting) (part s) ≡ false → (q : List Symbol)
+    → breaks source (t ∷ ts) (s ∷ q) ≡ Some (record { rule = rule.L2; at = t.at })
 unfolding breaks
-step_deep source s t ts e h b q = ap (refused_by source.text.now) (at_act (Some nesting) s t ts q (Fail Deep) (act_takes (Some nesting) s t e false h b))
+step_deep source s t ts e h b q = ap (refused_by source.text.now)
+    (at_act (Some nesting) s t ts q (Fail Deep) (act_takes (Some nesting) s t e false h b))
 
-pub step_ends : (source : Source) (s : Symbol) (q : List Symbol) → breaks source [] (s ∷ q) ≡ Some (record { rule = rule.G2; at = place_at source.text.now (length source.text.now) })
+pub step_ends : (source : Source) (s : Symbol) (q : List Symbol)
+    → breaks source [] (s ∷ q) ≡ Some (record
+    { rule = rule.G2; at = place_at source.text.now (length source.text.now) })
 unfolding breaks
 step_ends source s q = refl
 
@@ -108,55 +135,88 @@ kind_is-other a b true h n = absurd (n (back_of (kind_is-true a b h)))
 kind_is-other a b false h n = h
 
 -- one token
-pub look_token : (k j : Kind) (b : Bool) → kind_is k j ≡ b → look (rows (AToken k)) j ≡ cond b (Some (entry k [] token)) None
+pub look_token : (k j : Kind) (b : Bool) → kind_is k j ≡ b
+    → look (rows (AToken k)) j ≡ cond b (Some (entry k [] token)) None
 look_token k j b h = ap (λ b. cond b (Some (entry k [] token)) None) h
 
-pub cut_ends : (source : Source) (ts : List Token) → length ts < 1 → Ready source ts → (ts ≡ []) × ((s : Symbol) (q : List Symbol) → breaks source ts (s ∷ q) ≡ Some (record { rule = rule.G2; at = source.end }))
-cut_ends source [] h a = (refl, λ s q. step_ends source s q ∙ ap (λ p. Some (record { rule = rule.G2; at = p })) (back_of a.end))
+pub cut_ends : (source : Source) (ts : List Token) → length ts < 1 → Ready source ts → (ts ≡ [])
+    × ((s : Symbol) (q : List Symbol) → breaks source ts (s ∷ q) ≡ Some (record { rule = rule.G2; at = source.end }))
+cut_ends source [] h a = (
+  refl,
+  λ s q. step_ends source s q
+      ∙ ap (λ p. Some (record { rule = rule.G2; at = p })) (back_of a.end),
+)
 cut_ends source (t ∷ ts) h a = absurd (omega arith)
 
-pub token_is : {source : Source} {ts r : List Token} {k : Kind} → BeginsWith source ts k r → Derives source.text.now Within (AToken k) ts r tt
-token_is {source} {ts} {r} {k} b = subst (λ l. Derives source.text.now Within (AToken k) l r tt) (back_of b.all) (take (entry k [] token) (look_token k k true (kind_is-same k)) b.token b.is tt none)
+pub token_is : {source : Source} {ts r : List Token} {k : Kind} → BeginsWith source ts k r
+    → Derives source.text.now Within (AToken k) ts r tt
+token_is {source} {ts} {r} {k} b = subst (λ l. Derives source.text.now Within (AToken k) l r tt) (back_of b.all)
+    (take (entry k [] token) (look_token k k true (kind_is-same k)) b.token b.is tt none)
 
-pub expect_is : {source : Source} {ts r : List Token} {t : Token} (k : Kind) → Begins source ts t r → t.kind ≡ k → Expected source k ts r
+pub expect_is : {source : Source} {ts r : List Token} {t : Token} (k : Kind) → Begins source ts t r → t.kind ≡ k
+    → Expected source k ts r
 expect_is {source} {ts} {r} {t} k b p =
     let first : BeginsWith source ts k r = record { token = t; is = p; all = b.all; ready = b.ready } in
-    record { first = first; leads = λ q. follows source (and (token_is first) none) q; shorter = omega (arith, ap length b.all) }
+    record {
+      first = first;
+      leads = λ q. follows source (and (token_is first) none) q;
+      shorter = omega (arith, ap length b.all);
+    }
 
 -- of what is read behind others
-pub expected : {source : Source} {ts r : List Token} {k : Kind} → Expected source k ts r → Derives source.text.now Within (AToken k) ts r tt
+pub expected : {source : Source} {ts r : List Token} {k : Kind} → Expected source k ts r
+    → Derives source.text.now Within (AToken k) ts r tt
 expected h = token_is h.first
 
 -- no row fits
-pub fails : {source : Source} {ts r : List Token} {t : Token} (s : Symbol) → Begins source ts t r → look (rows s) t.kind ≡ None → gap s t ≡ None → (e : Halt) → e ≡ halt.Refused (record { rule = rule.G1; at = t.at }) → Halts source (s ∷ []) ts e
-fails {source} {ts} {r} {t} s b h g e p = subst (Halts source (s ∷ []) ts) (back_of p) (λ q. ap (λ l. breaks source l (s ∷ q)) b.all ∙ step_fails source s t r h g q)
+pub fails : {source : Source} {ts r : List Token} {t : Token} (s : Symbol) → Begins source ts t r
+    → look (rows s) t.kind ≡ None → gap s t ≡ None → (e : Halt)
+    → e ≡ halt.Refused (record { rule = rule.G1; at = t.at }) → Halts source (s ∷ []) ts e
+fails {source} {ts} {r} {t} s b h g e p = subst (Halts source (s ∷ []) ts) (back_of p)
+    (λ q. ap (λ l. breaks source l (s ∷ q)) b.all ∙ step_fails source s t r h g q)
 
-pub expect_fails : {source : Source} {ts r : List Token} {t : Token} (k : Kind) → Begins source ts t r → (t.kind ≡ k → ⊥) → (e : Halt) → e ≡ halt.Refused (record { rule = rule.G1; at = t.at }) → Halts source (AToken k ∷ []) ts e
-expect_fails {t = t} k b n = fails (AToken k) b (look_token k t.kind false (kind_is-other k t.kind (kind_is k t.kind) refl n)) refl
+pub expect_fails : {source : Source} {ts r : List Token} {t : Token} (k : Kind) → Begins source ts t r
+    → (t.kind ≡ k → ⊥) → (e : Halt) → e ≡ halt.Refused (record { rule = rule.G1; at = t.at })
+    → Halts source (AToken k ∷ []) ts e
+expect_fails {t = t} k b n = fails (AToken k) b
+    (look_token k t.kind false (kind_is-other k t.kind (kind_is k t.kind) refl n)) refl
 
 -- the exit of a `?`
-pub read_err : {X V : Type 0} (source : Source) (p : Production V) (plain : X → V) (ts : List Token) (result : Result (X × Bor (List Token)) Halt) (e : Halt) → (y : Halt) × (result ≡ Err y) × (y ≡ e) → Halts source p.symbols ts e → Reads source p plain ts result
+pub read_err : {X V : Type 0} (source : Source) (p : Production V) (plain : X → V) (ts : List Token)
+    (result : Result (X × Bor (List Token)) Halt) (e : Halt) → (y : Halt) × (result ≡ Err y) × (y ≡ e)
+    → Halts source p.symbols ts e → Reads source p plain ts result
 read_err source p plain ts result e f h =
     let q : result ≡ Err e = f.1 ∙ ap Err f.2 in
     subst (λ r. Reads source p plain ts r) (back_of q) h
 
-pub passes_other : {source : Source} {ts r : List Token} {t : Token} (k : Kind) → Begins source ts t r → (t.kind ≡ k → ⊥) → BeginsOther ts k
-passes_other {r = r} {t = t} k b n = record { token = t; rest = r; other = kind_is-other k t.kind (kind_is k t.kind) refl n; all = b.all }
+pub passes_other : {source : Source} {ts r : List Token} {t : Token} (k : Kind) → Begins source ts t r
+    → (t.kind ≡ k → ⊥) → BeginsOther ts k
+passes_other {r = r} {t = t} k b n = record {
+  token = t;
+  rest = r;
+  other = kind_is-other k t.kind (kind_is k t.kind) refl n;
+  all = b.all;
+}
 
 -- which of both it was
-pub passed : (source : Source) (k : Kind) (ts : List Token) (o : Option (Bor (List Token))) (r : Bor (List Token)) → Passes source k ts (Ok o) → o ≡ Some r → BeginsWith source ts k r.now
+pub passed : (source : Source) (k : Kind) (ts : List Token) (o : Option (Bor (List Token))) (r : Bor (List Token))
+    → Passes source k ts (Ok o) → o ≡ Some r → BeginsWith source ts k r.now
 passed source k ts o r h e = subst (λ o. Passes source k ts (Ok o)) e h
 
-pub not_passed : (source : Source) (k : Kind) (ts : List Token) (o : Option (Bor (List Token))) → Passes source k ts (Ok o) → o ≡ None → BeginsOther ts k
+pub not_passed : (source : Source) (k : Kind) (ts : List Token) (o : Option (Bor (List Token)))
+    → Passes source k ts (Ok o) → o ≡ None → BeginsOther ts k
 not_passed source k ts o h e = subst (λ o. Passes source k ts (Ok o)) e h
 
 -- the exit of a `?` where symbols are read so far
-pub so_far_err : {X V : Type 0} (source : Source) (p : Production V) (s : Symbol) (gives : X → Value s → V) (ts : List Token) (result : Result (X × Bor (List Token)) Halt) (e : Halt) → (y : Halt) × (result ≡ Err y) × (y ≡ e) → Halts source p.symbols ts e → ReadsSoFar source p s gives ts result
+pub so_far_err : {X V : Type 0} (source : Source) (p : Production V) (s : Symbol) (gives : X → Value s → V)
+    (ts : List Token) (result : Result (X × Bor (List Token)) Halt) (e : Halt) → (y : Halt) × (result ≡ Err y) × (y ≡ e)
+    → Halts source p.symbols ts e → ReadsSoFar source p s gives ts result
 so_far_err source p s gives ts result e f h =
     let q : result ≡ Err e = f.1 ∙ ap Err f.2 in
     subst (λ r. ReadsSoFar source p s gives ts r) (back_of q) h
 
 -- no token is left for a test
-pub pass_halts : (source : Source) (k : Kind) (ts : List Token) (s : Symbol) (e : Halt) → Passes source k ts (Err e) → Halts source (s ∷ []) ts e
+pub pass_halts : (source : Source) (k : Kind) (ts : List Token) (s : Symbol) (e : Halt) → Passes source k ts (Err e)
+    → Halts source (s ∷ []) ts e
 pass_halts source k ts s halt.Memory h = absurd h
 pass_halts source k ts s (halt.Refused f) h = λ q. h.1 s q

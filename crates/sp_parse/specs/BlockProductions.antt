@@ -1,7 +1,8 @@
--- The productions of programs and declarations, for the contracts of the parsers of names, types, headings, declarations
--- and blocks: under each line of the grammar its symbols and what they make. Names, constants, types and parameters are
--- made as they stand in the syntax tree; declarations and blocks as parts of the plain tree. `d` says inside how many parts
--- a block lies.
+-- None of this belongs to what the program promises: it is for contracts between crates.
+-- The productions of programs and declarations, for the contracts of the parsers of names, types, headings,
+-- declarations and blocks: under each line of the grammar its symbols and what they make. Names, constants, types and
+-- parameters are made as they stand in the syntax tree; declarations and blocks as parts of the plain tree. `d` says
+-- inside how many parts a block lies.
 use Rattle.std.specs.Prelude.{ℕ, List, [], ◌∷◌, Some, None}
 use Rattle.sp_tree.specs.declared.token.Kind.{Kind}
 use Rattle.sp_tree.specs.declared.syntax.Name.{Name}
@@ -14,7 +15,8 @@ use Rattle.sp_tree.specs.declared.syntax.SynPart.{SynPart}
 use Rattle.sp_tree.specs.Words as w
 use Rattle.sp_tree.specs.PlainSyntax as tree
 use Rattle.sp_tree.specs.Grammar.{declared}
-use Rattle.sp_grammar.specs.Symbols.{AToken, AName, AHeading, MoreNames, AConstant, AType, MoreFields, AFormal, MoreFormals, Formals, ABlock, MoreConstants, MoreTypes, MoreVariables}
+use Rattle.sp_grammar.specs.Symbols.{AToken, AName, AHeading, MoreNames, AConstant, AType, MoreFields, AFormal}
+use Rattle.sp_grammar.specs.Symbols.{MoreFormals, Formals, ABlock, MoreConstants, MoreTypes, MoreVariables}
 use Rattle.sp_parse.specs.Productions.{Production, production}
 use Rattle.sp_parse.specs.Declares.{and_parts}
 
@@ -73,7 +75,8 @@ one_constant = production (AName ∷ AToken w.Equal ∷ AConstant ∷ AToken w.S
     (λ (name, (_, (value, _))). tree.Const name value)
 
 abbrev pub one_type : Production tree.Part
-one_type = production (AName ∷ AToken w.Equal ∷ AType ∷ AToken w.Semicolon ∷ []) (λ (name, (_, (kind, _))). tree.Kind name kind)
+one_type = production (AName ∷ AToken w.Equal ∷ AType ∷ AToken w.Semicolon ∷ [])
+    (λ (name, (_, (kind, _))). tree.Kind name kind)
 
 -- the definition of a type, up to its semicolon
 abbrev pub definition : Production SynKind

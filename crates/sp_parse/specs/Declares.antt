@@ -1,6 +1,7 @@
--- What the parser of declarations answers, for the function that reads one section of a block and adds it to those before.
--- A section is no symbol of its own, as what is behind it belongs to the same list of parts. So what is read is said by what
--- is still pending: the rest of the block, which makes the whole block of the sections so far.
+-- None of this belongs to what the program promises: it is for contracts between crates.
+-- What the parser of declarations answers, for the function that reads one section of a block and adds it to those
+-- before. A section is no symbol of its own, as what is behind it belongs to the same list of parts. So what is read is
+-- said by what is still pending: the rest of the block, which makes the whole block of the sections so far.
 use Rattle.std.specs.Prelude.{◌≡◌, ℕ, ◌<◌, Bool, List, [], ◌∷◌, length, map, Result, Ok, Err}
 use Rattle.std.specs.Borrow.{Bor}
 use Rattle.sp_base.specs.declared.halt.Halt.{Halt}
@@ -24,7 +25,8 @@ abbrev pub BeginsBlock : Token → Bool → Type 0
 BeginsBlock t b = (d : ℕ) → is_some (look (parts_rows d) t.kind) ≡ b
 
 -- Behind some declarations of a block further ones are read, and the rest of the block is pending.
-pub record HasDeclared (source : Source) (d : ℕ) (before : List SynPart) (ts r : List Token) (all : List SynPart) : Type 0 where
+pub record HasDeclared (source : Source) (d : ℕ) (before : List SynPart) (ts r : List Token) (all : List SynPart) : Type
+    0 where
   pub so_far : SoFar source (Parts d ∷ []) (λ vs. and_parts before vs.0) (Parts d) (λ b. and_parts all b) ts r
   pub less : length r < length ts
 

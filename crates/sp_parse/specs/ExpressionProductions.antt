@@ -1,6 +1,7 @@
+-- None of this belongs to what the program promises: it is for contracts between crates.
 -- The productions of expressions, for the contracts of the parser of expressions: under each line of the grammar its
--- symbols and the tree that they make. `d` says inside how many parts an expression lies. What goes on with something that
--- is read before takes it as an argument: the place `at` of a first token, a name, or the selectors so far.
+-- symbols and the tree that they make. `d` says inside how many parts an expression lies. What goes on with something
+-- that is read before takes it as an argument: the place `at` of a first token, a name, or the selectors so far.
 use Rattle.std.specs.Prelude.{ℕ, List, [], ◌∷◌}
 use Rattle.sp_base.specs.declared.place.Place.{Place}
 use Rattle.sp_tree.specs.declared.operators.UnaryOp.TheVariants as unary
@@ -10,7 +11,8 @@ use Rattle.sp_tree.specs.declared.syntax.SynSelector.{SynSelector}
 use Rattle.sp_tree.specs.PlainSyntax as tree
 use Rattle.sp_tree.specs.SyntaxOf.{expression_of}
 use Rattle.sp_tree.specs.declared.token.Kind.{Kind}
-use Rattle.sp_grammar.specs.Symbols.{AToken, AnExpression, MoreFactors, AFactor, ANegated, AReference, MoreIndices, MoreArguments, AWidth}
+use Rattle.sp_grammar.specs.Symbols.{AToken, AnExpression, MoreFactors, AFactor, ANegated, AReference, MoreIndices}
+use Rattle.sp_grammar.specs.Symbols.{MoreArguments, AWidth}
 use Rattle.sp_parse.specs.Productions.{Production, production}
 use Rattle.sp_parse.specs.Trees.{and_selectors}
 
@@ -18,7 +20,8 @@ use Rattle.sp_parse.specs.Trees.{and_selectors}
 abbrev pub expression_then : ℕ → Kind → Production tree.Expression
 expression_then d k = production (AnExpression d ∷ AToken k ∷ []) (λ (value, _). value)
 
--- simple = [ "+" | "-" ] term { ( "+" | "-" | "or" ) term }, where this much is read and the terms behind it are pending
+-- simple = [ "+" | "-" ] term { ( "+" | "-" | "or" ) term }, where this much is read and the terms behind it are
+-- pending
 abbrev pub continued : SynExpr → (tree.Expression → tree.Expression) → tree.Expression
 continued sum terms = terms (expression_of sum)
 

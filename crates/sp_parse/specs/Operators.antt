@@ -1,7 +1,8 @@
--- Which tokens stand between operands, and which begin a part, for the functions that look at one token and decide how to
--- go on. Operators are said by the families of the grammar (IsRelational, IsAdding, IsMultiplying), so that the operator of
--- the tree is the one of the token. What begins a part is said by the table of the grammar, at any depth: whether it has a
--- row for the token. A list that ends says in its contract that the table has no row for what follows.
+-- None of this belongs to what the program promises: it is for contracts between crates.
+-- Which tokens stand between operands, and which begin a part, for the functions that look at one token and decide how
+-- to go on. Operators are said by the families of the grammar (IsRelational, IsAdding, IsMultiplying), so that the
+-- operator of the tree is the one of the token. What begins a part is said by the table of the grammar, at any depth:
+-- whether it has a row for the token. A list that ends says in its contract that the table has no row for what follows.
 use Rattle.std.specs.Prelude.{◌≡◌, ℕ, Bool, true, false, List, [], ◌∷◌, Option, Some, None, Result, Ok, Err}
 use Rattle.std.specs.Borrow.{Bor}
 use Rattle.sp_base.specs.declared.halt.Halt.{Halt}
@@ -26,7 +27,8 @@ IsSign t (Some unary.Minus) = t.kind ≡ w.Minus
 IsSign t (Some o) = ⊥
 
 -- An operator of these stands first.
-pub record Operator (Is : Kind → BinaryOp → Type 0) (source : Source) (ts : List Token) (o : BinaryOp) (r : List Token) : Type 0 where
+pub record Operator (Is : Kind → BinaryOp → Type 0) (source : Source) (ts : List Token) (o : BinaryOp)
+    (r : List Token) : Type 0 where
   pub key : Kind
   pub is_operator : Is key o
   pub token : Token
@@ -42,11 +44,13 @@ pub record NoOperator (tail : ℕ → Symbol) (ts : List Token) : Type 0 where
   pub other : (d : ℕ) → look (rows (tail d)) token.kind ≡ None
 
 -- an operator and what is behind it; or none; or no token is left
-abbrev pub Operates : (Kind → BinaryOp → Type 0) → (ℕ → Symbol) → Source → List Token → Result (Option (BinaryOp × Bor (List Token))) Halt → Type 0
+abbrev pub Operates : (Kind → BinaryOp → Type 0) → (ℕ → Symbol) → Source → List Token
+    → Result (Option (BinaryOp × Bor (List Token))) Halt → Type 0
 Operates Is tail source ts (Ok None) = NoOperator tail ts
 Operates Is tail source ts (Ok (Some x)) = Operator Is source ts x.0 x.1.now
 Operates Is tail source ts (Err halt.Memory) = ⊥
-Operates Is tail source ts (Err (halt.Refused r)) = (ts ≡ []) × ((s : Symbol) (q : List Symbol) → breaks source ts (s ∷ q) ≡ Some r)
+Operates Is tail source ts (Err (halt.Refused r)) = (ts ≡ [])
+    × ((s : Symbol) (q : List Symbol) → breaks source ts (s ∷ q) ≡ Some r)
 
 -- the same for relations, for operators between terms, and for those between factors
 abbrev pub Relates : Source → List Token → Result (Option (BinaryOp × Bor (List Token))) Halt → Type 0

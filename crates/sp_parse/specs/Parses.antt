@@ -1,3 +1,4 @@
+-- None of this belongs to what the program promises: it is for contracts between crates.
 -- What the tokens of a text are: a tree, or the first of the grammar's rules that they break. It is the promise of the
 -- parser's one public function, for the crates above. It names the grammar and its rules of sp_tree and nothing of the
 -- parser's own: no production, symbol or machine, so that whoever calls the parser need not know how it reads.

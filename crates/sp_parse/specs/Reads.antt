@@ -1,9 +1,11 @@
+-- None of this belongs to what the program promises: it is for contracts between crates.
 -- What a part of the parser answers, for the contracts of all functions that read tokens off the front.
--- An answer has two sides. What was read is said by the table of the grammar: the symbols of a production are derived by the
--- tokens that are gone, and the tree is what the production makes of them. Where it stops is said by the grammar's machine:
--- a reader stands in the middle of a text, and which token is wrong depends on what may follow, so each relation holds for
--- any symbols `q` that are pending behind. So the contracts compose, and at the top, with nothing pending, they give the
--- first broken rule. Every one that reads promises that the tokens do not grow, by which loops and recursion end.
+-- An answer has two sides. What was read is said by the table of the grammar: the symbols of a production are derived
+-- by the tokens that are gone, and the tree is what the production makes of them. Where it stops is said by the
+-- grammar's machine: a reader stands in the middle of a text, and which token is wrong depends on what may follow, so
+-- each relation holds for any symbols `q` that are pending behind. So the contracts compose, and at the top, with
+-- nothing pending, they give the first broken rule. Every one that reads promises that the tokens do not grow, by which
+-- loops and recursion end.
 use Rattle.std.specs.Prelude.{◌≡◌, ℕ, ◌<◌, ◌≤◌, false, List, [], ◌∷◌, ◌++◌, length, Option, Some, None, Result, Ok, Err}
 use Rattle.std.specs.Borrow.{Bor}
 use Rattle.sp_base.specs.declared.halt.Halt.{Halt}
@@ -55,7 +57,8 @@ breaks source ts stack = refused_by source.text.now (run (Some nesting) ts stack
 
 -- These symbols are read off the front, the tree is what they stand for, and r is left; and the machine agrees,
 -- whatever is pending behind them.
-pub record HasRead {X V : Type 0} (source : Source) (l : List Symbol) (of : Values l → V) (plain : X → V) (ts r : List Token) (x : X) : Type 0 where
+pub record HasRead {X V : Type 0} (source : Source) (l : List Symbol) (of : Values l → V) (plain : X → V)
+    (ts r : List Token) (x : X) : Type 0 where
   pub values : Values l
   pub derives : DerivesAll source.text.now Within l ts r values
   pub same : plain x ≡ of values
@@ -63,13 +66,15 @@ pub record HasRead {X V : Type 0} (source : Source) (l : List Symbol) (of : Valu
   pub shorter : length r ≤ length ts
   pub ready : Ready source r
 
--- The rule that is broken where these symbols are not there, whatever is pending behind them; want of memory says nothing.
+-- The rule that is broken where these symbols are not there, whatever is pending behind them; want of memory says
+-- nothing.
 abbrev pub Halts : Source → List Symbol → List Token → Halt → Type 0
 Halts source l ts halt.Memory = Unit {0}
 Halts source l ts (halt.Refused r) = (q : List Symbol) → breaks source ts (l ++ q) ≡ Some r
 
 -- A production is read off the front, and the answer stands for what it makes; or why it is not there.
-abbrev pub Reads : {X V : Type 0} → Source → Production V → (X → V) → List Token → Result (X × Bor (List Token)) Halt → Type 0
+abbrev pub Reads : {X V : Type 0} → Source → Production V → (X → V) → List Token → Result (X × Bor (List Token)) Halt
+    → Type 0
 Reads source p plain ts (Ok x) = HasRead source p.symbols p.makes plain ts x.1.now x.0
 Reads source p plain ts (Err e) = Halts source p.symbols ts e
 
@@ -115,16 +120,20 @@ abbrev pub Passes : Source → Kind → List Token → Result (Option (Bor (List
 Passes source k ts (Ok None) = BeginsOther ts k
 Passes source k ts (Ok (Some r)) = BeginsWith source ts k r.now
 Passes source k ts (Err halt.Memory) = ⊥
-Passes source k ts (Err (halt.Refused r)) = (ts ≡ []) × ((s : Symbol) (q : List Symbol) → breaks source ts (s ∷ q) ≡ Some r)
+Passes source k ts (Err (halt.Refused r)) = (ts ≡ [])
+    × ((s : Symbol) (q : List Symbol) → breaks source ts (s ∷ q) ≡ Some r)
 
 -- What is read so far of some symbols: what completes the pending one completes the whole.
-pub record SoFar {V : Type 0} (source : Source) (l : List Symbol) (of : Values l → V) (s : Symbol) (gives : Value s → V) (ts rest : List Token) : Type 0 where
-  pub is : (r : List Token) (v : Value s) → Derives source.text.now Within s rest r v → (vs : Values l) × DerivesAll source.text.now Within l ts r vs × (gives v ≡ of vs)
+pub record SoFar {V : Type 0} (source : Source) (l : List Symbol) (of : Values l → V) (s : Symbol) (gives : Value s → V)
+    (ts rest : List Token) : Type 0 where
+  pub is : (r : List Token) (v : Value s) → Derives source.text.now Within s rest r v → (vs : Values l)
+      × DerivesAll source.text.now Within l ts r vs × (gives v ≡ of vs)
   pub leads : (q : List Symbol) → breaks source ts (l ++ q) ≡ breaks source rest (s ∷ q)
   pub shorter : length rest ≤ length ts
   pub ready : Ready source rest
 
 -- The first symbols of a production are read, and this one is pending; or why they are not there.
-abbrev pub ReadsSoFar : {X V : Type 0} → Source → Production V → (s : Symbol) → (X → Value s → V) → List Token → Result (X × Bor (List Token)) Halt → Type 0
+abbrev pub ReadsSoFar : {X V : Type 0} → Source → Production V → (s : Symbol) → (X → Value s → V) → List Token
+    → Result (X × Bor (List Token)) Halt → Type 0
 ReadsSoFar source p s gives ts (Ok x) = SoFar source p.symbols p.makes s (gives x.0) ts x.1.now
 ReadsSoFar source p s gives ts (Err e) = Halts source p.symbols ts e

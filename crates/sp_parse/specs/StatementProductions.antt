@@ -1,13 +1,17 @@
--- The productions of statements, for the contracts of the parser of statements: under each line of the grammar its symbols
--- and the statement that they make. `d` says inside how many parts what stands in the statement lies, and `at` is the place
--- of the statement's first token, which is read before.
+-- None of this belongs to what the program promises: it is for contracts between crates.
+-- The productions of statements, for the contracts of the parser of statements: under each line of the grammar its
+-- symbols and the statement that they make. `d` says inside how many parts what stands in the statement lies, and `at`
+-- is the place of the statement's first token, which is read before.
 use Rattle.std.specs.Prelude.{ℕ, Bool, List, [], ◌∷◌}
 use Rattle.sp_base.specs.declared.place.Place.{Place}
 use Rattle.sp_tree.specs.declared.syntax.Name.{Name}
 use Rattle.sp_tree.specs.declared.syntax.SynConst.{SynConst}
 use Rattle.sp_tree.specs.Words as w
-use Rattle.sp_tree.specs.PlainSyntax.{Expression, Statement, Statements, Arm, Arms, Branches, Does, Assign, Sequence, If, While, Repeat, Case, For, Parallel, Forall, Assume, Entire, AndThen, On, Or, Beside}
-use Rattle.sp_grammar.specs.Symbols.{AToken, AName, AConstant, AStatement, AfterName, AnElse, MoreStatements, MoreBranches, MoreLabels, MoreArms, ADirection, AnExpression, Selectors}
+use Rattle.sp_tree.specs.PlainSyntax.{Expression, Statement, Statements, Arm, Arms, Branches, Does, Assign, Sequence}
+use Rattle.sp_tree.specs.PlainSyntax.{If, While, Repeat, Case, For, Parallel, Forall, Assume, Entire, AndThen, On, Or}
+use Rattle.sp_tree.specs.PlainSyntax.{Beside}
+use Rattle.sp_grammar.specs.Symbols.{AToken, AName, AConstant, AStatement, AfterName, AnElse, MoreStatements}
+use Rattle.sp_grammar.specs.Symbols.{MoreBranches, MoreLabels, MoreArms, ADirection, AnExpression, Selectors}
 use Rattle.sp_parse.specs.Productions.{Production, production}
 
 -- sequence = statement { ";" statement }
@@ -55,7 +59,8 @@ for_statement d at = production
 
 -- the bounds of it, up to the `do`
 abbrev pub bounds : ℕ → Production (Expression × Bool × Expression)
-bounds d = production (AnExpression d ∷ ADirection ∷ AnExpression d ∷ AToken w.Do ∷ []) (λ (from, (down, (to, _))). (from, down, to))
+bounds d = production (AnExpression d ∷ ADirection ∷ AnExpression d ∷ AToken w.Do ∷ [])
+    (λ (from, (down, (to, _))). (from, down, to))
 
 -- forall = "forall" name ":=" expression "to" expression "do" statement
 abbrev pub forall_statement : ℕ → Place → Production Statement
@@ -76,7 +81,8 @@ arms d = production (AConstant ∷ MoreLabels ∷ AStatement d ∷ MoreArms d �
 
 -- arm = constant { "," constant } ":" statement
 abbrev pub arm : ℕ → Production Arm
-arm d = production (AConstant ∷ MoreLabels ∷ AStatement d ∷ []) (λ (label, (labels, (body, _))). On (label ∷ labels) body)
+arm d = production (AConstant ∷ MoreLabels ∷ AStatement d ∷ [])
+    (λ (label, (labels, (body, _))). On (label ∷ labels) body)
 
 -- the constants of it, up to the colon
 abbrev pub labels : Production (List SynConst)

@@ -1,6 +1,7 @@
--- The plain trees of parts that stand in no tree yet: lists and options, which sp_tree leads to plain trees only inside the
--- part that holds them. The readers' contracts take them to say what an answer stands for. A list that is still growing
--- stands for a function: these items, and then whatever is read behind them.
+-- None of this belongs to what the program promises: it is for contracts between crates.
+-- The plain trees of parts that stand in no tree yet: lists and options, which sp_tree leads to plain trees only inside
+-- the part that holds them. The readers' contracts take them to say what an answer stands for. A list that is still
+-- growing stands for a function: these items, and then whatever is read behind them.
 use Rattle.std.specs.Prelude.{◌≡◌, Bool, List, [], ◌∷◌, Option, Some, None, Result, IfOk, map}
 use Rattle.sp_tree.specs.declared.syntax.SynExpr.{SynExpr}
 use Rattle.sp_tree.specs.declared.syntax.SynSelector.{SynSelector}
@@ -9,8 +10,10 @@ use Rattle.sp_tree.specs.declared.syntax.SynStmt.{SynStmt}
 use Rattle.sp_tree.specs.declared.syntax.SynArm.{SynArm}
 use Rattle.sp_tree.specs.declared.syntax.SynBranch.{SynBranch}
 use Rattle.sp_parse.specs.declared.made_statements.Bounds.{Bounds}
-use Rattle.sp_tree.specs.PlainSyntax.{Expression, Width, Selectors, Select, Arguments, AndArgument, Other, Statements, AndThen, Arms, Or, Branches, Beside}
-use Rattle.sp_tree.specs.SyntaxOf.{expression_of, selector_of, argument_of, selectors, width, statement_of, arm_of, branch_of, other, arms, branches}
+use Rattle.sp_tree.specs.PlainSyntax.{Expression, Width, Selectors, Select, Arguments, AndArgument, Other, Statements}
+use Rattle.sp_tree.specs.PlainSyntax.{AndThen, Arms, Or, Branches, Beside}
+use Rattle.sp_tree.specs.SyntaxOf.{expression_of, selector_of, argument_of, selectors, width, statement_of, arm_of}
+use Rattle.sp_tree.specs.SyntaxOf.{branch_of, other, arms, branches}
 
 -- what is made stands for this, unless there is no memory for it
 abbrev pub Gives : {X V E : Type 0} → (X → V) → V → Result X E → Type 0

@@ -44,7 +44,10 @@ pub fn procedure_declaration(
 
 /// A block with these declarations and the statements behind the `begin` at this place.
 pub fn whole_block(all: List<SynPart>, at: Place, statements: List<SynStmt>) -> SynBlock
-    ensures { block_of result ≡ record { parts = parts_of all; body = tree.Does at (tree.Sequence (statements_of statements)) } }
+    ensures { block_of result ≡ record {
+      parts = parts_of all;
+      body = tree.Does at (tree.Sequence (statements_of statements));
+    } }
 {
     SynBlock {
         parts: all,

@@ -2,7 +2,8 @@
 
 ghost use Rattle.std.specs.Prelude.{◌≡◌};
 ghost use Rattle.sp_tree.specs.PlainSyntax as tree;
-ghost use Rattle.sp_tree.specs.SyntaxOf.{expression_of, arguments_of, variable_of, statement_of, statements_of, arm_of, branch_of};
+ghost use Rattle.sp_tree.specs.SyntaxOf.{expression_of, arguments_of, variable_of, statement_of, statements_of, arm_of};
+ghost use Rattle.sp_tree.specs.SyntaxOf.{branch_of};
 ghost use Rattle.sp_parse.specs.Trees.{other_of, arms_of, branches_of};
 
 use sp_base::{Boxed, List, Place};
@@ -94,7 +95,8 @@ pub struct Bounds {
 }
 
 pub fn for_statement(at: Place, name: Name, bounds: Bounds, body: Boxed<SynStmt>) -> SynStmt
-    ensures { statement_of result ≡ tree.Does at (tree.For name (expression_of bounds.from) bounds.down (expression_of bounds.to) (statement_of body)) }
+    ensures { statement_of result ≡ tree.Does at
+        (tree.For name (expression_of bounds.from) bounds.down (expression_of bounds.to) (statement_of body)) }
 {
     let Bounds { from, down, to } = bounds;
     SynStmt {
@@ -116,7 +118,8 @@ pub fn forall_statement(
     to: SynExpr,
     body: Boxed<SynStmt>,
 ) -> SynStmt
-    ensures { statement_of result ≡ tree.Does at (tree.Forall name (expression_of from) (expression_of to) (statement_of body)) }
+    ensures { statement_of result ≡ tree.Does at
+        (tree.Forall name (expression_of from) (expression_of to) (statement_of body)) }
 {
     SynStmt {
         at,

@@ -3,7 +3,8 @@
 ghost use Rattle.std.specs.Prelude.{◌≡◌};
 ghost use Rattle.sp_grammar.specs.Table.{kind_is};
 ghost use Rattle.sp_parse.specs.Reads.{Ready};
-ghost use Rattle.sp_parse.specs.Operators.{IsSign, Relates, Adds, Multiplies, BeginsFactor, BeginsSimple, BeginsSelector, BeginsForm};
+ghost use Rattle.sp_parse.specs.Operators.{IsSign, Relates, Adds, Multiplies, BeginsFactor, BeginsSimple};
+ghost use Rattle.sp_parse.specs.Operators.{BeginsSelector, BeginsForm};
 
 use crate::source::{Source, cut};
 use sp_base::Halt;

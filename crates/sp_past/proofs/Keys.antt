@@ -6,7 +6,8 @@ use Rattle.sp_journal.specs.Names.{Name, Channel, same_name, same_channel}
 
 pub name_itself : (p : Name) → same_name p p ≡ true
 name_itself [] = refl
-name_itself (a ∷ p) = and_from ((a.0 == a.0) && (a.1 == a.1)) (same_name p p) (and_from (a.0 == a.0) (a.1 == a.1) (eq-eqb a.0 a.0 refl) (eq-eqb a.1 a.1 refl)) (name_itself p)
+name_itself (a ∷ p) = and_from ((a.0 == a.0) && (a.1 == a.1)) (same_name p p)
+    (and_from (a.0 == a.0) (a.1 == a.1) (eq-eqb a.0 a.0 refl) (eq-eqb a.1 a.1 refl)) (name_itself p)
 
 pub name_is : (p q : Name) → same_name p q ≡ true → p ≡ q
 name_is [] [] e = refl

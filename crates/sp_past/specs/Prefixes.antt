@@ -1,7 +1,9 @@
+-- None of this belongs to what the program promises: it is for contracts between crates.
 -- What a process knows of another, as a prefix of that one's entries. The law of this crate promises it; so a past is
 -- a count for each process, and the judge keeps counts in place of sets.
 use Rattle.std.specs.Prelude.{◌≡◌, ℕ, suc, ◌≤◌, Bool, true, false, List, [], ◌∷◌, Some, slice_get}
-use Rattle.sp_journal.specs.Names.{Name, Channel, Happening, Opened, Forked, Offered, Ended, Faulted, Laid, Paused, Occurrence}
+use Rattle.sp_journal.specs.Names.{Name, Channel, Happening, Opened, Forked, Offered, Ended, Faulted, Laid, Paused}
+use Rattle.sp_journal.specs.Names.{Occurrence}
 use Rattle.sp_journal.specs.Past.{Judged, judged, judged_by, nothing_judged}
 
 -- fork, open, send, receive and end are counted
@@ -32,7 +34,8 @@ IsQuiet es = QuietFrom nothing_judged 0 es
 
 -- who knows a counted entry of a process knows all earlier counted ones of that process
 abbrev pub KnowsPrefixes : List Occurrence → Type 0
-KnowsPrefixes es = (p q : Name) (i k : ℕ) → (judged es).past p i ≡ true → Counts es q i → Counts es q k → k ≤ i → (judged es).past p k ≡ true
+KnowsPrefixes es = (p q : Name) (i k : ℕ) → (judged es).past p i ≡ true → Counts es q i → Counts es q k → k ≤ i
+    → (judged es).past p k ≡ true
 
 -- only counted entries are known
 abbrev pub KnowsCounted : List Occurrence → Type 0

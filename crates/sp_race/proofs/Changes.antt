@@ -1,7 +1,8 @@
 -- Changes of different parts of the state commute.
 use Rattle.std.proofs.Common.{◌≡◌, ◌≢◌, ⊎_elim, ℕ, ◌+◌, List, [], ◌∷◌, refl, sym, ap, ◌∙◌, subst, arith}
 use Rattle.sp_meaning.specs.Maps.{IsTest, at_key}
-use Rattle.sp_meaning.specs.Model.{Name, same_name, Totals, add, Language, State, Change, Becomes, Forked, Writes, Pends, Adds, Faults, changed, after}
+use Rattle.sp_meaning.specs.Model.{Name, same_name, Totals, add, Language, State, Change, Becomes, Forked, Writes}
+use Rattle.sp_meaning.specs.Model.{Pends, Adds, Faults, changed, after}
 use Rattle.sp_meaning.proofs.Maps.{same_or_not, differs, at_apart}
 use Rattle.sp_meaning.proofs.Keys.{name_test, channel_test}
 
@@ -20,13 +21,19 @@ add_swap t a b =
     let e : (t.entries + a.entries) + b.entries ≡ (t.entries + b.entries) + a.entries = omega arith in
     λ i. record { processes = p i; channels = c i; entries = e i }
 
-forked_swap : (f : Name → ℕ) (p q r : Name) → at_key same_name p (at_key same_name q (f q + 1) f p + 1) (at_key same_name q (f q + 1) f) r ≡ at_key same_name q (at_key same_name p (f p + 1) f q + 1) (at_key same_name p (f p + 1) f) r
+forked_swap : (f : Name → ℕ) (p q r : Name) → at_key same_name p (at_key same_name q (f q + 1) f p + 1)
+    (at_key same_name q (f q + 1) f) r ≡ at_key same_name q (at_key same_name p (f p + 1) f q + 1)
+    (at_key same_name p (f p + 1) f) r
 forked_swap f p q r = ⊎_elim
-    (λ (is : p ≡ q). subst (λ z. at_key same_name p (at_key same_name z (f z + 1) f p + 1) (at_key same_name z (f z + 1) f) r ≡ at_key same_name z (at_key same_name p (f p + 1) f z + 1) (at_key same_name p (f p + 1) f) r) is refl)
-    (λ (apart : p ≢ q). rw (differs name_test q p (λ e. apart (sym e)), differs name_test p q apart) (ap (λ g. g r) (at_apart name_test f p q (f p + 1) (f q + 1) apart)))
+    (λ (is : p ≡ q). subst (λ z. at_key same_name p (at_key same_name z (f z + 1) f p + 1)
+    (at_key same_name z (f z + 1) f) r ≡ at_key same_name z (at_key same_name p (f p + 1) f z + 1)
+    (at_key same_name p (f p + 1) f) r) is refl)
+    (λ (apart : p ≢ q). rw (differs name_test q p (λ e. apart (sym e)), differs name_test p q apart)
+    (ap (λ g. g r) (at_apart name_test f p q (f p + 1) (f q + 1) apart)))
     (same_or_not name_test p q)
 
-pub swaps : {L : Language} → IsTest L.same_loc → (a b : Change L) → Apart a b → (s : State L) → changed a (changed b s) ≡ changed b (changed a s)
+pub swaps : {L : Language} → IsTest L.same_loc → (a b : Change L) → Apart a b → (s : State L)
+    → changed a (changed b s) ≡ changed b (changed a s)
 swaps {L} loc (Becomes p c) (Becomes q d) h s = λ i. record s { condition = at_apart name_test s.condition p q c d h i }
 swaps loc (Forked p) (Forked q) h s = λ i. record s { forks = λ r. forked_swap s.forks p q r i }
 swaps {L} loc (Writes l v) (Writes k w) h s = λ i. record s { store = at_apart loc s.store l k v w h i }
@@ -44,10 +51,12 @@ abbrev pub AllApart : {L : Language} → List (Change L) → List (Change L) →
 AllApart [] ys = Unit
 AllApart (a ∷ xs) ys = ApartFrom a ys × AllApart xs ys
 
-one_later : {L : Language} → IsTest L.same_loc → (a : Change L) (ys : List (Change L)) → ApartFrom a ys → (s : State L) → after ys (changed a s) ≡ changed a (after ys s)
+one_later : {L : Language} → IsTest L.same_loc → (a : Change L) (ys : List (Change L)) → ApartFrom a ys → (s : State L)
+    → after ys (changed a s) ≡ changed a (after ys s)
 one_later loc a [] h s = refl
 one_later loc a (b ∷ ys) h s = ap (after ys) (sym (swaps loc a b h.0 s)) ∙ one_later loc a ys h.1 (changed b s)
 
-pub after_swap : {L : Language} → IsTest L.same_loc → (xs ys : List (Change L)) → AllApart xs ys → (s : State L) → after ys (after xs s) ≡ after xs (after ys s)
+pub after_swap : {L : Language} → IsTest L.same_loc → (xs ys : List (Change L)) → AllApart xs ys → (s : State L)
+    → after ys (after xs s) ≡ after xs (after ys s)
 after_swap loc [] ys h s = refl
 after_swap loc (a ∷ xs) ys h s = after_swap loc xs ys h.1 (changed a s) ∙ ap (after xs) (one_later loc a ys h.0 s)

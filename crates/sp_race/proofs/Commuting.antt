@@ -1,14 +1,21 @@
 -- The exchange of two steps that are not both offers on one channel.
-use Rattle.std.proofs.Common.{◌≡◌, ◌≢◌, ◌⊎◌, ⊎_elim, inl, inr, ℕ, zero, suc, ◌+◌, ◌<◌, ◌≤◌, Bool, true, false, cond, ◌==◌, List, [], ◌∷◌, length, Option, Some, None, refl, sym, ap, ◌∙◌, subst, arith}
+use Rattle.std.proofs.Common.{◌≡◌, ◌≢◌, ◌⊎◌, ⊎_elim, inl, inr, ℕ, zero, suc, ◌+◌, ◌<◌, ◌≤◌, Bool, true, false, cond}
+use Rattle.std.proofs.Common.{◌==◌, List, [], ◌∷◌, length, Option, Some, None, refl, sym, ap, ◌∙◌, subst, arith}
 use Rattle.std.proofs.lemmas.Bool.Decides.{nat_tests}
 use Rattle.sp_base.specs.declared.fault.Fault.{Fault}
 use Rattle.sp_base.specs.declared.fault.Fault.TheVariants as fault
 use Rattle.sp_meaning.specs.Maps.{IsTest}
-use Rattle.sp_meaning.specs.Model.{Name, Channel, Totals, add, Language, Moves, Opens, Forks, Offering, Ends, Fails, Absent, Works, Waits, Joins, Ended, State, Change, Becomes, Forked, Writes, Pends, Adds, Faults, changed, after}
-use Rattle.sp_meaning.specs.Steps.{ActOf, OfferOf, ConditionOf, working, Outcome, Advances, Faulty, puts, births, message, an_entry, meeting, hands, meets, offered, acts, cost, is_over, passed, Laws, Sound}
+use Rattle.sp_meaning.specs.Model.{Name, Channel, Totals, add, Language, Moves, Opens, Forks, Offering, Ends, Fails}
+use Rattle.sp_meaning.specs.Model.{Absent, Works, Waits, Joins, Ended, State, Change, Becomes, Forked, Writes, Pends}
+use Rattle.sp_meaning.specs.Model.{Adds, Faults, changed, after}
+use Rattle.sp_meaning.specs.Steps.{ActOf, OfferOf, ConditionOf, working, Outcome, Advances, Faulty, puts, births}
+use Rattle.sp_meaning.specs.Steps.{message, an_entry, meeting, hands, meets, offered, acts, cost, is_over, passed, Laws}
+use Rattle.sp_meaning.specs.Steps.{Sound}
 use Rattle.sp_meaning.specs.Disjoint.{Delivers}
-use Rattle.sp_meaning.proofs.Frames.{IsOn, WritesTo, IsPartner, IsChild, IsNear, IsIn, AllIn, all_in, condition_frame, forks_frame, pending_frame, store_frame}
-use Rattle.sp_meaning.proofs.Status.{Makes, Stands, working_stands, child_absent, child_below, waits_absent, far, keeps_working, on_partner, waiting_far}
+use Rattle.sp_meaning.proofs.Frames.{IsOn, WritesTo, IsPartner, IsChild, IsNear, IsIn, AllIn, all_in, condition_frame}
+use Rattle.sp_meaning.proofs.Frames.{forks_frame, pending_frame, store_frame}
+use Rattle.sp_meaning.proofs.Status.{Makes, Stands, working_stands, child_absent, child_below, waits_absent, far}
+use Rattle.sp_meaning.proofs.Status.{keeps_working, on_partner, waiting_far}
 use Rattle.sp_race.proofs.Changes.{Apart, ApartFrom, AllApart, after_swap}
 
 -- a step with this own part reads or writes it
@@ -55,30 +62,38 @@ births_cost : (L : Language) (p : Name) (k i : ℕ) (os : List L.Own) → all_ad
 births_cost L p k i [] = refl
 births_cost L p k i (o ∷ os) = births_cost L p k (suc i) os
 
-hands_cost : {L : Language} (s : State L) (p : Name) (o : OfferOf L) (z : Name) (w : OfferOf L) (m : Option (L.Target × L.Value)) → Costs (Offering o) (hands s p o z w m)
+hands_cost : {L : Language} (s : State L) (p : Name) (o : OfferOf L) (z : Name) (w : OfferOf L)
+    (m : Option (L.Target × L.Value)) → Costs (Offering o) (hands s p o z w m)
 hands_cost s p o z w None = tt
-hands_cost s p o z w (Some m) = elim (o.kind == w.kind) as (λ b. Costs (Offering o) (cond b (Advances (meeting s p o z w m)) (Faulty fault.F7))) [ true ↦ sym (add_none an_entry) | false ↦ tt ]
+hands_cost s p o z w (Some m) = elim (o.kind == w.kind) as
+    (λ b. Costs (Offering o) (cond b (Advances (meeting s p o z w m)) (Faulty fault.F7)))
+    [ true ↦ sym (add_none an_entry) | false ↦ tt ]
 
-meets_cost : {L : Language} (s : State L) (p : Name) (o : OfferOf L) (z : Name) (c : ConditionOf L) → Costs (Offering o) (meets s p o z c)
+meets_cost : {L : Language} (s : State L) (p : Name) (o : OfferOf L) (z : Name) (c : ConditionOf L)
+    → Costs (Offering o) (meets s p o z c)
 meets_cost s p o z Absent = tt
 meets_cost s p o z (Works own) = tt
 meets_cost s p o z (Waits w) = hands_cost s p o z w (message o.cargo w.cargo)
 meets_cost s p o z (Joins k n own) = tt
 meets_cost s p o z Ended = tt
 
-offered_cost : {L : Language} (s : State L) (p : Name) (o : OfferOf L) (m : Option Name) → Costs (Offering o) (offered s p o m)
+offered_cost : {L : Language} (s : State L) (p : Name) (o : OfferOf L) (m : Option Name)
+    → Costs (Offering o) (offered s p o m)
 offered_cost s p o None = sym (add_none an_entry)
 offered_cost s p o (Some z) = meets_cost s p o z (s.condition z)
 
 acts_cost : {L : Language} (s : State L) (p : Name) (a : ActOf L) → Costs a (acts s p a)
 acts_cost {L} s p (Moves o ws) = puts_cost L ws
-acts_cost {L} s p (Opens o ws) = ap (add (record { processes = 0; channels = 1; entries = 1 })) (puts_cost L ws) ∙ sym (add_none _)
-acts_cost {L} s p (Forks o os) = ap (add (record { processes = length os; channels = 0; entries = 1 })) (births_cost L p (s.forks p) 0 os) ∙ sym (add_none _)
+acts_cost {L} s p (Opens o ws) = ap (add (record { processes = 0; channels = 1; entries = 1 })) (puts_cost L ws)
+    ∙ sym (add_none _)
+acts_cost {L} s p (Forks o os) = ap (add (record { processes = length os; channels = 0; entries = 1 }))
+    (births_cost L p (s.forks p) 0 os) ∙ sym (add_none _)
 acts_cost s p (Offering o) = offered_cost s p o (s.pending o.channel)
 acts_cost s p Ends = refl
 acts_cost s p (Fails f) = tt
 
-pub totals_made : {L : Language} (s : State L) (p : Name) (a : ActOf L) (cs : List (Change L)) → acts s p a ≡ Advances cs → (after cs s).totals ≡ add s.totals (spent (cost a))
+pub totals_made : {L : Language} (s : State L) (p : Name) (a : ActOf L) (cs : List (Change L))
+    → acts s p a ≡ Advances cs → (after cs s).totals ≡ add s.totals (spent (cost a))
 totals_made s p a cs e = totals_after cs s ∙ ap (add s.totals) (subst (Costs a) e (acts_cost s p a))
 
 record Fits (l t n : Totals) : Type 0 where
@@ -136,7 +151,8 @@ passed_earlier l t n (Some m) h =
       channels = less_before l.channels t.channels n.channels m.channels f.channels;
     })
 
-passed_later : (l t : Totals) (c d : Option Totals) → passed l t c ≡ None → passed l (add t (spent c)) d ≡ None → passed l (add t (spent d)) c ≡ None
+passed_later : (l t : Totals) (c d : Option Totals) → passed l t c ≡ None → passed l (add t (spent c)) d ≡ None
+    → passed l (add t (spent d)) c ≡ None
 passed_later l t None d h k = refl
 passed_later l t (Some n) None h k = subst (λ z. passed l z (Some n) ≡ None) (add_none t) h
 passed_later l t (Some n) (Some m) h k =
@@ -151,35 +167,59 @@ passed_later l t (Some n) (Some m) h k =
 -- what an act does goes by these parts of the state alone
 module _ {L : Language} (t s : State L) (q : Name) where
   meeting_at : Name → OfferOf L → Name → OfferOf L → L.Target × L.Value → L.Value → List (Change L)
-  meeting_at p o z w m old = Becomes p (Works o.next) ∷ Becomes z (Works w.next) ∷ Pends o.channel None ∷ Writes (L.place m.0) (L.put m.0 old m.1) ∷ Adds an_entry ∷ []
+  meeting_at p o z w m old = Becomes p (Works o.next) ∷ Becomes z (Works w.next) ∷ Pends o.channel None
+      ∷ Writes (L.place m.0) (L.put m.0 old m.1) ∷ Adds an_entry ∷ []
 
-  hands_same : (o : OfferOf L) (z : Name) (w : OfferOf L) (m : Option (L.Target × L.Value)) → ((x : L.Target × L.Value) → m ≡ Some x → t.store (L.place x.0) ≡ s.store (L.place x.0)) → hands t q o z w m ≡ hands s q o z w m
+  hands_same : (o : OfferOf L) (z : Name) (w : OfferOf L) (m : Option (L.Target × L.Value))
+      → ((x : L.Target × L.Value) → m ≡ Some x → t.store (L.place x.0) ≡ s.store (L.place x.0))
+      → hands t q o z w m ≡ hands s q o z w m
   unfolding meeting_at
   hands_same o z w None st = refl
-  hands_same o z w (Some m) st = λ i. cond (o.kind == w.kind) (Advances (meeting_at q o z w m (st m refl i))) (Faulty fault.F7)
+  hands_same o z w (Some m) st = λ i. cond (o.kind == w.kind) (Advances (meeting_at q o z w m (st m refl i)))
+      (Faulty fault.F7)
 
-  meets_same : (o : OfferOf L) (z : Name) (c : ConditionOf L) → s.pending o.channel ≡ Some z → s.condition z ≡ c → ((l : L.Loc) → Delivers s o l → t.store l ≡ s.store l) → meets t q o z c ≡ meets s q o z c
+  meets_same : (o : OfferOf L) (z : Name) (c : ConditionOf L) → s.pending o.channel ≡ Some z → s.condition z ≡ c
+      → ((l : L.Loc) → Delivers s o l → t.store l ≡ s.store l) → meets t q o z c ≡ meets s q o z c
   meets_same o z Absent pe ce st = refl
   meets_same o z (Works x) pe ce st = refl
-  meets_same o z (Waits w) pe ce st = hands_same o z w (message o.cargo w.cargo) (λ x is. st (L.place x.0) (record { other = z; pends = pe; its = w; waits = ce; passes = x; is = is; there = refl }))
+  meets_same o z (Waits w) pe ce st = hands_same o z w (message o.cargo w.cargo)
+      (λ x is. st (L.place x.0) (record {
+        other = z;
+        pends = pe;
+        its = w;
+        waits = ce;
+        passes = x;
+        is = is;
+        there = refl;
+      }))
   meets_same o z (Joins n m x) pe ce st = refl
   meets_same o z Ended pe ce st = refl
 
-  offered_same : (o : OfferOf L) (m : Option Name) → s.pending o.channel ≡ m → ((z : Name) → s.pending o.channel ≡ Some z → t.condition z ≡ s.condition z) → ((l : L.Loc) → Delivers s o l → t.store l ≡ s.store l) → offered t q o m ≡ offered s q o m
+  offered_same : (o : OfferOf L) (m : Option Name) → s.pending o.channel ≡ m
+      → ((z : Name) → s.pending o.channel ≡ Some z → t.condition z ≡ s.condition z)
+      → ((l : L.Loc) → Delivers s o l → t.store l ≡ s.store l) → offered t q o m ≡ offered s q o m
   offered_same o None pe other st = refl
   offered_same o (Some z) pe other st = ap (meets t q o z) (other z pe) ∙ meets_same o z (s.condition z) pe refl st
 
-  pub acts_same : (b : ActOf L) → t.forks q ≡ s.forks q → ((c : Channel) → IsOn b c → t.pending c ≡ s.pending c) → ((z : Name) → IsPartner s b z → t.condition z ≡ s.condition z) → ((l : L.Loc) → WritesTo s b l → t.store l ≡ s.store l) → acts t q b ≡ acts s q b
+  pub acts_same : (b : ActOf L) → t.forks q ≡ s.forks q → ((c : Channel) → IsOn b c → t.pending c ≡ s.pending c)
+      → ((z : Name) → IsPartner s b z → t.condition z ≡ s.condition z)
+      → ((l : L.Loc) → WritesTo s b l → t.store l ≡ s.store l) → acts t q b ≡ acts s q b
   acts_same (Moves o ws) f pe other st = refl
   acts_same (Opens o ws) f pe other st = refl
-  acts_same (Forks o os) f pe other st = λ i. Advances (Becomes q (Joins (f i) (length os) o) ∷ Forked q ∷ Adds (record { processes = length os; channels = 0; entries = 1 }) ∷ births q (f i) 0 os)
-  acts_same (Offering o) f pe other st = ap (offered t q o) (pe o.channel refl) ∙ offered_same o (s.pending o.channel) refl other st
+  acts_same (Forks o os) f pe other st = λ i. Advances
+      (Becomes q (Joins (f i) (length os) o) ∷ Forked q
+      ∷ Adds (record { processes = length os; channels = 0; entries = 1 }) ∷ births q (f i) 0 os)
+  acts_same (Offering o) f pe other st = ap (offered t q o) (pe o.channel refl)
+      ∙ offered_same o (s.pending o.channel) refl other st
   acts_same Ends f pe other st = refl
   acts_same (Fails x) f pe other st = refl
 
 -- What a step does is not changed by one of another process before it
-module _ {L : Language} {limits : Totals} (loc : IsTest L.same_loc) (s : State L) (p : Name) (cs : List (Change L)) (sound : Sound s) (does : Makes limits s p cs) where
-  pub acts_kept : (q : Name) (own : L.Own) (b : ActOf L) → q ≢ p → working s q ≡ Some own → ((c : Channel) → IsOn (L.next does.own s.store) c → IsOn b c → ⊥) → ((l : L.Loc) → WritesTo s (L.next does.own s.store) l → WritesTo s b l → ⊥) → acts (after cs s) q b ≡ acts s q b
+module _ {L : Language} {limits : Totals} (loc : IsTest L.same_loc) (s : State L) (p : Name) (cs : List (Change L))
+    (sound : Sound s) (does : Makes limits s p cs) where
+  pub acts_kept : (q : Name) (own : L.Own) (b : ActOf L) → q ≢ p → working s q ≡ Some own
+      → ((c : Channel) → IsOn (L.next does.own s.store) c → IsOn b c → ⊥)
+      → ((l : L.Loc) → WritesTo s (L.next does.own s.store) l → WritesTo s b l → ⊥) → acts (after cs s) q b ≡ acts s q b
   acts_kept q own b apart w off free =
       let a = L.next does.own s.store in
       let i = all_in s p a cs does.does in
@@ -191,26 +231,41 @@ module _ {L : Language} {limits : Totals} (loc : IsTest L.same_loc) (s : State L
       (λ l h. store_frame s p a loc l (λ k. free l k h) cs s i)
 
   -- nor where it writes
-  pub writes_kept : (b : ActOf L) → ((c : Channel) → IsOn (L.next does.own s.store) c → IsOn b c → ⊥) → (l : L.Loc) → WritesTo s b l → WritesTo (after cs s) b l
+  pub writes_kept : (b : ActOf L) → ((c : Channel) → IsOn (L.next does.own s.store) c → IsOn b c → ⊥) → (l : L.Loc)
+      → WritesTo s b l → WritesTo (after cs s) b l
   writes_kept (Moves o ws) off l h = h
   writes_kept (Opens o ws) off l h = h
   writes_kept (Forks o os) off l h = h
   writes_kept (Offering o) off l h =
       let a = L.next does.own s.store in
       let i = all_in s p a cs does.does in
-      let g = waiting_far s p cs sound does o.channel h.other (sound.waits o.channel h.other h.pends) (λ on. off o.channel on refl) in
-      record { other = h.other; pends = pending_frame s p a o.channel (λ on. off o.channel on refl) cs s i ∙ h.pends; its = h.its; waits = condition_frame s p a h.other g cs s i ∙ h.waits; passes = h.passes; is = h.is; there = h.there }
+      let g = waiting_far s p cs sound does o.channel h.other (sound.waits o.channel h.other h.pends)
+      (λ on. off o.channel on refl) in
+      record {
+        other = h.other;
+        pends = pending_frame s p a o.channel (λ on. off o.channel on refl) cs s i ∙ h.pends;
+        its = h.its;
+        waits = condition_frame s p a h.other g cs s i ∙ h.waits;
+        passes = h.passes;
+        is = h.is;
+        there = h.there;
+      }
   writes_kept Ends off l h = h
   writes_kept (Fails f) off l h = h
 
 -- The changes of both are of different parts of the state
-module _ {L : Language} {limits : Totals} (s : State L) (sound : Sound s) (p q : Name) (cs ds : List (Change L)) (one : Makes limits s p cs) (two : Makes limits s q ds) (apart : q ≢ p) (off : (c : Channel) → IsOn (L.next one.own s.store) c → IsOn (L.next two.own s.store) c → ⊥) (free : (l : L.Loc) → WritesTo s (L.next one.own s.store) l → WritesTo s (L.next two.own s.store) l → ⊥) where
+module _ {L : Language} {limits : Totals} (s : State L) (sound : Sound s) (p q : Name) (cs ds : List (Change L))
+    (one : Makes limits s p cs) (two : Makes limits s q ds) (apart : q ≢ p)
+    (off : (c : Channel) → IsOn (L.next one.own s.store) c → IsOn (L.next two.own s.store) c → ⊥)
+    (free : (l : L.Loc) → WritesTo s (L.next one.own s.store) l → WritesTo s (L.next two.own s.store) l → ⊥) where
   tail_is : (x y : ℕ × ℕ) (p q : Name) → x ∷ p ≡ y ∷ q → p ≡ q
   tail_is x y p q e = cc
 
   near_apart : (r : Name) → IsNear s p (L.next one.own s.store) r → IsNear s q (L.next two.own s.store) r → ⊥
   near_apart r n m = ⊎_elim
-      (λ (e : r ≡ p). far s q ds sound two p (λ h. apart (sym h)) (working_stands s.condition p (s.condition p) one.own one.works) (subst (IsNear s q (L.next two.own s.store)) e m))
+      (λ (e : r ≡ p). far s q ds sound two p (λ h. apart (sym h))
+      (working_stands s.condition p (s.condition p) one.own one.works)
+      (subst (IsNear s q (L.next two.own s.store)) e m))
       (⊎_elim
       (λ (h : IsPartner s (L.next one.own s.store) r).
       let k = on_partner s p cs sound one (L.next one.own s.store) r h in
@@ -219,10 +274,13 @@ module _ {L : Language} {limits : Totals} (s : State L) (sound : Sound s) (p q :
       let none : s.condition r ≡ Absent = child_absent s p sound (L.next one.own s.store) r h in
       let x = child_below s p (L.next one.own s.store) r h in
       ⊎_elim
-      (λ (e : r ≡ q). subst (λ (c : ConditionOf L). Stands c) (ap s.condition (sym e) ∙ none) (working_stands s.condition q (s.condition q) two.own two.works))
+      (λ (e : r ≡ q). subst (λ (c : ConditionOf L). Stands c) (ap s.condition (sym e) ∙ none)
+      (working_stands s.condition q (s.condition q) two.own two.works))
       (⊎_elim
-      (λ (g : IsPartner s (L.next two.own s.store) r). let k = on_partner s q ds sound two (L.next two.own s.store) r g in waits_absent k.0 (s.condition r) k.2 none)
-      (λ (g : IsChild s q (L.next two.own s.store) r). let y = child_below s q (L.next two.own s.store) r g in apart (tail_is y.0 x.0 q p (sym y.1 ∙ x.1))))
+      (λ (g : IsPartner s (L.next two.own s.store) r). let k =
+      on_partner s q ds sound two (L.next two.own s.store) r g in waits_absent k.0 (s.condition r) k.2 none)
+      (λ (g : IsChild s q (L.next two.own s.store) r). let y = child_below s q (L.next two.own s.store) r g in
+      apart (tail_is y.0 x.0 q p (sym y.1 ∙ x.1))))
       m))
       n
 
@@ -233,18 +291,22 @@ module _ {L : Language} {limits : Totals} (s : State L) (sound : Sound s) (p q :
   pair_apart (Faults x f) (Faults y g) h k = h
   pair_apart c d h k = tt
 
-  from_apart : (c : Change L) (es : List (Change L)) → IsIn s p (L.next one.own s.store) c → AllIn s q (L.next two.own s.store) es → ApartFrom c es
+  from_apart : (c : Change L) (es : List (Change L)) → IsIn s p (L.next one.own s.store) c
+      → AllIn s q (L.next two.own s.store) es → ApartFrom c es
   from_apart c [] h k = tt
   from_apart c (e ∷ es) h k = (pair_apart c e h k.0, from_apart c es h k.1)
 
-  all_apart : (bs es : List (Change L)) → AllIn s p (L.next one.own s.store) bs → AllIn s q (L.next two.own s.store) es → AllApart bs es
+  all_apart : (bs es : List (Change L)) → AllIn s p (L.next one.own s.store) bs → AllIn s q (L.next two.own s.store) es
+      → AllApart bs es
   all_apart [] es h k = tt
   all_apart (b ∷ bs) es h k = (from_apart b es h.0 k, all_apart bs es h.1 k)
 
   pub both_orders : IsTest L.same_loc → after ds (after cs s) ≡ after cs (after ds s)
-  both_orders loc = after_swap loc cs ds (all_apart cs ds (all_in s p (L.next one.own s.store) cs one.does) (all_in s q (L.next two.own s.store) ds two.does)) s
+  both_orders loc = after_swap loc cs ds (all_apart cs ds (all_in s p (L.next one.own s.store) cs one.does)
+      (all_in s q (L.next two.own s.store) ds two.does)) s
 
-pub record Exchanged {L : Language} (limits : Totals) (s : State L) (p q : Name) (cs ds : List (Change L)) (a b : ActOf L) : Type 0 where
+pub record Exchanged {L : Language} (limits : Totals) (s : State L) (p q : Name) (cs ds : List (Change L))
+    (a b : ActOf L) : Type 0 where
   pub first : Makes limits s q ds
   pub first_act : L.next first.own s.store ≡ b
   pub second : Makes limits (after ds s) p cs
@@ -252,7 +314,9 @@ pub record Exchanged {L : Language} (limits : Totals) (s : State L) (p q : Name)
   pub same : after ds (after cs s) ≡ after cs (after ds s)
 
 -- The exchange
-pub exchange : {L : Language} {limits : Totals} (laws : Laws L) (s : State L) (p q : Name) (cs ds : List (Change L)) (own : L.Own) → Sound s → (one : Makes limits s p cs) → (two : Makes limits (after cs s) q ds) → q ≢ p → working s q ≡ Some own
+pub exchange : {L : Language} {limits : Totals} (laws : Laws L) (s : State L) (p q : Name) (cs ds : List (Change L))
+    (own : L.Own) → Sound s → (one : Makes limits s p cs) → (two : Makes limits (after cs s) q ds) → q ≢ p
+    → working s q ≡ Some own
     → ((c : Channel) → IsOn (L.next one.own s.store) c → IsOn (L.next own (after cs s).store) c → ⊥)
     → ((l : L.Loc) → WritesTo s (L.next one.own s.store) l → Touches (after cs s) own l → ⊥)
     → ((l : L.Loc) → WritesTo (after cs s) (L.next own (after cs s).store) l → Touches s one.own l → ⊥)
@@ -261,31 +325,47 @@ exchange {L} {limits} laws s p q cs ds own sound one two apart w off free1 free2
     let t = after cs s in
     let a = L.next one.own s.store in
     let b = L.next own t.store in
-    let mine : two.own ≡ own = (let k = keeps_working s p cs sound one q own apart w in let h = two.works in cc (k, h)) in
+    let mine : two.own ≡ own = (let k = keeps_working s p cs sound one q own apart w in let h = two.works in
+    cc (k, h)) in
     let next_is : L.next two.own t.store ≡ L.next own s.store =
-    ap (λ o. L.next o t.store) mine ∙ laws.local own t.store s.store (λ l touched. store_frame s p a laws.told l (λ wr. free1 l wr (inl touched)) cs s (all_in s p a cs one.does)) in
-    let b_is : b ≡ L.next own s.store = laws.local own t.store s.store (λ l touched. store_frame s p a laws.told l (λ wr. free1 l wr (inl touched)) cs s (all_in s p a cs one.does)) in
-    let kept : acts t q b ≡ acts s q b = acts_kept laws.told s p cs sound one q own b apart w off (λ l h k. free1 l h (inr (writes_kept laws.told s p cs sound one b off l k))) in
+    ap (λ o. L.next o t.store) mine ∙ laws.local own t.store s.store
+    (λ l touched. store_frame s p a laws.told l (λ wr. free1 l wr (inl touched)) cs s (all_in s p a cs one.does)) in
+    let b_is : b ≡ L.next own s.store = laws.local own t.store s.store
+    (λ l touched. store_frame s p a laws.told l (λ wr. free1 l wr (inl touched)) cs s (all_in s p a cs one.does)) in
+    let kept : acts t q b ≡ acts s q b = acts_kept laws.told s p cs sound one q own b apart w off
+    (λ l h k. free1 l h (inr (writes_kept laws.told s p cs sound one b off l k))) in
     let first : Makes limits s q ds = record {
       own = own;
       works = w;
-      within = passed_earlier limits s.totals (spent (cost a)) (cost (L.next own s.store)) (subst (λ z. passed limits z (cost (L.next own s.store)) ≡ None) (totals_made s p a cs one.does) (subst (λ z. passed limits t.totals (cost z) ≡ None) next_is two.within));
-      does = subst (λ z. acts s q z ≡ Advances ds) b_is (sym kept ∙ subst (λ o. acts t q (L.next o t.store) ≡ Advances ds) mine two.does);
+      within = passed_earlier limits s.totals (spent (cost a)) (cost (L.next own s.store))
+          (subst (λ z. passed limits z (cost (L.next own s.store)) ≡ None) (totals_made s p a cs one.does)
+          (subst (λ z. passed limits t.totals (cost z) ≡ None) next_is two.within));
+      does = subst (λ z. acts s q z ≡ Advances ds) b_is
+          (sym kept ∙ subst (λ o. acts t q (L.next o t.store) ≡ Advances ds) mine two.does);
     } in
     let c = L.next own s.store in
     let off' : (d : Channel) → IsOn a d → IsOn c d → ⊥ = λ d h k. off d h (subst (λ z. IsOn z d) (sym b_is) k) in
-    let writes' : (l : L.Loc) → WritesTo s c l → WritesTo t b l = λ l h. writes_kept laws.told s p cs sound one b off l (subst (λ z. WritesTo s z l) (sym b_is) h) in
+    let writes' : (l : L.Loc) → WritesTo s c l
+    → WritesTo t b l = λ l h. writes_kept laws.told s p cs sound one b off l
+    (subst (λ z. WritesTo s z l) (sym b_is) h) in
     let a_is : L.next one.own s.store ≡ L.next one.own (after ds s).store =
-    laws.local one.own s.store (after ds s).store (λ l touched. sym (store_frame s q c laws.told l (λ wr. free2 l (writes' l wr) (inl touched)) ds s (all_in s q c ds first.does))) in
-    let kept' : acts (after ds s) p a ≡ acts s p a = acts_kept laws.told s q ds sound first p one.own a (λ e. apart (sym e)) one.works (λ d h k. off' d k h) (λ l h k. free2 l (writes' l h) (inr k)) in
+    laws.local one.own s.store (after ds s).store
+    (λ l touched. sym (store_frame s q c laws.told l (λ wr. free2 l (writes' l wr) (inl touched)) ds s
+    (all_in s q c ds first.does))) in
+    let kept' : acts (after ds s) p a ≡ acts s p a =
+    acts_kept laws.told s q ds sound first p one.own a (λ e. apart (sym e)) one.works (λ d h k. off' d k h)
+    (λ l h k. free2 l (writes' l h) (inr k)) in
     record {
       first = first;
       first_act = sym b_is;
       second = record {
         own = one.own;
         works = keeps_working s q ds sound first p one.own (λ e. apart (sym e)) one.works;
-        within = subst (λ z. passed limits (after ds s).totals (cost z) ≡ None) a_is (subst (λ z. passed limits z (cost a) ≡ None) (sym (totals_made s q c ds first.does))
-            (passed_later limits s.totals (cost a) (cost c) one.within (subst (λ z. passed limits z (cost c) ≡ None) (totals_made s p a cs one.does) (subst (λ z. passed limits t.totals (cost z) ≡ None) next_is two.within))));
+        within = subst (λ z. passed limits (after ds s).totals (cost z) ≡ None) a_is
+            (subst (λ z. passed limits z (cost a) ≡ None) (sym (totals_made s q c ds first.does))
+            (passed_later limits s.totals (cost a) (cost c) one.within
+            (subst (λ z. passed limits z (cost c) ≡ None) (totals_made s p a cs one.does)
+            (subst (λ z. passed limits t.totals (cost z) ≡ None) next_is two.within))));
         does = subst (λ z. acts (after ds s) p z ≡ Advances cs) a_is (kept' ∙ one.does);
       };
       second_act = sym a_is;

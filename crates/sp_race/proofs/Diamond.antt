@@ -1,9 +1,11 @@
 -- The diamond: where one run is of good steps and ends stuck, each lawful schedule is the front of one that ends as
 -- it does.
-use Rattle.std.proofs.Common.{◌≡◌, ◌≢◌, ◌⊎◌, ⊎_elim, ℕ, suc, List, [], ◌∷◌, length, Option, Some, None, refl, sym, subst, arith}
+use Rattle.std.proofs.Common.{◌≡◌, ◌≢◌, ◌⊎◌, ⊎_elim, ℕ, suc, List, [], ◌∷◌, length, Option, Some, None, refl, sym}
+use Rattle.std.proofs.Common.{subst, arith}
 use Rattle.sp_meaning.specs.Schedules.{System, Leads, IsStuck, EndsAlike}
 
--- A relation on steps of which the laws below hold: "this step is made in a state with the invariant, it keeps Ordered, and it sets no fault"
+-- A relation on steps of which the laws below hold: "this step is made in a state with the invariant, it keeps Ordered,
+-- and it sets no fault"
 pub record Good (y : System) : Type 1 where
   pub Step : y.State → y.Name → y.State → Type 0
   pub quiet_before : (s : y.State) (p : y.Name) (t : y.State) → Step s p t → y.Quiet s
@@ -12,9 +14,11 @@ pub record Good (y : System) : Type 1 where
   -- names are told apart
   pub same_or_not : (p q : y.Name) → (p ≡ q) ⊎ (p ≢ q)
   -- who can step still can, once another has made a good step
-  pub persists : (s : y.State) (p q : y.Name) (s1 m : y.State) → p ≢ q → Step s p s1 → y.step s q ≡ Some m → (m1 : y.State) × (y.step s1 q ≡ Some m1)
+  pub persists : (s : y.State) (p q : y.Name) (s1 m : y.State) → p ≢ q → Step s p s1 → y.step s q ≡ Some m
+      → (m1 : y.State) × (y.step s1 q ≡ Some m1)
   -- two good steps, of which the second could have been made first, can be made the other way round, and are good
-  pub exchange : (s : y.State) (p q : y.Name) (s1 s2 m : y.State) → p ≢ q → Step s p s1 → Step s1 q s2 → y.step s q ≡ Some m → Step s q m × Step m p s2
+  pub exchange : (s : y.State) (p q : y.Name) (s1 s2 m : y.State) → p ≢ q → Step s p s1 → Step s1 q s2
+      → y.step s q ≡ Some m → Step s q m × Step m p s2
 
 -- a run of good steps
 abbrev pub GoodRun : {y : System} → Good y → y.State → List y.Name → y.State → Type 0
@@ -31,13 +35,20 @@ pub record Fronted {y : System} (g : Good y) (q : y.Name) (s m : y.State) (n : �
   pub one_less : suc (length rest) ≡ n
   pub run : GoodRun g m rest t
 
-front : {y : System} (g : Good y) (ps : List y.Name) (s t : y.State) (q : y.Name) (m : y.State) → GoodRun g s ps t → IsStuck y t → y.step s q ≡ Some m → Fronted g q s m (length ps) t
-front {y} g [] s t q m r stuck e = let h : y.step s q ≡ None = subst (λ z. y.step z q ≡ None) r (stuck q) in absurd (cc (h, e))
+front : {y : System} (g : Good y) (ps : List y.Name) (s t : y.State) (q : y.Name) (m : y.State) → GoodRun g s ps t
+    → IsStuck y t → y.step s q ≡ Some m → Fronted g q s m (length ps) t
+front {y} g [] s t q m r stuck e = let h : y.step s q ≡ None = subst (λ z. y.step z q ≡ None) r (stuck q) in
+    absurd (cc (h, e))
 front {y} g (p ∷ ps) s t q m r stuck e = ⊎_elim
     (λ (same : p ≡ q).
     let made = g.made s p r.0 r.1 in
     let is : r.0 ≡ m = some_is (subst (λ z. y.step s z ≡ Some r.0) same made) e in
-    record { step = subst (λ z. g.Step s q z) is (subst (λ z. g.Step s z r.0) same r.1); rest = ps; one_less = omega arith; run = subst (λ z. GoodRun g z ps t) is r.2 })
+    record {
+      step = subst (λ z. g.Step s q z) is (subst (λ z. g.Step s z r.0) same r.1);
+      rest = ps;
+      one_less = omega arith;
+      run = subst (λ z. GoodRun g z ps t) is r.2;
+    })
     (λ (apart : p ≢ q).
     let still = g.persists s p q r.0 m apart r.1 e in
     let f = front g ps r.0 t q still.0 r.2 stuck still.1 in
@@ -50,9 +61,23 @@ leads g [] s t r = r
 leads g (p ∷ ps) s t r = (r.0, g.quiet_before s p r.0 r.1, g.made s p r.0 r.1, leads g ps r.0 t r.2)
 
 -- the theorem, over any system
-pub ends_alike : {y : System} (g : Good y) (qs ps : List y.Name) (s t u : y.State) → y.Quiet s → GoodRun g s ps t → IsStuck y t → Leads y s qs u → EndsAlike y s (length ps) t qs u
-ends_alike {y} g [] ps s t u quiet r stuck l = record { bounded = omega arith; quiet = subst y.Quiet (sym l) quiet; rest = ps; full = refl; goes_on = subst (λ z. Leads y z ps t) (sym l) (leads g ps s t r) }
+pub ends_alike : {y : System} (g : Good y) (qs ps : List y.Name) (s t u : y.State) → y.Quiet s → GoodRun g s ps t
+    → IsStuck y t → Leads y s qs u → EndsAlike y s (length ps) t qs u
+ends_alike {y} g [] ps s t u quiet r stuck l =
+    record {
+      bounded = omega arith;
+      quiet = subst y.Quiet (sym l) quiet;
+      rest = ps;
+      full = refl;
+      goes_on = subst (λ z. Leads y z ps t) (sym l) (leads g ps s t r);
+    }
 ends_alike {y} g (q ∷ qs) ps s t u quiet r stuck l =
     let f = front g ps s t q l.0 r stuck l.2 in
     let h = ends_alike g qs f.rest l.0 t u (g.quiet_after s q l.0 f.step) f.run stuck l.3 in
-    record { bounded = omega (arith, f.one_less, h.bounded); quiet = h.quiet; rest = h.rest; full = omega (arith, f.one_less, h.full); goes_on = h.goes_on }
+    record {
+      bounded = omega (arith, f.one_less, h.bounded);
+      quiet = h.quiet;
+      rest = h.rest;
+      full = omega (arith, f.one_less, h.full);
+      goes_on = h.goes_on;
+    }

@@ -1,17 +1,22 @@
 -- A step that is made in a state that a schedule comes to, sets no fault and is ordered: such steps can be exchanged.
-use Rattle.std.proofs.Common.{◌≡◌, ◌≢◌, ◌⊎◌, ⊎_elim, inl, inr, Bool, true, false, List, [], ◌∷◌, ◌++◌, length, Option, Some, None, refl, sym, ap, ◌∙◌, subst}
+use Rattle.std.proofs.Common.{◌≡◌, ◌≢◌, ◌⊎◌, ⊎_elim, inl, inr, Bool, true, false, List, [], ◌∷◌, ◌++◌, length, Option}
+use Rattle.std.proofs.Common.{Some, None, refl, sym, ap, ◌∙◌, subst}
 use Rattle.std.proofs.lemmas.Bool.{false≢true}
 use Rattle.std.proofs.lemmas.Option.{none-some, same_Some}
 use Rattle.sp_base.specs.declared.fault.Fault.{Fault}
 use Rattle.sp_journal.specs.declared.entry.Way.{Way}
-use Rattle.sp_meaning.specs.Model.{Name, Channel, Totals, Language, Moves, Opens, Forks, Offering, Ends, Fails, Cargo, Message, Takes, State, Change, after}
-use Rattle.sp_meaning.specs.Steps.{ActOf, OfferOf, working, Outcome, Advances, Faulty, way_of, waiting, acts, cost, passed, unless, outcome, result_of, step_with, step, Quiet, processes, Laws, WaitsOn, Sound, opening}
+use Rattle.sp_meaning.specs.Model.{Name, Channel, Totals, Language, Moves, Opens, Forks, Offering, Ends, Fails, Cargo}
+use Rattle.sp_meaning.specs.Model.{Message, Takes, State, Change, after}
+use Rattle.sp_meaning.specs.Steps.{ActOf, OfferOf, working, Outcome, Advances, Faulty, way_of, waiting, acts, cost}
+use Rattle.sp_meaning.specs.Steps.{passed, unless, outcome, result_of, step_with, step, Quiet, processes, Laws, WaitsOn}
+use Rattle.sp_meaning.specs.Steps.{Sound, opening}
 use Rattle.sp_meaning.specs.Disjoint.{AreParallel, Assigns, receiver, WritesIn, AccessesIn, Happens, IsDisjoint}
 use Rattle.sp_meaning.specs.Schedules.{Leads, IsStuck, EndsAlike}
 use Rattle.sp_meaning.proofs.Maps.{same_or_not}
 use Rattle.sp_meaning.proofs.Keys.{name_test, channel_test}
 use Rattle.sp_meaning.proofs.Frames.{IsOn, WritesTo, AllIn, all_in, forks_frame, pending_frame, fault_frame}
-use Rattle.sp_meaning.proofs.Status.{Makes, Stands, waits_stands, working_stands, waits_one, far, keeps_working, working_no_parent, on_partner, waiting_far, waiting_no_parent}
+use Rattle.sp_meaning.proofs.Status.{Makes, Stands, waits_stands, working_stands, waits_one, far, keeps_working}
+use Rattle.sp_meaning.proofs.Status.{working_no_parent, on_partner, waiting_far, waiting_no_parent}
 use Rattle.sp_meaning.proofs.Meeting.{waited}
 use Rattle.sp_meaning.proofs.Kept.{sound_kept}
 use Rattle.sp_meaning.proofs.Parallel.{IsAlone, parallel}
@@ -19,41 +24,57 @@ use Rattle.sp_race.specs.Notes.{Event, Notes, Note, all_noted, notes_of, no_note
 use Rattle.sp_race.specs.Noting.{WithNotes, notes_after, noted_with, noted_step, noted_processes}
 use Rattle.sp_race.specs.Ordered.{IsOrderedRun}
 use Rattle.sp_race.proofs.Diamond.{Good, GoodRun, ends_alike}
-use Rattle.sp_race.proofs.NotesFrames.{notes_in, events_frame, past_frame, offers_frame, notes_same, all_notes_swap, offers_grow, known_kept}
+use Rattle.sp_race.proofs.NotesFrames.{notes_in, events_frame, past_frame, offers_frame, notes_same, all_notes_swap}
+use Rattle.sp_race.proofs.NotesFrames.{offers_grow, known_kept}
 use Rattle.sp_race.proofs.Commuting.{Touches, exchange}
 use Rattle.sp_race.proofs.Rendezvous.{ExchangedTo, met_first, waits_first}
 
 -- Steps and their changes
-pub steps : {L : Language} {limits : Totals} (s : State L) (p : Name) (cs : List (Change L)) → Makes limits s p cs → step limits s p ≡ Some (after cs s)
+pub steps : {L : Language} {limits : Totals} (s : State L) (p : Name) (cs : List (Change L)) → Makes limits s p cs
+    → step limits s p ≡ Some (after cs s)
 steps {L} {limits} s p cs m =
     let a = L.next m.own s.store in
-    ap (step_with limits s p) m.works ∙ ap (λ x. Some (result_of s p x)) (ap (λ x. unless x (acts s p a)) m.within ∙ m.does)
+    ap (step_with limits s p) m.works ∙ ap (λ x. Some (result_of s p x))
+    (ap (λ x. unless x (acts s p a)) m.within ∙ m.does)
 
 pub record Made {L : Language} (limits : Totals) (s : State L) (p : Name) (t : State L) : Type 0 where
   pub cs : List (Change L)
   pub makes : Makes limits s p cs
   pub to : t ≡ after cs s
 
-pub made_of : {L : Language} {limits : Totals} (s : State L) (p : Name) (t : State L) → step limits s p ≡ Some t → Quiet t → Made limits s p t
+pub made_of : {L : Language} {limits : Totals} (s : State L) (p : Name) (t : State L) → step limits s p ≡ Some t
+    → Quiet t → Made limits s p t
 made_of {L} {limits} s p t e quiet = by_own (working s p) refl e
   where
-    by_acts : (own : L.Own) → working s p ≡ Some own → (a : ActOf L) → L.next own s.store ≡ a → (x : Outcome L) → acts s p a ≡ x → (f : Option Fault) → passed limits s.totals (cost a) ≡ f → Some (result_of s p (unless f x)) ≡ Some t → Made limits s p t
-    by_acts own w a is x e (Some f) g h = let k : (Some (p, f)) ≡ t.fault = ap (λ (z : State L). z.fault) (same_Some _ _ h) in absurd (none-some _ (sym (k ∙ quiet)))
-    by_acts own w a is (Faulty f) e None g h = let k : (Some (p, f)) ≡ t.fault = ap (λ (z : State L). z.fault) (same_Some _ _ h) in absurd (none-some _ (sym (k ∙ quiet)))
+    by_acts : (own : L.Own) → working s p ≡ Some own → (a : ActOf L) → L.next own s.store ≡ a → (x : Outcome L)
+        → acts s p a ≡ x → (f : Option Fault) → passed limits s.totals (cost a) ≡ f
+        → Some (result_of s p (unless f x)) ≡ Some t → Made limits s p t
+    by_acts own w a is x e (Some f) g h = let k : (Some (p, f)) ≡ t.fault =
+        ap (λ (z : State L). z.fault) (same_Some _ _ h) in absurd (none-some _ (sym (k ∙ quiet)))
+    by_acts own w a is (Faulty f) e None g h = let k : (Some (p, f)) ≡ t.fault =
+        ap (λ (z : State L). z.fault) (same_Some _ _ h) in absurd (none-some _ (sym (k ∙ quiet)))
     by_acts own w a is (Advances cs) e None g h = record {
       cs = cs;
-      makes = record { own = own; works = w; within = subst (λ z. passed limits s.totals (cost z) ≡ None) (sym is) g; does = subst (λ z. acts s p z ≡ Advances cs) (sym is) e };
+      makes = record {
+        own = own;
+        works = w;
+        within = subst (λ z. passed limits s.totals (cost z) ≡ None) (sym is) g;
+        does = subst (λ z. acts s p z ≡ Advances cs) (sym is) e;
+      };
       to = sym (same_Some _ _ h);
     }
 
     by_own : (o : Option L.Own) → working s p ≡ o → step_with limits s p o ≡ Some t → Made limits s p t
     by_own None w h = absurd (none-some _ h)
-    by_own (Some own) w h = by_acts own w (L.next own s.store) refl (acts s p (L.next own s.store)) refl (passed limits s.totals (cost (L.next own s.store))) refl h
+    by_own (Some own) w h = by_acts own w (L.next own s.store) refl (acts s p (L.next own s.store)) refl
+        (passed limits s.totals (cost (L.next own s.store))) refl h
 
-can_step : {L : Language} (limits : Totals) (s : State L) (p : Name) (t : State L) → step limits s p ≡ Some t → (own : L.Own) × (working s p ≡ Some own)
+can_step : {L : Language} (limits : Totals) (s : State L) (p : Name) (t : State L) → step limits s p ≡ Some t
+    → (own : L.Own) × (working s p ≡ Some own)
 can_step {L} limits s p t e = by_own (working s p) refl e
   where
-    by_own : (o : Option L.Own) → working s p ≡ o → step_with limits s p o ≡ Some t → (own : L.Own) × (working s p ≡ Some own)
+    by_own : (o : Option L.Own) → working s p ≡ o → step_with limits s p o ≡ Some t → (own : L.Own)
+        × (working s p ≡ Some own)
     by_own None w h = absurd (none-some _ h)
     by_own (Some own) w h = (own, w)
 
@@ -81,8 +102,16 @@ pub writer : {L : Language} (s : State L) (p : Name) (own : L.Own) (l : L.Loc) �
 writer {L} s p own l h = by_act (L.next own s.store) refl h
   where
     by_act : (a : ActOf L) → L.next own s.store ≡ a → WritesTo s a l → Writer s p own l
-    by_act (Moves o ws) e h = record { who = p; writes = inl (refl, subst (λ a. Assigns a l) (sym e) h); part = inl refl }
-    by_act (Opens o ws) e h = record { who = p; writes = inl (refl, subst (λ a. Assigns a l) (sym e) h); part = inl refl }
+    by_act (Moves o ws) e h = record {
+      who = p;
+      writes = inl (refl, subst (λ a. Assigns a l) (sym e) h);
+      part = inl refl;
+    }
+    by_act (Opens o ws) e h = record {
+      who = p;
+      writes = inl (refl, subst (λ a. Assigns a l) (sym e) h);
+      part = inl refl;
+    }
     by_act (Forks o os) e h = absurd h
     by_act Ends e h = absurd h
     by_act (Fails f) e h = absurd h
@@ -114,20 +143,29 @@ part_alone {L} s sound p own a who w h = ⊎_elim
     (λ (x : (c : Channel) × IsOn a c × (s.pending c ≡ Some who)). inr (x.0, sound.waits x.0 who x.2))
     h
 
-parts_apart : {L : Language} (s : State L) (sound : Sound s) (p q : Name) (own other : L.Own) (a b : ActOf L) (x y : Name) → p ≢ q → working s p ≡ Some own → working s q ≡ Some other → ((c : Channel) → IsOn a c → IsOn b c → ⊥) → TakesPart s p a x → TakesPart s q b y → x ≢ y
+parts_apart : {L : Language} (s : State L) (sound : Sound s) (p q : Name) (own other : L.Own) (a b : ActOf L)
+    (x y : Name) → p ≢ q → working s p ≡ Some own → working s q ≡ Some other → ((c : Channel) → IsOn a c → IsOn b c → ⊥)
+    → TakesPart s p a x → TakesPart s q b y → x ≢ y
 parts_apart {L} s sound p q own other a b x y apart wp wq off h k e = ⊎_elim
     (λ (xp : x ≡ p). ⊎_elim
     (λ (yq : y ≡ q). apart (sym xp ∙ e ∙ yq))
-    (λ (z : (c : Channel) × IsOn b c × (s.pending c ≡ Some y)). waits_stands z.0 (s.condition y) (sound.waits z.0 y z.2) (subst (λ r. Stands (s.condition r)) (sym xp ∙ e) (working_stands s.condition p (s.condition p) own wp)))
+    (λ (z : (c : Channel) × IsOn b c × (s.pending c ≡ Some y)). waits_stands z.0 (s.condition y) (sound.waits z.0 y z.2)
+    (subst (λ r. Stands (s.condition r)) (sym xp ∙ e) (working_stands s.condition p (s.condition p) own wp)))
     k)
     (λ (z : (c : Channel) × IsOn a c × (s.pending c ≡ Some x)). ⊎_elim
-    (λ (yq : y ≡ q). waits_stands z.0 (s.condition x) (sound.waits z.0 x z.2) (subst (λ r. Stands (s.condition r)) (sym yq ∙ sym e) (working_stands s.condition q (s.condition q) other wq)))
-    (λ (v : (c : Channel) × IsOn b c × (s.pending c ≡ Some y)). off z.0 z.1 (subst (IsOn b) (waits_one v.0 z.0 (s.condition x) (subst (λ r. WaitsOn v.0 (s.condition r)) (sym e) (sound.waits v.0 y v.2)) (sound.waits z.0 x z.2)) v.1))
+    (λ (yq : y ≡ q). waits_stands z.0 (s.condition x) (sound.waits z.0 x z.2)
+    (subst (λ r. Stands (s.condition r)) (sym yq ∙ sym e) (working_stands s.condition q (s.condition q) other wq)))
+    (λ (v : (c : Channel) × IsOn b c × (s.pending c ≡ Some y)). off z.0 z.1
+    (subst (IsOn b) (waits_one v.0 z.0 (s.condition x)
+    (subst (λ r. WaitsOn v.0 (s.condition r)) (sym e) (sound.waits v.0 y v.2)) (sound.waits z.0 x z.2)) v.1))
     k)
     h
 
-clash_or_off : (L : Language) (a b : ActOf L) → ((o : OfferOf L) × (r : OfferOf L) × (a ≡ Offering o) × (b ≡ Offering r) × (o.channel ≡ r.channel)) ⊎ ((c : Channel) → IsOn a c → IsOn b c → ⊥)
-clash_or_off L (Offering o) (Offering r) = ⊎_elim (λ (e : o.channel ≡ r.channel). inl (o, r, refl, refl, e)) (λ (n : o.channel ≢ r.channel). inr (λ c h k. n (h ∙ sym k))) (same_or_not channel_test o.channel r.channel)
+clash_or_off : (L : Language) (a b : ActOf L)
+    → ((o : OfferOf L) × (r : OfferOf L) × (a ≡ Offering o) × (b ≡ Offering r) × (o.channel ≡ r.channel))
+    ⊎ ((c : Channel) → IsOn a c → IsOn b c → ⊥)
+clash_or_off L (Offering o) (Offering r) = ⊎_elim (λ (e : o.channel ≡ r.channel). inl (o, r, refl, refl, e))
+    (λ (n : o.channel ≢ r.channel). inr (λ c h k. n (h ∙ sym k))) (same_or_not channel_test o.channel r.channel)
 clash_or_off L (Offering o) (Moves x y) = inr (λ c h k. k)
 clash_or_off L (Offering o) (Opens x y) = inr (λ c h k. k)
 clash_or_off L (Offering o) (Forks x y) = inr (λ c h k. k)
@@ -140,7 +178,9 @@ clash_or_off L Ends b = inr (λ c h k. h)
 clash_or_off L (Fails f) b = inr (λ c h k. h)
 
 -- the order condition of a step goes by what is recorded on its channel and what its process knows
-knows_same : (L : Language) (t s : Notes) (q : Name) (b : ActOf L) → ((c : Channel) (v : Way) (e : Event) → IsOn b c → s.offers c v e ≡ true → t.offers c v e ≡ true) → t.past q ≡ s.past q → KnowsBefore L t q b → KnowsBefore L s q b
+knows_same : (L : Language) (t s : Notes) (q : Name) (b : ActOf L)
+    → ((c : Channel) (v : Way) (e : Event) → IsOn b c → s.offers c v e ≡ true → t.offers c v e ≡ true)
+    → t.past q ≡ s.past q → KnowsBefore L t q b → KnowsBefore L s q b
 knows_same L t s q (Offering o) h p k = λ e x. ap (λ f. f e) (sym p) ∙ k e (h o.channel (way_of o.cargo) e refl x)
 knows_same L t s q (Moves x y) h p k = tt
 knows_same L t s q (Opens x y) h p k = tt
@@ -149,18 +189,25 @@ knows_same L t s q Ends h p k = tt
 knows_same L t s q (Fails f) h p k = tt
 
 -- what p's step leaves of q's notes: q steps by an act that is on another channel
-module _ {L : Language} {limits : Totals} (s : State L) (n : Notes) (p : Name) (cs : List (Change L)) (sound : Sound s) (does : Makes limits s p cs) where
+module _ {L : Language} {limits : Totals} (s : State L) (n : Notes) (p : Name) (cs : List (Change L)) (sound : Sound s)
+    (does : Makes limits s p cs) where
   abbrev ns : List Note
   ns = notes_of s n p (L.next does.own s.store)
 
   pub events_kept : (q : Name) (own : L.Own) → q ≢ p → working s q ≡ Some own → (all_noted ns n).events q ≡ n.events q
-  events_kept q own apart w = events_frame s p (L.next does.own s.store) q (far s p cs sound does q apart (working_stands s.condition q (s.condition q) own w)) ns n (notes_in s n p (L.next does.own s.store))
+  events_kept q own apart w = events_frame s p (L.next does.own s.store) q
+      (far s p cs sound does q apart (working_stands s.condition q (s.condition q) own w)) ns n
+      (notes_in s n p (L.next does.own s.store))
 
   pub past_kept : (q : Name) (own : L.Own) → q ≢ p → working s q ≡ Some own → (all_noted ns n).past q ≡ n.past q
-  past_kept q own apart w = past_frame s p (L.next does.own s.store) q (far s p cs sound does q apart (working_stands s.condition q (s.condition q) own w)) (working_no_parent s p cs sound does q own w) ns n (notes_in s n p (L.next does.own s.store))
+  past_kept q own apart w = past_frame s p (L.next does.own s.store) q
+      (far s p cs sound does q apart (working_stands s.condition q (s.condition q) own w))
+      (working_no_parent s p cs sound does q own w) ns n (notes_in s n p (L.next does.own s.store))
 
   -- the notes of q's act are the same before p's step and after it
-  pub notes_kept : (q : Name) (own : L.Own) (b : ActOf L) → q ≢ p → working s q ≡ Some own → ((c : Channel) → IsOn (L.next does.own s.store) c → IsOn b c → ⊥) → notes_of (after cs s) (all_noted ns n) q b ≡ notes_of s n q b
+  pub notes_kept : (q : Name) (own : L.Own) (b : ActOf L) → q ≢ p → working s q ≡ Some own
+      → ((c : Channel) → IsOn (L.next does.own s.store) c → IsOn b c → ⊥)
+      → notes_of (after cs s) (all_noted ns n) q b ≡ notes_of s n q b
   notes_kept q own b apart w off =
       let a = L.next does.own s.store in
       let i = all_in s p a cs does.does in
@@ -171,14 +218,18 @@ module _ {L : Language} {limits : Totals} (s : State L) (n : Notes) (p : Name) (
       (λ c on. pending_frame s p a c (λ h. off c h on) cs s i)
       (λ z h.
       let k = on_partner s p cs sound does b z h in
-      let g = waiting_far s p cs sound does k.0 z k.2 (λ on. off k.0 on k.1) in
-      (events_frame s p a z g ns n (notes_in s n p a), past_frame s p a z g (waiting_no_parent s p cs sound does k.0 z k.2) ns n (notes_in s n p a)))
+      let g = waiting_far s p cs sound does k.0 z k.2 (λ on. off k.0 on k.1) in (
+        events_frame s p a z g ns n (notes_in s n p a),
+        past_frame s p a z g (waiting_no_parent s p cs sound does k.0 z k.2) ns n (notes_in s n p a),
+      ))
     where
-      forks_at : (q : Name) → q ≢ p → (cs : List (Change L)) → AllIn s p (L.next does.own s.store) cs → (after cs s).forks q ≡ s.forks q
+      forks_at : (q : Name) → q ≢ p → (cs : List (Change L)) → AllIn s p (L.next does.own s.store) cs
+          → (after cs s).forks q ≡ s.forks q
       forks_at q apart cs i = forks_frame s p (L.next does.own s.store) q apart cs s i
 
 -- A good step: made in a state that a schedule comes to, by these changes, without a fault and in order
-pub record GoodStep {L : Language} (limits : Totals) (origin : State L) (j : WithNotes L) (p : Name) (k : WithNotes L) : Type 0 where
+pub record GoodStep {L : Language} (limits : Totals) (origin : State L) (j : WithNotes L) (p : Name) (k : WithNotes L) :
+    Type 0 where
   pub way : List Name
   pub leads : Leads (processes L limits) origin way j.state
   pub sound : Sound j.state
@@ -192,111 +243,186 @@ pub record GoodStep {L : Language} (limits : Totals) (origin : State L) (j : Wit
 
 pub quiet_after : {L : Language} {limits : Totals} (s : State L) (p : Name) (cs : List (Change L)) → Makes limits s p cs
     → Quiet s → Quiet (after cs s)
-quiet_after {L} s p cs m q = fault_frame s p (L.next m.own s.store) cs s (all_in s p (L.next m.own s.store) cs m.does) ∙ q
+quiet_after {L} s p cs m q = fault_frame s p (L.next m.own s.store) cs s (all_in s p (L.next m.own s.store) cs m.does)
+    ∙ q
 
-module _ {L : Language} (limits : Totals) (laws : Laws L) (origin : State L) (disjoint : IsDisjoint L limits origin) where
+module _ {L : Language} (limits : Totals) (laws : Laws L) (origin : State L)
+    (disjoint : IsDisjoint L limits origin) where
   -- what p writes in s, q does not access in the state after; and what q writes there, p does not access in s
-  module _ (s : State L) (p q : Name) (cs ds : List (Change L)) (way : List Name) (leads : Leads (processes L limits) origin way s) (sound : Sound s) (quiet : Quiet s) (one : Makes limits s p cs) (two : Makes limits (after cs s) q ds) (apart : p ≢ q) (w : working s q ≡ Some two.own) (off : (c : Channel) → IsOn (L.next one.own s.store) c → IsOn (L.next two.own (after cs s).store) c → ⊥) where
+  module _ (s : State L) (p q : Name) (cs ds : List (Change L)) (way : List Name)
+      (leads : Leads (processes L limits) origin way s) (sound : Sound s) (quiet : Quiet s) (one : Makes limits s p cs)
+      (two : Makes limits (after cs s) q ds) (apart : p ≢ q) (w : working s q ≡ Some two.own)
+      (off : (c : Channel) → IsOn (L.next one.own s.store) c → IsOn (L.next two.own (after cs s).store) c → ⊥) where
     full : Leads (processes L limits) origin (way ++ p ∷ q ∷ []) (after ds (after cs s))
-    full = leads_on limits way (p ∷ q ∷ []) origin s (after ds (after cs s)) leads (after cs s, quiet, steps s p cs one, (after ds (after cs s), quiet_after s p cs one quiet, steps (after cs s) q ds two, refl))
+    full = leads_on limits way (p ∷ q ∷ []) origin s (after ds (after cs s)) leads (
+      after cs s,
+      quiet,
+      steps s p cs one,
+      (after ds (after cs s), quiet_after s p cs one quiet, steps (after cs s) q ds two, refl),
+    )
 
     at_p : (it : State L → Name → L.Own → Type 0) → it s p one.own → Happens limits it origin (way ++ p ∷ q ∷ [])
     at_p it h = happens_later limits it way (p ∷ q ∷ []) origin s leads (inl (one.own, one.works, h))
 
-    at_q : (it : State L → Name → L.Own → Type 0) → it (after cs s) q two.own → Happens limits it origin (way ++ p ∷ q ∷ [])
-    at_q it h = happens_later limits it way (p ∷ q ∷ []) origin s leads (inr (after cs s, steps s p cs one, inl (two.own, two.works, h)))
+    at_q : (it : State L → Name → L.Own → Type 0) → it (after cs s) q two.own
+        → Happens limits it origin (way ++ p ∷ q ∷ [])
+    at_q it h = happens_later limits it way (p ∷ q ∷ []) origin s leads
+        (inr (after cs s, steps s p cs one, inl (two.own, two.works, h)))
 
-    part_back : (who : Name) → TakesPart (after cs s) q (L.next two.own (after cs s).store) who → TakesPart s q (L.next two.own (after cs s).store) who
+    part_back : (who : Name) → TakesPart (after cs s) q (L.next two.own (after cs s).store) who
+        → TakesPart s q (L.next two.own (after cs s).store) who
     part_back who h = ⊎_elim (λ (e : who ≡ q). inl e)
         (λ (x : (c : Channel) × IsOn (L.next two.own (after cs s).store) c × ((after cs s).pending c ≡ Some who)).
-        inr (x.0, x.1, sym (pending_frame s p (L.next one.own s.store) x.0 (λ on. off x.0 on x.1) cs s (all_in s p (L.next one.own s.store) cs one.does)) ∙ x.2)) h
+        inr (
+          x.0,
+          x.1,
+          sym (pending_frame s p (L.next one.own s.store) x.0 (λ on. off x.0 on x.1) cs s
+              (all_in s p (L.next one.own s.store) cs one.does)) ∙ x.2,
+        )) h
 
-    two_parallel : (x y : Name) → TakesPart s p (L.next one.own s.store) x → TakesPart s q (L.next two.own (after cs s).store) y → AreParallel x y
-    two_parallel x y h k = parallel s x y sound (part_alone s sound p one.own (L.next one.own s.store) x one.works h) (part_alone s sound q two.own (L.next two.own (after cs s).store) y w k)
-        (parts_apart s sound p q one.own two.own (L.next one.own s.store) (L.next two.own (after cs s).store) x y apart one.works w off h k)
+    two_parallel : (x y : Name) → TakesPart s p (L.next one.own s.store) x
+        → TakesPart s q (L.next two.own (after cs s).store) y → AreParallel x y
+    two_parallel x y h k = parallel s x y sound (part_alone s sound p one.own (L.next one.own s.store) x one.works h)
+        (part_alone s sound q two.own (L.next two.own (after cs s).store) y w k)
+        (parts_apart s sound p q one.own two.own (L.next one.own s.store) (L.next two.own (after cs s).store) x y apart
+        one.works w off h k)
 
     flip : (x y : Name) → AreParallel x y → AreParallel y x
-    flip x y h = record { common = h.common; fork = h.fork; one = h.other; other = h.one; apart = λ e. h.apart (sym e); after_one = h.after_other; after_other = h.after_one; a_is = h.b_is; b_is = h.a_is }
+    flip x y h = record {
+      common = h.common;
+      fork = h.fork;
+      one = h.other;
+      other = h.one;
+      apart = λ e. h.apart (sym e);
+      after_one = h.after_other;
+      after_other = h.after_one;
+      a_is = h.b_is;
+      b_is = h.a_is;
+    }
 
     free_one : (l : L.Loc) → WritesTo s (L.next one.own s.store) l → Touches (after cs s) two.own l → ⊥
     free_one l h k =
         let x = writer s p one.own l h in
         let y = accessor (after cs s) q two.own l k in
-        disjoint (way ++ p ∷ q ∷ []) (after ds (after cs s)) full x.who y.who (two_parallel x.who y.who x.part (part_back y.who y.part)) l (at_p _ x.writes) (at_q _ y.accesses)
+        disjoint (way ++ p ∷ q ∷ []) (after ds (after cs s)) full x.who y.who
+        (two_parallel x.who y.who x.part (part_back y.who y.part)) l (at_p _ x.writes) (at_q _ y.accesses)
 
     free_two : (l : L.Loc) → WritesTo (after cs s) (L.next two.own (after cs s).store) l → Touches s one.own l → ⊥
     free_two l h k =
         let x = accessor s p one.own l k in
         let y = writer (after cs s) q two.own l h in
-        disjoint (way ++ p ∷ q ∷ []) (after ds (after cs s)) full y.who x.who (flip x.who y.who (two_parallel x.who y.who x.part (part_back y.who y.part))) l (at_q _ y.writes) (at_p _ x.accesses)
+        disjoint (way ++ p ∷ q ∷ []) (after ds (after cs s)) full y.who x.who
+        (flip x.who y.who (two_parallel x.who y.who x.part (part_back y.who y.part))) l (at_q _ y.writes)
+        (at_p _ x.accesses)
 
   -- the exchange of two good steps
-  exchanged : (s : State L) (n : Notes) (p q : Name) (cs ds : List (Change L)) (way : List Name) → Leads (processes L limits) origin way s → (sound : Sound s) → IsKnowledge n → Quiet s → (one : Makes limits s p cs) → (two : Makes limits (after cs s) q ds) → p ≢ q → (w : working s q ≡ Some two.own)
-      → KnowsBefore L n p (L.next one.own s.store) → KnowsBefore L (notes_after s n p (L.next one.own s.store)) q (L.next two.own (after cs s).store)
-      → ExchangedTo limits s n p q (L.next one.own s.store) (L.next two.own (after cs s).store) (after ds (after cs s)) (notes_after (after cs s) (notes_after s n p (L.next one.own s.store)) q (L.next two.own (after cs s).store))
+  exchanged : (s : State L) (n : Notes) (p q : Name) (cs ds : List (Change L)) (way : List Name)
+      → Leads (processes L limits) origin way s → (sound : Sound s) → IsKnowledge n → Quiet s
+      → (one : Makes limits s p cs) → (two : Makes limits (after cs s) q ds) → p ≢ q → (w : working s q ≡ Some two.own)
+      → KnowsBefore L n p (L.next one.own s.store)
+      → KnowsBefore L (notes_after s n p (L.next one.own s.store)) q (L.next two.own (after cs s).store)
+      → ExchangedTo limits s n p q (L.next one.own s.store) (L.next two.own (after cs s).store) (after ds (after cs s))
+      (notes_after (after cs s) (notes_after s n p (L.next one.own s.store)) q (L.next two.own (after cs s).store))
   exchanged s n p q cs ds way leads sound known quiet one two apart w kp kq = ⊎_elim
-      (λ (h : (o : OfferOf L) × (r : OfferOf L) × (L.next one.own s.store ≡ Offering o) × (L.next two.own (after cs s).store ≡ Offering r) × (o.channel ≡ r.channel)).
+      (λ (h : (o : OfferOf L) × (r : OfferOf L) × (L.next one.own s.store ≡ Offering o)
+      × (L.next two.own (after cs s).store ≡ Offering r) × (o.channel ≡ r.channel)).
       let o = h.0 in
       let r = h.1 in
       let does : acts s p (Offering o) ≡ Advances cs = subst (λ x. acts s p x ≡ Advances cs) h.2 one.does in
-      elim (s.pending o.channel) as (λ m. s.pending o.channel ≡ m → ExchangedTo limits s n p q (L.next one.own s.store) (L.next two.own (after cs s).store) (after ds (after cs s)) (notes_after (after cs s) (notes_after s n p (L.next one.own s.store)) q (L.next two.own (after cs s).store))) [
-        | Some z ↦ λ pe. absurd (met_first s n p q cs sound known one two.own o r z h.2 h.4 (λ e. apart (sym e)) w pe (subst (λ x. KnowsBefore L (notes_after s n p (L.next one.own s.store)) q x) h.3 kq))
-        | None ↦ λ pe. waited_first s n p q cs ds sound one two o r h.2 h.3 h.4 (λ e. apart (sym e)) w pe kp kq (waited s p o cs pe does)
+      elim (s.pending o.channel) as (λ m. s.pending o.channel ≡ m
+      → ExchangedTo limits s n p q (L.next one.own s.store) (L.next two.own (after cs s).store)
+      (after ds (after cs s)) (notes_after (after cs s) (notes_after s n p (L.next one.own s.store)) q
+      (L.next two.own (after cs s).store))) [
+        | Some z ↦ λ pe. absurd (met_first s n p q cs sound known one two.own o r z h.2 h.4 (λ e. apart (sym e)) w pe
+            (subst (λ x. KnowsBefore L (notes_after s n p (L.next one.own s.store)) q x) h.3 kq))
+        | None ↦ λ pe. waited_first s n p q cs ds sound one two o r h.2 h.3 h.4 (λ e. apart (sym e)) w pe kp kq
+            (waited s p o cs pe does)
       ] refl)
       (λ (off : (c : Channel) → IsOn (L.next one.own s.store) c → IsOn (L.next two.own (after cs s).store) c → ⊥).
-      let x = exchange laws s p q cs ds two.own sound one two (λ e. apart (sym e)) w off (free_one s p q cs ds way leads sound quiet one two apart w off) (free_two s p q cs ds way leads sound quiet one two apart w off) in
+      let x = exchange laws s p q cs ds two.own sound one two (λ e. apart (sym e)) w off
+      (free_one s p q cs ds way leads sound quiet one two apart w off)
+      (free_two s p q cs ds way leads sound quiet one two apart w off) in
       let a = L.next one.own s.store in
       let b = L.next two.own (after cs s).store in
       let c = L.next x.first.own s.store in
       let off' : (d : Channel) → IsOn c d → IsOn a d → ⊥ = λ d h k. off d k (subst (λ z. IsOn z d) x.first_act h) in
       let ns = notes_of s n p a in
       let ms = notes_of s n q b in
-      let later : notes_of (after cs s) (all_noted ns n) q b ≡ ms = notes_kept s n p cs sound one q two.own b (λ e. apart (sym e)) w off in
-      let earlier : notes_of (after ds s) (all_noted (notes_of s n q c) n) p a ≡ ns = notes_kept s n q ds sound x.first p one.own a apart one.works off' in
+      let later : notes_of (after cs s) (all_noted ns n) q b ≡ ms =
+      notes_kept s n p cs sound one q two.own b (λ e. apart (sym e)) w off in
+      let earlier : notes_of (after ds s) (all_noted (notes_of s n q c) n) p a ≡ ns =
+      notes_kept s n q ds sound x.first p one.own a apart one.works off' in
       let first_ms : notes_of s n q c ≡ ms = ap (notes_of s n q) x.first_act in
-      let then_ns : notes_of (after ds s) (all_noted ms n) p a ≡ ns = subst (λ z. notes_of (after ds s) (all_noted z n) p a ≡ ns) first_ms earlier in
+      let then_ns : notes_of (after ds s) (all_noted ms n) p a ≡ ns =
+      subst (λ z. notes_of (after ds s) (all_noted z n) p a ≡ ns) first_ms earlier in
       record {
         ds = ds;
         first = x.first;
         first_act = x.first_act;
-        knows_first = knows_same L (all_noted ns n) n q b (λ d v e on h. offers_grow ns n d v e h) (past_kept s n p cs sound one q two.own (λ e. apart (sym e)) w) kq;
+        knows_first = knows_same L (all_noted ns n) n q b (λ d v e on h. offers_grow ns n d v e h)
+            (past_kept s n p cs sound one q two.own (λ e. apart (sym e)) w) kq;
         cs = cs;
         second = x.second;
         second_act = x.second_act;
         knows_second = knows_same L n (all_noted ms n) p a
             (λ d v e on h. ap (λ f. f e) (sym (offers_frame s q b d v (λ k. off d on k) ms n (notes_in s n q b))) ∙ h)
-            (sym (ap (λ z. (all_noted z n).past p) (sym first_ms) ∙ past_kept s n q ds sound x.first p one.own apart one.works)) kp;
+            (sym (ap (λ z. (all_noted z n).past p) (sym first_ms)
+            ∙ past_kept s n q ds sound x.first p one.own apart one.works)) kp;
         same = x.same;
-        same_notes = ap (λ z. all_noted z (all_noted ns n)) later ∙ all_notes_swap ns ms n ∙ ap (λ z. all_noted z (all_noted ms n)) (sym then_ns);
+        same_notes = ap (λ z. all_noted z (all_noted ns n)) later ∙ all_notes_swap ns ms n
+            ∙ ap (λ z. all_noted z (all_noted ms n)) (sym then_ns);
       })
       (clash_or_off L (L.next one.own s.store) (L.next two.own (after cs s).store))
     where
-      waited_first : (s : State L) (n : Notes) (p q : Name) (cs ds : List (Change L)) → Sound s → (one : Makes limits s p cs) → (two : Makes limits (after cs s) q ds) → (o r : OfferOf L) → L.next one.own s.store ≡ Offering o → L.next two.own (after cs s).store ≡ Offering r → o.channel ≡ r.channel → q ≢ p → working s q ≡ Some two.own → s.pending o.channel ≡ None → KnowsBefore L n p (L.next one.own s.store) → KnowsBefore L (notes_after s n p (L.next one.own s.store)) q (L.next two.own (after cs s).store) → cs ≡ waiting s p o
-          → ExchangedTo limits s n p q (L.next one.own s.store) (L.next two.own (after cs s).store) (after ds (after cs s)) (notes_after (after cs s) (notes_after s n p (L.next one.own s.store)) q (L.next two.own (after cs s).store))
+      waited_first : (s : State L) (n : Notes) (p q : Name) (cs ds : List (Change L)) → Sound s
+          → (one : Makes limits s p cs) → (two : Makes limits (after cs s) q ds) → (o r : OfferOf L)
+          → L.next one.own s.store ≡ Offering o → L.next two.own (after cs s).store ≡ Offering r → o.channel ≡ r.channel
+          → q ≢ p → working s q ≡ Some two.own → s.pending o.channel ≡ None → KnowsBefore L n p (L.next one.own s.store)
+          → KnowsBefore L (notes_after s n p (L.next one.own s.store)) q (L.next two.own (after cs s).store)
+          → cs ≡ waiting s p o
+          → ExchangedTo limits s n p q (L.next one.own s.store) (L.next two.own (after cs s).store)
+          (after ds (after cs s)) (notes_after (after cs s) (notes_after s n p (L.next one.own s.store)) q
+          (L.next two.own (after cs s).store))
       waited_first s n p q cs ds sound one two o r is1 is2 e apart w pe kp kq list =
           let n1 = notes_after s n p (Offering o) in
-          let there : (two : Makes limits (after cs s) q ds) → L.next two.own (after cs s).store ≡ Offering r → working s q ≡ Some two.own → KnowsBefore L n1 q (Offering r) → ExchangedTo limits s n p q (Offering o) (Offering r) (after ds (after cs s)) (notes_after (after cs s) n1 q (Offering r)) =
-          subst (λ es. (two : Makes limits (after es s) q ds) → L.next two.own (after es s).store ≡ Offering r → working s q ≡ Some two.own → KnowsBefore L n1 q (Offering r) → ExchangedTo limits s n p q (Offering o) (Offering r) (after ds (after es s)) (notes_after (after es s) n1 q (Offering r))) (sym list)
-          (λ two is2 w kq. waits_first s n p q ds sound one.own o r one.works is1 two is2 e apart w pe (subst (λ x. KnowsBefore L n p x) is1 kp) kq) in
-          let x = there two is2 w (subst (λ y. KnowsBefore L (notes_after s n p y) q (Offering r)) is1 (subst (λ y. KnowsBefore L (notes_after s n p (L.next one.own s.store)) q y) is2 kq)) in
-          subst (λ a. ExchangedTo limits s n p q a (L.next two.own (after cs s).store) (after ds (after cs s)) (notes_after (after cs s) (notes_after s n p a) q (L.next two.own (after cs s).store))) (sym is1)
-          (subst (λ b. ExchangedTo limits s n p q (Offering o) b (after ds (after cs s)) (notes_after (after cs s) n1 q b)) (sym is2) x)
+          let there : (two : Makes limits (after cs s) q ds) → L.next two.own (after cs s).store ≡ Offering r
+          → working s q ≡ Some two.own → KnowsBefore L n1 q (Offering r)
+          → ExchangedTo limits s n p q (Offering o) (Offering r) (after ds (after cs s))
+          (notes_after (after cs s) n1 q (Offering r)) =
+          subst (λ es. (two : Makes limits (after es s) q ds) → L.next two.own (after es s).store ≡ Offering r
+          → working s q ≡ Some two.own → KnowsBefore L n1 q (Offering r)
+          → ExchangedTo limits s n p q (Offering o) (Offering r) (after ds (after es s))
+          (notes_after (after es s) n1 q (Offering r))) (sym list)
+          (λ two is2 w kq. waits_first s n p q ds sound one.own o r one.works is1 two is2 e apart w pe
+          (subst (λ x. KnowsBefore L n p x) is1 kp) kq) in
+          let x = there two is2 w (subst (λ y. KnowsBefore L (notes_after s n p y) q (Offering r)) is1
+          (subst (λ y. KnowsBefore L (notes_after s n p (L.next one.own s.store)) q y) is2 kq)) in
+          subst (λ a. ExchangedTo limits s n p q a (L.next two.own (after cs s).store) (after ds (after cs s))
+          (notes_after (after cs s) (notes_after s n p a) q (L.next two.own (after cs s).store))) (sym is1)
+          (subst (λ b. ExchangedTo limits s n p q (Offering o) b (after ds (after cs s))
+          (notes_after (after cs s) n1 q b)) (sym is2) x)
 
   abbrev to_notes : State L → Notes → WithNotes L
   to_notes s n = record { state = s; notes = n }
 
   -- the step of a good step
-  made_step : (j : WithNotes L) (p : Name) (k : WithNotes L) → GoodStep limits origin j p k → noted_step limits j p ≡ Some k
+  made_step : (j : WithNotes L) (p : Name) (k : WithNotes L) → GoodStep limits origin j p k
+      → noted_step limits j p ≡ Some k
   made_step j p k g =
       let a = L.next g.makes.own j.state.store in
-      let out : outcome limits j.state p a ≡ Advances g.cs = ap (λ x. unless x (acts j.state p a)) g.makes.within ∙ g.makes.does in
-      ap (noted_with limits j p) g.makes.works ∙ (λ i. Some (to_notes (result_of j.state p (out i)) (notes_after j.state j.notes p a))) ∙ (λ i. Some (to_notes (sym g.to i) (sym g.noted i)))
+      let out : outcome limits j.state p a ≡ Advances g.cs = ap (λ x. unless x (acts j.state p a)) g.makes.within
+      ∙ g.makes.does in
+      ap (noted_with limits j p) g.makes.works
+      ∙ (λ i. Some (to_notes (result_of j.state p (out i)) (notes_after j.state j.notes p a)))
+      ∙ (λ i. Some (to_notes (sym g.to i) (sym g.noted i)))
 
   -- who can step
-  noted_can : (j : WithNotes L) (p : Name) (m : WithNotes L) → noted_step limits j p ≡ Some m → (own : L.Own) × (working j.state p ≡ Some own)
+  noted_can : (j : WithNotes L) (p : Name) (m : WithNotes L) → noted_step limits j p ≡ Some m → (own : L.Own)
+      × (working j.state p ≡ Some own)
   noted_can j p m e = by_own (working j.state p) refl e
     where
-      by_own : (o : Option L.Own) → working j.state p ≡ o → noted_with limits j p o ≡ Some m → (own : L.Own) × (working j.state p ≡ Some own)
+      by_own : (o : Option L.Own) → working j.state p ≡ o → noted_with limits j p o ≡ Some m → (own : L.Own)
+          × (working j.state p ≡ Some own)
       by_own None w h = absurd (none-some _ h)
       by_own (Some own) w h = (own, w)
 
@@ -372,7 +498,9 @@ module _ {L : Language} (limits : Totals) (laws : Laws L) (origin : State L) (di
   }
 
   -- an ordered run without a fault is one of good steps
-  good_run : (ps : List Name) (way : List Name) (s t : State L) (n : Notes) → Leads (processes L limits) origin way s → Sound s → IsKnowledge n → Leads (processes L limits) s ps t → Quiet t → IsOrderedRun limits s n ps → (m : Notes) × GoodRun good (to_notes s n) ps (to_notes t m)
+  good_run : (ps : List Name) (way : List Name) (s t : State L) (n : Notes) → Leads (processes L limits) origin way s
+      → Sound s → IsKnowledge n → Leads (processes L limits) s ps t → Quiet t → IsOrderedRun limits s n ps → (m : Notes)
+      × GoodRun good (to_notes s n) ps (to_notes t m)
   unfolding good
   good_run [] way s t n before sound known l q o = (n, λ i. to_notes (l i) n)
   good_run (p ∷ ps) way s t n before sound known l q o =
@@ -380,12 +508,25 @@ module _ {L : Language} (limits : Totals) (laws : Laws L) (origin : State L) (di
       let x = made_of s p l.0 l.2 quiet_m in
       let a = L.next x.makes.own s.store in
       let n1 = notes_after s n p a in
-      let next : Leads (processes L limits) origin (way ++ p ∷ []) l.0 = leads_on limits way (p ∷ []) origin s l.0 before (l.0, l.1, l.2, refl) in
-      let rest = good_run ps (way ++ p ∷ []) l.0 t n1 next (subst Sound (sym x.to) (sound_kept s p x.cs sound x.makes)) (known_kept n known s p a) l.3 q (o.1 x.makes.own l.0 x.makes.works l.2) in (
+      let next : Leads (processes L limits) origin (way ++ p ∷ []) l.0 =
+      leads_on limits way (p ∷ []) origin s l.0 before (l.0, l.1, l.2, refl) in
+      let rest = good_run ps (way ++ p ∷ []) l.0 t n1 next (subst Sound (sym x.to) (sound_kept s p x.cs sound x.makes))
+      (known_kept n known s p a) l.3 q (o.1 x.makes.own l.0 x.makes.works l.2) in (
         rest.0,
         (
           to_notes l.0 n1,
-          record { way = way; leads = before; sound = sound; known = known; quiet = l.1; cs = x.cs; makes = x.makes; to = x.to; noted = refl; knows = o.0 x.makes.own x.makes.works },
+          record {
+            way = way;
+            leads = before;
+            sound = sound;
+            known = known;
+            quiet = l.1;
+            cs = x.cs;
+            makes = x.makes;
+            to = x.to;
+            noted = refl;
+            knows = o.0 x.makes.own x.makes.works;
+          },
           rest.1,
         ),
       )
@@ -396,26 +537,47 @@ module _ {L : Language} (limits : Totals) (laws : Laws L) (origin : State L) (di
 
 -- Every schedule of the model is one with notes, and the other way round
 
-pub record Noted {L : Language} (limits : Totals) (s : State L) (n : Notes) (ps : List Name) (t : State L) : Type 0 where
+pub record Noted {L : Language} (limits : Totals) (s : State L) (n : Notes) (ps : List Name) (t : State L) : Type
+    0 where
   pub notes : Notes
-  pub leads : Leads (noted_processes L limits) (record { state = s; notes = n }) ps (record { state = t; notes = notes })
+  pub leads : Leads (noted_processes L limits) (record { state = s; notes = n }) ps
+      (record { state = t; notes = notes })
 
-pub noted_run : {L : Language} (limits : Totals) (ps : List Name) (s t : State L) (n : Notes) → Leads (processes L limits) s ps t → Noted limits s n ps t
+pub noted_run : {L : Language} (limits : Totals) (ps : List Name) (s t : State L) (n : Notes)
+    → Leads (processes L limits) s ps t → Noted limits s n ps t
 noted_run limits [] s t n l = record { notes = n; leads = λ i. record { state = l i; notes = n } }
 noted_run {L} limits (p ∷ ps) s t n l =
     let w = can_step limits s p l.0 l.2 in
     let n1 = notes_after s n p (L.next w.0 s.store) in
-    let is : result_of s p (outcome limits s p (L.next w.0 s.store)) ≡ l.0 = same_Some _ _ (sym (ap (step_with limits s p) w.1) ∙ l.2) in
+    let is : result_of s p (outcome limits s p (L.next w.0 s.store)) ≡ l.0 =
+    same_Some _ _ (sym (ap (step_with limits s p) w.1) ∙ l.2) in
     let r = noted_run limits ps l.0 t n1 l.3 in
-    record { notes = r.notes; leads = (record { state = l.0; notes = n1 }, l.1, ap (noted_with limits (record { state = s; notes = n }) p) w.1 ∙ (λ i. Some (record { state = is i; notes = n1 })), r.leads) }
+    record {
+      notes = r.notes;
+      leads = (
+        record { state = l.0; notes = n1 },
+        l.1,
+        ap (noted_with limits (record { state = s; notes = n }) p) w.1
+            ∙ (λ i. Some (record { state = is i; notes = n1 })),
+        r.leads,
+      );
+    }
 
-pub unnoted_run : {L : Language} (limits : Totals) (ps : List Name) (j k : WithNotes L) → Leads (noted_processes L limits) j ps k → Leads (processes L limits) j.state ps k.state
+pub unnoted_run : {L : Language} (limits : Totals) (ps : List Name) (j k : WithNotes L)
+    → Leads (noted_processes L limits) j ps k → Leads (processes L limits) j.state ps k.state
 unnoted_run limits [] j k l = ap (λ (z : WithNotes _). z.state) l
-unnoted_run {L} limits (p ∷ ps) j k l = (l.0.state, l.1, unnoted (working j.state p) refl l.2, unnoted_run limits ps l.0 k l.3)
+unnoted_run {L} limits (p ∷ ps) j k l = (
+  l.0.state,
+  l.1,
+  unnoted (working j.state p) refl l.2,
+  unnoted_run limits ps l.0 k l.3,
+)
   where
-    unnoted : (o : Option L.Own) → working j.state p ≡ o → noted_with limits j p o ≡ Some l.0 → step limits j.state p ≡ Some l.0.state
+    unnoted : (o : Option L.Own) → working j.state p ≡ o → noted_with limits j p o ≡ Some l.0
+        → step limits j.state p ≡ Some l.0.state
     unnoted None w h = absurd (none-some _ h)
-    unnoted (Some own) w h = ap (step_with limits j.state p) w ∙ ap (λ x. Some x) (ap (λ (z : WithNotes L). z.state) (same_Some _ _ h))
+    unnoted (Some own) w h = ap (step_with limits j.state p) w
+        ∙ ap (λ x. Some x) (ap (λ (z : WithNotes L). z.state) (same_Some _ _ h))
 
 pub knows_nothing : IsKnowledge no_notes
 knows_nothing q e h = absurd (false≢true h)
@@ -428,19 +590,31 @@ sound_opening L own store = record {
 }
 
 -- where one run is ordered, each schedule ends as it does
-pub confluence : (L : Language) (limits : Totals) (own : L.Own) (store : L.Loc → L.Value) → Laws L → IsDisjoint L limits (opening L own store)
-    → (ps : List Name) (t : State L) → Leads (processes L limits) (opening L own store) ps t → Quiet t → IsStuck (processes L limits) t → IsOrderedRun limits (opening L own store) no_notes ps
+pub confluence : (L : Language) (limits : Totals) (own : L.Own) (store : L.Loc → L.Value) → Laws L
+    → IsDisjoint L limits (opening L own store)
+    → (ps : List Name) (t : State L) → Leads (processes L limits) (opening L own store) ps t → Quiet t
+    → IsStuck (processes L limits) t → IsOrderedRun limits (opening L own store) no_notes ps
     → (qs : List Name) (u : State L) → Leads (processes L limits) (opening L own store) qs u
     → EndsAlike (processes L limits) (opening L own store) (length ps) t qs u
 confluence L limits own store laws disjoint ps t leads quiet stuck ordered qs u other =
     let origin = opening L own store in
     let g = good limits laws origin disjoint in
-    let run = good_run limits laws origin disjoint ps [] origin t no_notes refl (sound_opening L own store) knows_nothing leads quiet ordered in
+    let run = good_run limits laws origin disjoint ps [] origin t no_notes refl (sound_opening L own store)
+    knows_nothing leads quiet ordered in
     let o = noted_run limits qs origin u no_notes other in
-    let x = ends_alike g qs ps (record { state = origin; notes = no_notes }) (record { state = t; notes = run.0 }) (record { state = u; notes = o.notes }) refl run.1 (λ p. noted_stuck t run.0 p (stuck p)) o.leads in
-    record { bounded = x.bounded; quiet = x.quiet; rest = x.rest; full = x.full; goes_on = unnoted_run limits x.rest (record { state = u; notes = o.notes }) (record { state = t; notes = run.0 }) x.goes_on }
+    let x = ends_alike g qs ps (record { state = origin; notes = no_notes }) (record { state = t; notes = run.0 })
+    (record { state = u; notes = o.notes }) refl run.1 (λ p. noted_stuck t run.0 p (stuck p)) o.leads in
+    record {
+      bounded = x.bounded;
+      quiet = x.quiet;
+      rest = x.rest;
+      full = x.full;
+      goes_on = unnoted_run limits x.rest (record { state = u; notes = o.notes })
+          (record { state = t; notes = run.0 }) x.goes_on;
+    }
   where
-    noted_stuck : (t : State L) (n : Notes) (p : Name) → step limits t p ≡ None → noted_step limits (record { state = t; notes = n }) p ≡ None
+    noted_stuck : (t : State L) (n : Notes) (p : Name) → step limits t p ≡ None
+        → noted_step limits (record { state = t; notes = n }) p ≡ None
     noted_stuck t n p h = by (working t p) refl
       where
         by : (o : Option L.Own) → working t p ≡ o → noted_with limits (record { state = t; notes = n }) p o ≡ None

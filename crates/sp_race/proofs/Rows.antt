@@ -32,8 +32,10 @@ not_ordered es h o = let t = ordered_test es o in true≢false (sym t ∙ h)
 -- two senders and one that receives twice: the second sender does not know of the first rendezvous
 abbrev two_senders : List Occurrence
 two_senders =
-    by root Opened ∷ by root (Forked 3) ∷ by (child 0 0) (receives (nth 0)) ∷ by (child 0 1) (sends (nth 0)) ∷ by (child 0 2) (sends (nth 0))
-    ∷ by (child 0 0) (receives (nth 0)) ∷ by (child 0 1) Ended ∷ by (child 0 2) Ended ∷ by (child 0 0) Ended ∷ by root Ended ∷ []
+    by root Opened ∷ by root (Forked 3) ∷ by (child 0 0) (receives (nth 0)) ∷ by (child 0 1) (sends (nth 0))
+    ∷ by (child 0 2) (sends (nth 0))
+    ∷ by (child 0 0) (receives (nth 0)) ∷ by (child 0 1) Ended ∷ by (child 0 2) Ended ∷ by (child 0 0) Ended
+    ∷ by root Ended ∷ []
 
 pub two_senders_race : AreOrdered two_senders → ⊥
 two_senders_race = not_ordered two_senders refl
@@ -41,8 +43,10 @@ two_senders_race = not_ordered two_senders refl
 -- one sender and two receivers: the rendezvous are in order, and the second receiver does not know of the first
 abbrev two_receivers : List Occurrence
 two_receivers =
-    by root Opened ∷ by root (Forked 3) ∷ by (child 0 0) (sends (nth 0)) ∷ by (child 0 1) (receives (nth 0)) ∷ by (child 0 2) (receives (nth 0))
-    ∷ by (child 0 0) (sends (nth 0)) ∷ by (child 0 1) Ended ∷ by (child 0 2) Ended ∷ by (child 0 0) Ended ∷ by root Ended ∷ []
+    by root Opened ∷ by root (Forked 3) ∷ by (child 0 0) (sends (nth 0)) ∷ by (child 0 1) (receives (nth 0))
+    ∷ by (child 0 2) (receives (nth 0))
+    ∷ by (child 0 0) (sends (nth 0)) ∷ by (child 0 1) Ended ∷ by (child 0 2) Ended ∷ by (child 0 0) Ended
+    ∷ by root Ended ∷ []
 
 pub two_receivers_race : AreOrdered two_receivers → ⊥
 two_receivers_race = not_ordered two_receivers refl
@@ -50,8 +54,10 @@ two_receivers_race = not_ordered two_receivers refl
 -- one channel used twice, one after the other: the join orders the second use after the first
 abbrev used_twice : List Occurrence
 used_twice =
-    by root Opened ∷ by root (Forked 2) ∷ by (child 0 0) (sends (nth 0)) ∷ by (child 0 1) (receives (nth 0)) ∷ by (child 0 0) Ended ∷ by (child 0 1) Ended
-    ∷ by root (Forked 2) ∷ by (child 1 0) (sends (nth 0)) ∷ by (child 1 1) (receives (nth 0)) ∷ by (child 1 0) Ended ∷ by (child 1 1) Ended ∷ by root Ended ∷ []
+    by root Opened ∷ by root (Forked 2) ∷ by (child 0 0) (sends (nth 0)) ∷ by (child 0 1) (receives (nth 0))
+    ∷ by (child 0 0) Ended ∷ by (child 0 1) Ended
+    ∷ by root (Forked 2) ∷ by (child 1 0) (sends (nth 0)) ∷ by (child 1 1) (receives (nth 0)) ∷ by (child 1 0) Ended
+    ∷ by (child 1 1) Ended ∷ by root Ended ∷ []
 
 pub used_twice_ordered : AreOrdered used_twice
 used_twice_ordered = test_ordered used_twice refl
@@ -62,8 +68,10 @@ grandchild i = (0, i) ∷ (0, 1) ∷ []
 
 abbrev used_inside : List Occurrence
 used_inside =
-    by root Opened ∷ by root (Forked 2) ∷ by (child 0 0) (sends (nth 0)) ∷ by (child 0 1) (receives (nth 0)) ∷ by (child 0 0) Ended ∷ by (child 0 1) (Forked 2)
-    ∷ by (grandchild 0) (sends (nth 0)) ∷ by (grandchild 1) (receives (nth 0)) ∷ by (grandchild 0) Ended ∷ by (grandchild 1) Ended ∷ by (child 0 1) Ended ∷ by root Ended ∷ []
+    by root Opened ∷ by root (Forked 2) ∷ by (child 0 0) (sends (nth 0)) ∷ by (child 0 1) (receives (nth 0))
+    ∷ by (child 0 0) Ended ∷ by (child 0 1) (Forked 2)
+    ∷ by (grandchild 0) (sends (nth 0)) ∷ by (grandchild 1) (receives (nth 0)) ∷ by (grandchild 0) Ended
+    ∷ by (grandchild 1) Ended ∷ by (child 0 1) Ended ∷ by root Ended ∷ []
 
 pub used_inside_ordered : AreOrdered used_inside
 used_inside_ordered = test_ordered used_inside refl
@@ -71,8 +79,10 @@ used_inside_ordered = test_ordered used_inside refl
 -- a pipeline of one node
 abbrev pipeline : List Occurrence
 pipeline =
-    by root Opened ∷ by root Opened ∷ by root (Forked 3) ∷ by (child 0 0) (sends (nth 0)) ∷ by (child 0 1) (Forked 1) ∷ by (child 0 2) (receives (nth 1))
-    ∷ by (grandchild 0) (receives (nth 0)) ∷ by (child 0 0) Ended ∷ by (grandchild 0) (sends (nth 1)) ∷ by (child 0 2) Ended ∷ by (grandchild 0) Ended
+    by root Opened ∷ by root Opened ∷ by root (Forked 3) ∷ by (child 0 0) (sends (nth 0)) ∷ by (child 0 1) (Forked 1)
+    ∷ by (child 0 2) (receives (nth 1))
+    ∷ by (grandchild 0) (receives (nth 0)) ∷ by (child 0 0) Ended ∷ by (grandchild 0) (sends (nth 1))
+    ∷ by (child 0 2) Ended ∷ by (grandchild 0) Ended
     ∷ by (child 0 1) Ended ∷ by root Ended ∷ []
 
 pub pipeline_ordered : AreOrdered pipeline
@@ -87,9 +97,12 @@ up n = record { owner = child 0 0; nth = n }
 
 abbrev tree : List Occurrence
 tree =
-    by root Opened ∷ by root (Forked 2) ∷ by (child 0 0) Opened ∷ by (child 0 1) (receives (nth 0)) ∷ by (child 0 0) Opened ∷ by (child 0 0) (Forked 3)
-    ∷ by (leaf 0) (sends (up 0)) ∷ by (leaf 1) (sends (up 1)) ∷ by (leaf 2) (receives (up 0)) ∷ by (leaf 0) Ended ∷ by (leaf 2) (receives (up 1))
-    ∷ by (leaf 1) Ended ∷ by (leaf 2) (sends (nth 0)) ∷ by (child 0 1) Ended ∷ by (leaf 2) Ended ∷ by (child 0 0) Ended ∷ by root Ended ∷ []
+    by root Opened ∷ by root (Forked 2) ∷ by (child 0 0) Opened ∷ by (child 0 1) (receives (nth 0))
+    ∷ by (child 0 0) Opened ∷ by (child 0 0) (Forked 3)
+    ∷ by (leaf 0) (sends (up 0)) ∷ by (leaf 1) (sends (up 1)) ∷ by (leaf 2) (receives (up 0)) ∷ by (leaf 0) Ended
+    ∷ by (leaf 2) (receives (up 1))
+    ∷ by (leaf 1) Ended ∷ by (leaf 2) (sends (nth 0)) ∷ by (child 0 1) Ended ∷ by (leaf 2) Ended ∷ by (child 0 0) Ended
+    ∷ by root Ended ∷ []
 
 pub tree_ordered : AreOrdered tree
 tree_ordered = test_ordered tree refl

@@ -1,12 +1,14 @@
 -- The test of the order condition is right, both ways.
-use Rattle.std.proofs.Common.{◌≡◌, ℕ, suc, zero, ◌+◌, Bool, true, false, if◌then◌else◌, List, [], ◌∷◌, ◌++◌, length, slice_get, Option, Some, None, refl, sym, ap, ◌∙◌, subst, arith}
+use Rattle.std.proofs.Common.{◌≡◌, ℕ, suc, zero, ◌+◌, Bool, true, false, if◌then◌else◌, List, [], ◌∷◌, ◌++◌, length}
+use Rattle.std.proofs.Common.{slice_get, Option, Some, None, refl, sym, ap, ◌∙◌, subst, arith}
 use Rattle.std.proofs.Common.{add-zero, zero-add}
 use Rattle.std.proofs.lemmas.Bool.{and_from}
 use Rattle.std.proofs.lemmas.Option.{none-some, same_Some}
 use Rattle.sp_base.proofs.Facts.{first_true, is_none_plus, is_plus_none, next_goes_left, next_goes_right, second_true}
 use Rattle.sp_journal.specs.declared.entry.Way.{Way}
 use Rattle.sp_journal.specs.declared.entry.Way.TheVariants as way
-use Rattle.sp_journal.specs.Names.{Name, Channel, same_way, Happening, Opened, Forked, Offered, Ended, Faulted, Laid, Paused, Occurrence}
+use Rattle.sp_journal.specs.Names.{Name, Channel, same_way, Happening, Opened, Forked, Offered, Ended, Faulted, Laid}
+use Rattle.sp_journal.specs.Names.{Paused, Occurrence}
 use Rattle.sp_journal.specs.Past.{Judged, judged_by, nothing_judged, KnowsCompletions, CompletedFrom, AreOrdered}
 use Rattle.sp_meaning.proofs.Maps.{itself}
 use Rattle.sp_meaning.proofs.Keys.{channel_test}
@@ -28,21 +30,28 @@ known_is j p (Some m) h = (m, refl, h)
 
 -- from the test to the condition
 
-all_known : (j : Judged) (p : Name) (w : Way) (c : Channel) (k : ℕ) (es : List Occurrence) → knows_all j p w c k es ≡ true → (i : ℕ) (z : Name) → slice_get es i ≡ Some (record { who = z; what = Offered w c }) → (m : ℕ) × (j.completed (k + i) ≡ Some m) × (j.past p m ≡ true)
+all_known : (j : Judged) (p : Name) (w : Way) (c : Channel) (k : ℕ) (es : List Occurrence)
+    → knows_all j p w c k es ≡ true → (i : ℕ) (z : Name)
+    → slice_get es i ≡ Some (record { who = z; what = Offered w c }) → (m : ℕ) × (j.completed (k + i) ≡ Some m)
+    × (j.past p m ≡ true)
 all_known j p w c k [] h i z e = absurd (none-some _ e)
 all_known j p w c k (x ∷ es) h zero z e =
     let is : x.what ≡ Offered w c = ap (λ (y : Occurrence). y.what) (same_Some _ _ e) in
     let head : (if is_offer w c x.what then is_known j p (j.completed k) else true) ≡ true = first_true _ _ h in
-    let here : is_offer w c x.what ≡ true = ap (is_offer w c) is ∙ and_from _ _ (way_itself w) (itself channel_test c) in
-    let known : is_known j p (j.completed k) ≡ true = subst (λ b. (if b then is_known j p (j.completed k) else true) ≡ true) here head in
+    let here : is_offer w c x.what ≡ true = ap (is_offer w c) is
+    ∙ and_from _ _ (way_itself w) (itself channel_test c) in
+    let known : is_known j p (j.completed k) ≡ true =
+    subst (λ b. (if b then is_known j p (j.completed k) else true) ≡ true) here head in
     let m = known_is j p (j.completed k) known in
     (m.0, ap j.completed (add-zero k) ∙ m.1, m.2)
 all_known j p w c k (x ∷ es) h (suc i) z e =
     let m = all_known j p w c (suc k) es (second_true _ _ h) i z e in
     (m.0, ap j.completed (next_goes_left k i) ∙ m.1, m.2)
 
-in_order : (j : Judged) (done : List Occurrence) (p : Name) (h : Happening) → is_in_order j done p h ≡ true → KnowsCompletions j done p h
-in_order j done p (Offered w c) t = λ i z e. let m = all_known j p w c 0 done t i z e in (m.0, ap j.completed (is_none_plus i) ∙ m.1, m.2)
+in_order : (j : Judged) (done : List Occurrence) (p : Name) (h : Happening) → is_in_order j done p h ≡ true
+    → KnowsCompletions j done p h
+in_order j done p (Offered w c) t = λ i z e. let m = all_known j p w c 0 done t i z e in
+    (m.0, ap j.completed (is_none_plus i) ∙ m.1, m.2)
 in_order j done p Opened t = tt
 in_order j done p (Forked k) t = tt
 in_order j done p Ended t = tt
@@ -52,7 +61,10 @@ in_order j done p Paused t = tt
 
 completed_from : (j : Judged) (done es : List Occurrence) → order_from j done es ≡ true → CompletedFrom j done es
 completed_from j done [] h = tt
-completed_from j done (e ∷ es) h = (in_order j done e.who e.what (first_true _ _ h), completed_from (judged_by j (length done) e.who e.what) (done ++ e ∷ []) es (second_true _ _ h))
+completed_from j done (e ∷ es) h = (
+  in_order j done e.who e.what (first_true _ _ h),
+  completed_from (judged_by j (length done) e.who e.what) (done ++ e ∷ []) es (second_true _ _ h),
+)
 
 pub test_ordered : (es : List Occurrence) → order_test es ≡ true → AreOrdered es
 test_ordered es h = completed_from nothing_judged [] es h
@@ -67,7 +79,8 @@ if_true true x h = h refl
 if_true false x h = refl
 
 offer_is : (w : Way) (c : Channel) (h : Happening) → is_offer w c h ≡ true → h ≡ Offered w c
-offer_is w c (Offered v d) h = λ i. Offered (sym (way_is w v (first_true _ _ h)) i) (sym ((channel_test c d).0 (second_true _ _ h)) i)
+offer_is w c (Offered v d) h = λ i. Offered (sym (way_is w v (first_true _ _ h)) i)
+    (sym ((channel_test c d).0 (second_true _ _ h)) i)
 offer_is w c Opened h = absurd (cc h)
 offer_is w c (Forked k) h = absurd (cc h)
 offer_is w c Ended h = absurd (cc h)
@@ -75,15 +88,21 @@ offer_is w c (Faulted f) h = absurd (cc h)
 offer_is w c Laid h = absurd (cc h)
 offer_is w c Paused h = absurd (cc h)
 
-known_all : (j : Judged) (p : Name) (w : Way) (c : Channel) (k : ℕ) (es : List Occurrence) → ((i : ℕ) (z : Name) → slice_get es i ≡ Some (record { who = z; what = Offered w c }) → (m : ℕ) × (j.completed (k + i) ≡ Some m) × (j.past p m ≡ true)) → knows_all j p w c k es ≡ true
+known_all : (j : Judged) (p : Name) (w : Way) (c : Channel) (k : ℕ) (es : List Occurrence)
+    → ((i : ℕ) (z : Name) → slice_get es i ≡ Some (record { who = z; what = Offered w c }) → (m : ℕ)
+    × (j.completed (k + i) ≡ Some m) × (j.past p m ≡ true)) → knows_all j p w c k es ≡ true
 known_all j p w c k [] h = refl
 known_all j p w c k (x ∷ es) h = and_from _ _
     (if_true (is_offer w c x.what) (is_known j p (j.completed k)) (λ e.
-    let m = h 0 x.who (λ i. Some (record { who = x.who; what = offer_is w c x.what e i })) in knows_offer j p (j.completed k) m.0 (ap j.completed (is_plus_none k) ∙ m.1) m.2))
-    (known_all j p w c (suc k) es (λ i z e. let m = h (suc i) z e in (m.0, ap j.completed (next_goes_right k i) ∙ m.1, m.2)))
+    let m = h 0 x.who (λ i. Some (record { who = x.who; what = offer_is w c x.what e i })) in
+    knows_offer j p (j.completed k) m.0 (ap j.completed (is_plus_none k) ∙ m.1) m.2))
+    (known_all j p w c (suc k) es (λ i z e. let m = h (suc i) z e in
+    (m.0, ap j.completed (next_goes_right k i) ∙ m.1, m.2)))
 
-order_in : (j : Judged) (done : List Occurrence) (p : Name) (h : Happening) → KnowsCompletions j done p h → is_in_order j done p h ≡ true
-order_in j done p (Offered w c) t = known_all j p w c 0 done (λ i z e. let m = t i z e in (m.0, ap j.completed (zero-add i) ∙ m.1, m.2))
+order_in : (j : Judged) (done : List Occurrence) (p : Name) (h : Happening) → KnowsCompletions j done p h
+    → is_in_order j done p h ≡ true
+order_in j done p (Offered w c) t = known_all j p w c 0 done
+    (λ i z e. let m = t i z e in (m.0, ap j.completed (zero-add i) ∙ m.1, m.2))
 order_in j done p Opened t = refl
 order_in j done p (Forked k) t = refl
 order_in j done p Ended t = refl
@@ -93,7 +112,8 @@ order_in j done p Paused t = refl
 
 from_completed : (j : Judged) (done es : List Occurrence) → CompletedFrom j done es → order_from j done es ≡ true
 from_completed j done [] h = refl
-from_completed j done (e ∷ es) h = and_from _ _ (order_in j done e.who e.what h.0) (from_completed (judged_by j (length done) e.who e.what) (done ++ e ∷ []) es h.1)
+from_completed j done (e ∷ es) h = and_from _ _ (order_in j done e.who e.what h.0)
+    (from_completed (judged_by j (length done) e.who e.what) (done ++ e ∷ []) es h.1)
 
 pub ordered_test : (es : List Occurrence) → AreOrdered es → order_test es ≡ true
 ordered_test es h = from_completed nothing_judged [] es h

@@ -1,5 +1,6 @@
 -- Along an ordered journal goes an ordered schedule, so each schedule ends as it does.
-use Rattle.std.proofs.Common.{◌≡◌, ◌⊎◌, ⊎_elim, ℕ, zero, suc, ◌+◌, Bool, true, false, List, [], ◌∷◌, ◌++◌, length, Option, Some, None, refl, sym, ap, ◌∙◌, subst, arith}
+use Rattle.std.proofs.Common.{◌≡◌, ◌⊎◌, ⊎_elim, ℕ, zero, suc, ◌+◌, Bool, true, false, List, [], ◌∷◌, ◌++◌, length}
+use Rattle.std.proofs.Common.{Option, Some, None, refl, sym, ap, ◌∙◌, subst, arith}
 use Rattle.std.proofs.lemmas.Bool.{false≢true}
 use Rattle.std.proofs.lemmas.Option.{none-some, same_Some}
 use Rattle.sp_base.specs.declared.fault.Fault.{Fault}
@@ -11,7 +12,8 @@ use Rattle.sp_meaning.specs.Own.{Setting, Process}
 use Rattle.sp_meaning.specs.SuperPascal.{superpascal, root, first_store}
 use Rattle.sp_meaning.specs.Entries.{Happening, Opened, Forked, Offered, Ended, Faulted, Laid, Paused, Occurrence}
 use Rattle.sp_meaning.specs.Runs.{StateOf, start, most, running, next, system_of, Lawful, said_of, says, IsDisjointRun}
-use Rattle.sp_meaning.specs.Along.{Either, due, Turn, Course, no_course, Kernel, Entered, Along, IsAlong, IsCleanly, IsClean}
+use Rattle.sp_meaning.specs.Along.{Either, due, Turn, Course, no_course, Kernel, Entered, Along, IsAlong, IsCleanly}
+use Rattle.sp_meaning.specs.Along.{IsClean}
 use Rattle.sp_meaning.specs.Ends.{IsDone, IsIdle}
 use Rattle.sp_meaning.proofs.Status.{Makes}
 use Rattle.sp_meaning.proofs.Kept.{sound_kept}
@@ -26,7 +28,8 @@ use Rattle.sp_race.specs.Linked.{Linked}
 use Rattle.sp_race.proofs.NotesFrames.{known_kept}
 use Rattle.sp_race.proofs.GoodSteps.{made_of, sound_opening, knows_nothing, confluence}
 use Rattle.sp_race.proofs.Linking.{known_linked}
-use Rattle.sp_race.proofs.LinkedSteps.{opens_linked, forks_linked, ends_linked, moves_linked, offers_linked, pause_linked}
+use Rattle.sp_race.proofs.LinkedSteps.{opens_linked, forks_linked, ends_linked, moves_linked, offers_linked}
+use Rattle.sp_race.proofs.LinkedSteps.{pause_linked}
 use Rattle.sp_race.proofs.Completion.{ordered_known}
 
 module _ (g : Setting) where
@@ -69,27 +72,38 @@ module _ (g : Setting) where
 
   pub next_at : (s : StateOf g) (v : Notes) (j : Judged) (done : List Occurrence) (n : ℕ) (label : ℕ → Option Event)
       (q : Name) (own : Process) (m : StateOf g) → At s v j done n label → (x : Stepped s q own m)
-      → (j1 : Judged) (done1 : List Occurrence) (n1 : ℕ) (label1 : ℕ → Option Event) → Linked (after x.cs s) (notes_after s v q ((superpascal g).next x.one.own s.store)) j1 done1 n1 label1
+      → (j1 : Judged) (done1 : List Occurrence) (n1 : ℕ) (label1 : ℕ → Option Event)
+      → Linked (after x.cs s) (notes_after s v q ((superpascal g).next x.one.own s.store)) j1 done1 n1 label1
       → At m (notes_after s v q ((superpascal g).next own s.store)) j1 done1 n1 label1
   next_at s v j done n label q own m at x j1 done1 n1 label1 l =
-      let notes_are : notes_after s v q ((superpascal g).next x.one.own s.store) ≡ notes_after s v q ((superpascal g).next own s.store) = ap (λ z. notes_after s v q ((superpascal g).next z s.store)) x.same in
+      let notes_are : notes_after s v q ((superpascal g).next x.one.own s.store)
+      ≡ notes_after s v q ((superpascal g).next own s.store) =
+      ap (λ z. notes_after s v q ((superpascal g).next z s.store)) x.same in
       record {
-        linked = subst (λ (z : StateOf g). Linked z (notes_after s v q ((superpascal g).next own s.store)) j1 done1 n1 label1) (sym x.to) (subst (λ z. Linked (after x.cs s) z j1 done1 n1 label1) notes_are l);
+        linked = subst (λ (z : StateOf g). Linked z (notes_after s v q ((superpascal g).next own s.store)) j1 done1 n1
+            label1) (sym x.to) (subst (λ z. Linked (after x.cs s) z j1 done1 n1 label1) notes_are l);
         sound = subst (λ (z : StateOf g). Sound z) (sym x.to) (sound_kept s q x.cs at.sound x.one);
         known = known_kept v at.known s q ((superpascal g).next own s.store);
         quiet = x.quiet;
       }
 
   -- one ordered step in front
-  first : (s : StateOf g) (v : Notes) (q : Name) (own : Process) (m : StateOf g) (n : ℕ) (t : StateOf g) → s.fault ≡ None → running g s q ≡ Some own → next g s q ≡ Some m → KnowsBefore (superpascal g) v q ((superpascal g).next own s.store) → Goes m (notes_after s v q ((superpascal g).next own s.store)) n t → Goes s v (suc n) t
+  first : (s : StateOf g) (v : Notes) (q : Name) (own : Process) (m : StateOf g) (n : ℕ) (t : StateOf g)
+      → s.fault ≡ None → running g s q ≡ Some own → next g s q ≡ Some m
+      → KnowsBefore (superpascal g) v q ((superpascal g).next own s.store)
+      → Goes m (notes_after s v q ((superpascal g).next own s.store)) n t → Goes s v (suc n) t
   first s v q own m n t quiet run st knows go = record {
     names = q ∷ go.names;
     size = ap suc go.size;
     leads = (m, quiet, st, go.leads);
     still = go.still;
     ordered = (
-      λ o w. subst (λ z. KnowsBefore (superpascal g) v q ((superpascal g).next z s.store)) (same_Some _ _ (sym run ∙ w)) knows,
-      λ o k w e. subst (λ z. IsOrderedRun (most g) k (notes_after s v q ((superpascal g).next z s.store)) go.names) (same_Some _ _ (sym run ∙ w)) (subst (λ (z : StateOf g). IsOrderedRun (most g) z (notes_after s v q ((superpascal g).next own s.store)) go.names) (same_Some _ _ (sym st ∙ e)) go.ordered),
+      λ o w. subst (λ z. KnowsBefore (superpascal g) v q ((superpascal g).next z s.store)) (same_Some _ _ (sym run ∙ w))
+          knows,
+      λ o k w e. subst (λ z. IsOrderedRun (most g) k (notes_after s v q ((superpascal g).next z s.store)) go.names)
+          (same_Some _ _ (sym run ∙ w)) (subst
+          (λ (z : StateOf g). IsOrderedRun (most g) z (notes_after s v q ((superpascal g).next own s.store)) go.names)
+          (same_Some _ _ (sym st ∙ e)) go.ordered),
     );
   }
 
@@ -106,7 +120,8 @@ module _ (g : Setting) where
       faulty_does : {L : Language} {f : Fault} {cs : List (Change L)} → ◌≡◌ {A = Outcome L} (Faulty f) (Advances cs) → ⊥
       faulty_does e = cc
 
-      by : (a : ActOf (superpascal g)) → (superpascal g).next x.one.own s.store ≡ a → said_of a (Advances x.cs) ≡ None → IsMove s x.one.own
+      by : (a : ActOf (superpascal g)) → (superpascal g).next x.one.own s.store ≡ a → said_of a (Advances x.cs) ≡ None
+          → IsMove s x.one.own
       by (Moves o ws) e h = record { next_own = o; writes = ws; is = e }
       by (Opens o ws) e h = absurd (none-some _ (sym h))
       by (Forks o os) e h = absurd (none-some _ (sym h))
@@ -119,10 +134,13 @@ module _ (g : Setting) where
   moves_know s own v q h = subst (λ a. KnowsBefore (superpascal g) v q a) (sym h.is) tt
 
   -- k local steps in front
-  turned : (turn since : ℕ) (q : Name) (k : ℕ) (s m : StateOf g) (paused : Bool) (r : ℕ) (t : StateOf g) (v : Notes) (j : Judged) (done : List Occurrence) (n : ℕ) (label : ℕ → Option Event)
-      → Turn g turn since q k s m paused → At s v j done n label → ((w : Notes) → At m w j done n label → Goes m w r t) → Goes s v (k + r) t
+  turned : (turn since : ℕ) (q : Name) (k : ℕ) (s m : StateOf g) (paused : Bool) (r : ℕ) (t : StateOf g) (v : Notes)
+      (j : Judged) (done : List Occurrence) (n : ℕ) (label : ℕ → Option Event)
+      → Turn g turn since q k s m paused → At s v j done n label → ((w : Notes) → At m w j done n label → Goes m w r t)
+      → Goes s v (k + r) t
   turned turn since q zero s m paused r t v j done n label h at go =
-      subst (λ z. Goes s v z t) zero_add (subst (λ z. Goes z v r t) h.0 (go v (subst (λ z. At z v j done n label) (sym h.0) at)))
+      subst (λ z. Goes s v z t) zero_add (subst (λ z. Goes z v r t) h.0
+      (go v (subst (λ z. At z v j done n label) (sym h.0) at)))
     where
       zero_add : r ≡ 0 + r
       zero_add = omega arith
@@ -131,16 +149,24 @@ module _ (g : Setting) where
       let u = h.3 in
       let x = stepped s q own u h.1 h.4 (quiet_step g s q own u None h.1 h.2 tt h.4 at.quiet) in
       let mv = local_moves s q own u x h.2 in
-      let at1 = next_at s v j done n label q own u at x j done n label (moves_linked s v q x.cs at.sound at.known x.one j done n label at.linked mv.next_own mv.writes mv.is) in
-      let knows = subst (λ z. KnowsBefore (superpascal g) v q ((superpascal g).next z s.store)) x.same (moves_know s x.one.own v q mv) in
+      let at1 = next_at s v j done n label q own u at x j done n label
+      (moves_linked s v q x.cs at.sound at.known x.one j done n label at.linked mv.next_own mv.writes mv.is) in
+      let knows = subst (λ z. KnowsBefore (superpascal g) v q ((superpascal g).next z s.store)) x.same
+      (moves_know s x.one.own v q mv) in
       subst (λ z. Goes s v z t) suc_add (first s v q own u (k + r) t at.quiet h.1 h.4 knows
-      (rest (notes_after s v q ((superpascal g).next own s.store)) u (due g turn since s own q u) h.5 at1 (λ y a. turned turn since q k u m paused r t (notes_after s v q ((superpascal g).next own s.store)) j done n label y a go)))
+      (rest (notes_after s v q ((superpascal g).next own s.store)) u (due g turn since s own q u) h.5 at1
+      (λ y a. turned turn since q k u m paused r t (notes_after s v q ((superpascal g).next own s.store)) j done n
+      label y a go)))
     where
       suc_add : suc (k + r) ≡ suc k + r
       suc_add = omega arith
 
-      rest : (w : Notes) (u : StateOf g) (b : Bool) → Either b ((k ≡ 0) × (m ≡ u) × (paused ≡ true)) (Turn g turn since q k u m paused) → At u w j done n label → (Turn g turn since q k u m paused → At u w j done n label → Goes u w (k + r) t) → Goes u w (k + r) t
-      rest w u true y a later = subst (λ z. Goes u w (z + r) t) (sym y.0) (subst (λ z. Goes u w z t) zero_add (subst (λ z. Goes z w r t) y.1 (go w (subst (λ z. At z w j done n label) (sym y.1) a))))
+      rest : (w : Notes) (u : StateOf g) (b : Bool)
+          → Either b ((k ≡ 0) × (m ≡ u) × (paused ≡ true)) (Turn g turn since q k u m paused) → At u w j done n label
+          → (Turn g turn since q k u m paused → At u w j done n label → Goes u w (k + r) t) → Goes u w (k + r) t
+      rest w u true y a later = subst (λ z. Goes u w (z + r) t) (sym y.0)
+          (subst (λ z. Goes u w z t) zero_add
+          (subst (λ z. Goes z w r t) y.1 (go w (subst (λ z. At z w j done n label) (sym y.1) a))))
         where
           zero_add : r ≡ 0 + r
           zero_add = omega arith
@@ -150,69 +176,113 @@ module _ (g : Setting) where
   abbrev With : List Occurrence → Name → Happening → List Occurrence
   With done q w = done ++ record { who = q; what = w } ∷ []
 
-  record Enters_at (s : StateOf g) (v : Notes) (q : Name) (own : Process) (m : StateOf g) (j : Judged) (done : List Occurrence) (n : ℕ) : Type 0 where
+  record Enters_at (s : StateOf g) (v : Notes) (q : Name) (own : Process) (m : StateOf g) (j : Judged)
+      (done : List Occurrence) (n : ℕ) : Type 0 where
     label : ℕ → Option Event
     at : At m (notes_after s v q ((superpascal g).next own s.store)) j done n label
     knows : KnowsBefore (superpascal g) v q ((superpascal g).next own s.store)
 
   -- a kernel step keeps the link, and is ordered where its entry is
-  enters : (s : StateOf g) (v : Notes) (q : Name) (own : Process) (m : StateOf g) (j : Judged) (done : List Occurrence) (n : ℕ) (label : ℕ → Option Event) (w : Happening) → At s v j done n label → (x : Stepped s q own m) → says g s q own ≡ Some w → KnowsOffers j done q w → Enters_at s v q own m (judged_by j n q w) (With done q w) (suc n)
-  enters s v q own m j done n label w at x is knows = by ((superpascal g).next x.one.own s.store) refl w (sym (said s q own m x) ∙ is) knows
+  enters : (s : StateOf g) (v : Notes) (q : Name) (own : Process) (m : StateOf g) (j : Judged) (done : List Occurrence)
+      (n : ℕ) (label : ℕ → Option Event) (w : Happening) → At s v j done n label → (x : Stepped s q own m)
+      → says g s q own ≡ Some w → KnowsOffers j done q w
+      → Enters_at s v q own m (judged_by j n q w) (With done q w) (suc n)
+  enters s v q own m j done n label w at x is knows =
+      by ((superpascal g).next x.one.own s.store) refl w (sym (said s q own m x) ∙ is) knows
     where
       L : Language
       L = superpascal g
 
-      put : (w : Happening) (lb : ℕ → Option Event) → Linked (after x.cs s) (notes_after s v q ((superpascal g).next x.one.own s.store)) (judged_by j n q w) (With done q w) (suc n) lb → KnowsBefore (superpascal g) v q ((superpascal g).next x.one.own s.store) → Enters_at s v q own m (judged_by j n q w) (With done q w) (suc n)
+      put : (w : Happening) (lb : ℕ → Option Event)
+          → Linked (after x.cs s) (notes_after s v q ((superpascal g).next x.one.own s.store)) (judged_by j n q w)
+          (With done q w) (suc n) lb → KnowsBefore (superpascal g) v q ((superpascal g).next x.one.own s.store)
+          → Enters_at s v q own m (judged_by j n q w) (With done q w) (suc n)
       put w lb l k = record {
         label = lb;
         at = next_at s v j done n label q own m at x (judged_by j n q w) (With done q w) (suc n) lb l;
         knows = subst (λ z. KnowsBefore (superpascal g) v q ((superpascal g).next z s.store)) x.same k;
       }
 
-      by : (a : ActOf (superpascal g)) → (superpascal g).next x.one.own s.store ≡ a → (w : Happening) → said_of a (Advances x.cs) ≡ Some w → KnowsOffers j done q w → Enters_at s v q own m (judged_by j n q w) (With done q w) (suc n)
+      by : (a : ActOf (superpascal g)) → (superpascal g).next x.one.own s.store ≡ a → (w : Happening)
+          → said_of a (Advances x.cs) ≡ Some w → KnowsOffers j done q w
+          → Enters_at s v q own m (judged_by j n q w) (With done q w) (suc n)
       by (Moves o ws) e w h k = absurd (none-some _ h)
       by (Fails f) e w h k = absurd (none-some _ h)
-      by (Opens o ws) e w h k = subst (λ z. Enters_at s v q own m (judged_by j n q z) (With done q z) (suc n)) (same_Some _ _ h)
-          (put Opened _ (opens_linked s v q x.cs at.sound at.known x.one j done n label at.linked o ws e) (subst (λ a. KnowsBefore (superpascal g) v q a) (sym e) tt))
-      by (Forks o os) e w h k = subst (λ z. Enters_at s v q own m (judged_by j n q z) (With done q z) (suc n)) (same_Some _ _ h)
-          (put (Forked (length os)) _ (forks_linked s v q x.cs at.sound at.known x.one j done n label at.linked o os e) (subst (λ a. KnowsBefore (superpascal g) v q a) (sym e) tt))
+      by (Opens o ws) e w h k = subst (λ z. Enters_at s v q own m (judged_by j n q z) (With done q z) (suc n))
+          (same_Some _ _ h)
+          (put Opened _ (opens_linked s v q x.cs at.sound at.known x.one j done n label at.linked o ws e)
+          (subst (λ a. KnowsBefore (superpascal g) v q a) (sym e) tt))
+      by (Forks o os) e w h k = subst (λ z. Enters_at s v q own m (judged_by j n q z) (With done q z) (suc n))
+          (same_Some _ _ h)
+          (put (Forked (length os)) _ (forks_linked s v q x.cs at.sound at.known x.one j done n label at.linked o os e)
+          (subst (λ a. KnowsBefore (superpascal g) v q a) (sym e) tt))
       by (Offering o) e w h k =
-          let k' : KnowsOffers j done q (Offered (way_of o.cargo) o.channel) = subst (KnowsOffers j done q) (sym (same_Some _ _ h)) k in
+          let k' : KnowsOffers j done q (Offered (way_of o.cargo) o.channel) =
+          subst (KnowsOffers j done q) (sym (same_Some _ _ h)) k in
           subst (λ z. Enters_at s v q own m (judged_by j n q z) (With done q z) (suc n)) (same_Some _ _ h)
-          (put (Offered (way_of o.cargo) o.channel) _ (offers_linked s v q x.cs at.sound at.known x.one j done n label at.linked o e)
+          (put (Offered (way_of o.cargo) o.channel) _
+          (offers_linked s v q x.cs at.sound at.known x.one j done n label at.linked o e)
           (subst (λ a. KnowsBefore (superpascal g) v q a) (sym e) (known_linked s v j done n label q o at.linked k')))
       by Ends e w h k = subst (λ z. Enters_at s v q own m (judged_by j n q z) (With done q z) (suc n)) (same_Some _ _ h)
-          (put Ended _ (ends_linked s v q x.cs at.sound at.known x.one j done n label at.linked e) (subst (λ a. KnowsBefore (superpascal g) v q a) (sym e) tt))
+          (put Ended _ (ends_linked s v q x.cs at.sound at.known x.one j done n label at.linked e)
+          (subst (λ a. KnowsBefore (superpascal g) v q a) (sym e) tt))
 
   abbrev Goes_on : (Course → StateOf g → ℕ → Type 0) → StateOf g → Judged → List Occurrence → ℕ → Type 0
-  Goes_on left t j done n = (c1 : Course) (u : StateOf g) (r : ℕ) → left c1 u r → (w : Notes) (label : ℕ → Option Event) → At u w j done n label → Goes u w r t
+  Goes_on left t j done n = (c1 : Course) (u : StateOf g) (r : ℕ) → left c1 u r → (w : Notes) (label : ℕ → Option Event)
+      → At u w j done n label → Goes u w r t
 
-  kernel_goes : (left : Course → StateOf g → ℕ → Type 0) (c : Course) (m : StateOf g) (paused : Bool) (q : Name) (w : Happening) (r : ℕ) (t : StateOf g) (v : Notes) (j : Judged) (done : List Occurrence) (n : ℕ) (label : ℕ → Option Event) → IsCleanly w → Kernel g left c m paused q w r
-      → At m v j done n label → KnowsOffers j done q w → Goes_on left t (judged_by j n q w) (With done q w) (suc n) → Goes m v r t
+  kernel_goes : (left : Course → StateOf g → ℕ → Type 0) (c : Course) (m : StateOf g) (paused : Bool) (q : Name)
+      (w : Happening) (r : ℕ) (t : StateOf g) (v : Notes) (j : Judged) (done : List Occurrence) (n : ℕ)
+      (label : ℕ → Option Event) → IsCleanly w → Kernel g left c m paused q w r
+      → At m v j done n label → KnowsOffers j done q w → Goes_on left t (judged_by j n q w) (With done q w) (suc n)
+      → Goes m v r t
   kernel_goes left c m paused q w r t v j done n label ok h at knows go =
       let own = h.5.0 in
       let u = h.2 in
       let x = stepped m q own u h.5.1 h.5.3 (quiet_step g m q own u (Some w) h.5.1 h.5.2 ok h.5.3 at.quiet) in
       let y = enters m v q own u j done n label w at x h.5.2 knows in
-      subst (λ z. Goes m v z t) (sym h.4) (first m v q own u h.3 t at.quiet h.5.1 h.5.3 y.knows (go _ u h.3 h.6 (notes_after m v q ((superpascal g).next own m.store)) y.label y.at))
+      subst (λ z. Goes m v z t) (sym h.4) (first m v q own u h.3 t at.quiet h.5.1 h.5.3 y.knows
+      (go _ u h.3 h.6 (notes_after m v q ((superpascal g).next own m.store)) y.label y.at))
 
-  entered_goes : (left : Course → StateOf g → ℕ → Type 0) (c : Course) (m : StateOf g) (paused : Bool) (q : Name) (w : Happening) (r : ℕ) (t : StateOf g) (v : Notes) (j : Judged) (done : List Occurrence) (n : ℕ) (label : ℕ → Option Event) → IsCleanly w → Entered g left c m paused q w r
-      → At m v j done n label → KnowsOffers j done q w → Goes_on left t (judged_by j n q w) (With done q w) (suc n) → Goes m v r t
-  entered_goes left c m paused q Opened r t v j done n label ok h at k go = kernel_goes left c m paused q Opened r t v j done n label ok h at k go
-  entered_goes left c m paused q (Forked i) r t v j done n label ok h at k go = kernel_goes left c m paused q (Forked i) r t v j done n label ok h at k go
-  entered_goes left c m paused q (Offered w ch) r t v j done n label ok h at k go = kernel_goes left c m paused q (Offered w ch) r t v j done n label ok h at k go
-  entered_goes left c m paused q Ended r t v j done n label ok h at k go = kernel_goes left c m paused q Ended r t v j done n label ok h at k go
+  entered_goes : (left : Course → StateOf g → ℕ → Type 0) (c : Course) (m : StateOf g) (paused : Bool) (q : Name)
+      (w : Happening) (r : ℕ) (t : StateOf g) (v : Notes) (j : Judged) (done : List Occurrence) (n : ℕ)
+      (label : ℕ → Option Event) → IsCleanly w → Entered g left c m paused q w r
+      → At m v j done n label → KnowsOffers j done q w → Goes_on left t (judged_by j n q w) (With done q w) (suc n)
+      → Goes m v r t
+  entered_goes left c m paused q Opened r t v j done n label ok h at k go =
+      kernel_goes left c m paused q Opened r t v j done n label ok h at k go
+  entered_goes left c m paused q (Forked i) r t v j done n label ok h at k go =
+      kernel_goes left c m paused q (Forked i) r t v j done n label ok h at k go
+  entered_goes left c m paused q (Offered w ch) r t v j done n label ok h at k go =
+      kernel_goes left c m paused q (Offered w ch) r t v j done n label ok h at k go
+  entered_goes left c m paused q Ended r t v j done n label ok h at k go =
+      kernel_goes left c m paused q Ended r t v j done n label ok h at k go
   entered_goes left c m paused q (Faulted i) r t v j done n label ok h at k go = absurd ok
   entered_goes left c m paused q Laid r t v j done n label ok h at k go = absurd ok
   entered_goes left c m paused q Paused r t v j done n label ok h at k go =
-      go _ m r h.2 v _ (record { linked = pause_linked m v j done n label q at.linked; sound = at.sound; known = at.known; quiet = at.quiet })
+      go _ m r h.2 v _ (record {
+        linked = pause_linked m v j done n label q at.linked;
+        sound = at.sound;
+        known = at.known;
+        quiet = at.quiet;
+      })
 
-  along_goes : (turn : ℕ) (es : List Occurrence) (c : Course) (s : StateOf g) (r : ℕ) (t : StateOf g) (v : Notes) (j : Judged) (done : List Occurrence) (n : ℕ) (label : ℕ → Option Event) → Along g turn c s es r t → IsClean es → At s v j done n label → KnownFrom j done es → Goes s v r t
-  along_goes turn [] c s r t v j done n label a clean at k = record { names = []; size = sym a.0; leads = a.1; still = ap (λ (z : StateOf g). z.fault) a.1 ∙ at.quiet; ordered = tt }
+  along_goes : (turn : ℕ) (es : List Occurrence) (c : Course) (s : StateOf g) (r : ℕ) (t : StateOf g) (v : Notes)
+      (j : Judged) (done : List Occurrence) (n : ℕ) (label : ℕ → Option Event) → Along g turn c s es r t → IsClean es
+      → At s v j done n label → KnownFrom j done es → Goes s v r t
+  along_goes turn [] c s r t v j done n label a clean at k =
+      record {
+        names = [];
+        size = sym a.0;
+        leads = a.1;
+        still = ap (λ (z : StateOf g). z.fault) a.1 ∙ at.quiet;
+        ordered = tt;
+      }
   along_goes turn (e ∷ es) c s r t v j done n label a clean at k =
       subst (λ z. Goes s v z t) (sym a.5) (turned turn (c.since e.who) e.who a.1 s a.3 a.4 a.2 t v j done n label a.6 at
       (λ w at1. entered_goes _ c a.3 a.4 e.who e.what a.2 t w j done n label clean.0 a.7 at1 k.0
-      (λ c1 u d b x lb at2. along_goes turn es c1 u d t x (judged_by j n e.who e.what) (With done e.who e.what) (suc n) lb b clean.1 at2
+      (λ c1 u d b x lb at2. along_goes turn es c1 u d t x (judged_by j n e.who e.what) (With done e.who e.what) (suc n)
+      lb b clean.1 at2
       (subst (λ z. KnownFrom (judged_by j z e.who e.what) (With done e.who e.what) es) at.linked.size k.1))))
 
   pub linked_start : Linked (start g) no_notes nothing_judged [] 0 (λ i. None)
@@ -229,11 +299,19 @@ module _ (g : Setting) where
   }
 
   -- a run that is done or idle, whose journal is ordered: each lawful schedule ends as it does
-  pub each_ends_alike : (turn : ℕ) (es : List Occurrence) (n : ℕ) (t : StateOf g) → IsDisjointRun g → IsAlong g turn es n t → IsClean es → IsDone g t ⊎ IsIdle g t → AreOrdered es
+  pub each_ends_alike : (turn : ℕ) (es : List Occurrence) (n : ℕ) (t : StateOf g) → IsDisjointRun g
+      → IsAlong g turn es n t → IsClean es → IsDone g t ⊎ IsIdle g t → AreOrdered es
       → (qs : List Name) (u : StateOf g) → Lawful g (start g) qs u → EndsAlike (system_of g) (start g) n t qs u
   each_ends_alike turn es n t disjoint along clean end ordered qs u other =
       let go = along_goes turn es no_course (start g) n t no_notes nothing_judged [] 0 (λ i. None) along clean
-      (record { linked = linked_start; sound = sound_opening (superpascal g) (root g) (first_store g); known = knows_nothing; quiet = refl }) (ordered_known es ordered) in
-      let idle : IsIdle g t = ⊎_elim (λ (d : IsDone g t). done_idle g t (go.names, go.leads) d) (λ (i : IsIdle g t). i) end in
+      (record {
+        linked = linked_start;
+        sound = sound_opening (superpascal g) (root g) (first_store g);
+        known = knows_nothing;
+        quiet = refl;
+      }) (ordered_known es ordered) in
+      let idle : IsIdle g t = ⊎_elim (λ (d : IsDone g t). done_idle g t (go.names, go.leads) d) (λ (i : IsIdle g t). i)
+      end in
       subst (λ k. EndsAlike (system_of g) (start g) k t qs u) go.size
-      (confluence (superpascal g) (most g) (root g) (first_store g) (superpascal_keeps g) disjoint go.names t go.leads go.still (λ p. ap (step_with (most g) t p) (idle p)) go.ordered qs u other)
+      (confluence (superpascal g) (most g) (root g) (first_store g) (superpascal_keeps g) disjoint go.names t go.leads
+      go.still (λ p. ap (step_with (most g) t p) (idle p)) go.ordered qs u other)

@@ -1,3 +1,4 @@
+-- None of this belongs to what the program promises: it is for contracts between crates.
 -- The order condition of a journal by the earlier offer's own index, in place of its completion's. A law of this crate
 -- says that it is the same, and the judge, which meets the offer first, goes by it.
 use Rattle.std.specs.Prelude.{◌≡◌, ℕ, true, List, [], ◌∷◌, ◌++◌, length, Some, slice_get}
@@ -6,7 +7,8 @@ use Rattle.sp_journal.specs.Past.{Judged, judged_by, nothing_judged}
 
 -- who offers knows the index of each earlier offer of this way on this channel
 abbrev pub KnowsOffers : Judged → List Occurrence → Name → Happening → Type 0
-KnowsOffers j done p (Offered w c) = (i : ℕ) (z : Name) → slice_get done i ≡ Some (record { who = z; what = Offered w c }) → j.past p i ≡ true
+KnowsOffers j done p (Offered w c) = (i : ℕ) (z : Name)
+    → slice_get done i ≡ Some (record { who = z; what = Offered w c }) → j.past p i ≡ true
 KnowsOffers j done p Opened = Unit {0}
 KnowsOffers j done p (Forked k) = Unit {0}
 KnowsOffers j done p Ended = Unit {0}
@@ -16,7 +18,8 @@ KnowsOffers j done p Paused = Unit {0}
 
 abbrev pub KnownFrom : Judged → List Occurrence → List Occurrence → Type 0
 KnownFrom j done [] = Unit {0}
-KnownFrom j done (e ∷ es) = KnowsOffers j done e.who e.what × KnownFrom (judged_by j (length done) e.who e.what) (done ++ e ∷ []) es
+KnownFrom j done (e ∷ es) = KnowsOffers j done e.who e.what
+    × KnownFrom (judged_by j (length done) e.who e.what) (done ++ e ∷ []) es
 
 -- of any two offers of one way on one channel, the later one's process knew the earlier one just before it offered
 abbrev pub AreKnown : List Occurrence → Type 0

@@ -1,3 +1,4 @@
+-- None of this belongs to what the program promises: it is for contracts between crates.
 -- How the pasts of a journal and the notes beside a run belong together: the induction along both keeps it. The proof
 -- that an ordered journal is that of an ordered run rests on it.
 use Rattle.std.specs.Prelude.{◌≡◌, ◌⊎◌, ℕ, ◌<◌, Bool, true, false, List, length, Option, Some, None, slice_get}
@@ -14,7 +15,8 @@ known_label f None = false
 known_label f (Some e) = f e
 
 -- the pending offer's entry
-pub record Pended {L : Language} (s : State L) (v : Notes) (j : Judged) (done : List Occurrence) (n : ℕ) (label : ℕ → Option Event) (c : Channel) (z : Name) (w : OfferOf L) : Type 0 where
+pub record Pended {L : Language} (s : State L) (v : Notes) (j : Judged) (done : List Occurrence) (n : ℕ)
+    (label : ℕ → Option Event) (c : Channel) (z : Name) (w : OfferOf L) : Type 0 where
   pub at : ℕ
   pub is : j.pending c ≡ Some (z, at)
   pub inside : at < n
@@ -22,7 +24,8 @@ pub record Pended {L : Language} (s : State L) (v : Notes) (j : Judged) (done : 
   pub entry : slice_get done at ≡ Some (record { who = z; what = Offered (way_of w.cargo) c })
 
 -- the entry of a completed offer
-pub record Recorded (done : List Occurrence) (n : ℕ) (label : ℕ → Option Event) (c : Channel) (w : Way) (e : Event) : Type 0 where
+pub record Recorded (done : List Occurrence) (n : ℕ) (label : ℕ → Option Event) (c : Channel) (w : Way) (e : Event) :
+    Type 0 where
   pub at : ℕ
   pub who : Name
   pub inside : at < n
@@ -32,12 +35,15 @@ pub record Recorded (done : List Occurrence) (n : ℕ) (label : ℕ → Option E
 abbrev pub IsPending : {L : Language} → State L → Notes → Event → Type 0
 IsPending s v e = (z : Name) × (c : Channel) × (s.pending c ≡ Some z) × (e ≡ mine v z)
 
--- what is judged of these n entries, and the state with its notes after the steps that made them; label names the event of each index
-pub record Linked {L : Language} (s : State L) (v : Notes) (j : Judged) (done : List Occurrence) (n : ℕ) (label : ℕ → Option Event) : Type 0 where
+-- what is judged of these n entries, and the state with its notes after the steps that made them; label names the event
+-- of each index
+pub record Linked {L : Language} (s : State L) (v : Notes) (j : Judged) (done : List Occurrence) (n : ℕ)
+    (label : ℕ → Option Event) : Type 0 where
   pub size : length done ≡ n
   pub past : (q : Name) (i : ℕ) → i < n → j.past q i ≡ known_label (v.past q) (label i)
   pub below : (q : Name) (i : ℕ) → j.past q i ≡ true → i < n
-  pub pends : (c : Channel) (z : Name) (w : OfferOf L) → s.pending c ≡ Some z → s.condition z ≡ Waits w → Pended s v j done n label c z w
+  pub pends : (c : Channel) (z : Name) (w : OfferOf L) → s.pending c ≡ Some z → s.condition z ≡ Waits w
+      → Pended s v j done n label c z w
   pub free : (c : Channel) → s.pending c ≡ None → j.pending c ≡ None
   pub forks : (q : Name) → j.forks q ≡ s.forks q
   pub apart : (i k : ℕ) → i < n → k < n → (e : Event) → label i ≡ Some e → label k ≡ Some e → i ≡ k

@@ -1,11 +1,14 @@
+-- None of this belongs to what the program promises: it is for contracts between crates.
 -- What a judge notes beside a run: how many events each process has completed, which events it knows, and which offers
 -- were completed. A step never reads these notes. The proof that ordered runs end alike goes by them, over any
 -- language.
-use Rattle.std.specs.Prelude.{◌≡◌, ℕ, suc, zero, ◌+◌, ◌<◌, Bool, true, false, cond, ◌&&◌, ◌||◌, ◌==◌, List, [], ◌∷◌, length, Option, Some, None}
+use Rattle.std.specs.Prelude.{◌≡◌, ℕ, suc, zero, ◌+◌, ◌<◌, Bool, true, false, cond, ◌&&◌, ◌||◌, ◌==◌, List, [], ◌∷◌}
+use Rattle.std.specs.Prelude.{length, Option, Some, None}
 use Rattle.sp_journal.specs.declared.entry.Way.{Way}
 use Rattle.sp_journal.specs.declared.entry.Way.TheVariants as way
 use Rattle.sp_journal.specs.Names.{same_way}
-use Rattle.sp_meaning.specs.Model.{Name, Channel, same_name, same_channel, Language, Moves, Opens, Forks, Offering, Ends, Fails, State}
+use Rattle.sp_meaning.specs.Model.{Name, Channel, same_name, same_channel, Language, Moves, Opens, Forks, Offering}
+use Rattle.sp_meaning.specs.Model.{Ends, Fails, State}
 use Rattle.sp_meaning.specs.Steps.{ActOf, way_of}
 
 -- the nth event of a process
@@ -39,7 +42,10 @@ pub data Note : Type 0 where
 abbrev pub noted : Note → Notes → Notes
 noted (Counts p) n = record n { events = λ q. cond (same_name p q) (n.events q + 1) (n.events q) }
 noted (Learns p known) n = record n { past = λ q. cond (same_name p q) (both (n.past q) known) (n.past q) }
-noted (Records c w e) n = record n { offers = λ d v. cond (same_channel c d && same_way w v) (both (n.offers d v) (same_event e)) (n.offers d v) }
+noted (Records c w e) n = record n {
+  offers =
+      λ d v. cond (same_channel c d && same_way w v) (both (n.offers d v) (same_event e)) (n.offers d v);
+}
 
 -- the notes, one after another
 abbrev pub all_noted : List Note → Notes → Notes
@@ -83,7 +89,8 @@ offer_notes n p c w (Some z) = meeting_notes n p c w z
 abbrev pub notes_of : {L : Language} → State L → Notes → Name → ActOf L → List Note
 notes_of s n p (Moves o ws) = []
 notes_of s n p (Opens o ws) = Counts p ∷ Learns p (same_event (mine n p)) ∷ []
-notes_of s n p (Forks o os) = Counts p ∷ Learns p (same_event (mine n p)) ∷ teaches p (s.forks p) (knows n p) 0 (length os)
+notes_of s n p (Forks o os) = Counts p ∷ Learns p (same_event (mine n p))
+    ∷ teaches p (s.forks p) (knows n p) 0 (length os)
 notes_of s n p (Offering o) = offer_notes n p o.channel (way_of o.cargo) (s.pending o.channel)
 notes_of s n p Ends = Counts p ∷ Learns p (same_event (mine n p)) ∷ tells p (knows n p)
 notes_of s n p (Fails f) = []

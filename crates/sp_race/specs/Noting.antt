@@ -1,3 +1,4 @@
+-- None of this belongs to what the program promises: it is for contracts between crates.
 -- Runs with a judge's notes beside the state: a system again, so that the laws of schedules serve it.
 use Rattle.std.specs.Prelude.{Option, Some, None}
 use Rattle.sp_meaning.specs.Model.{Name, Totals, Language, State}
@@ -26,4 +27,9 @@ abbrev pub noted_step : {L : Language} → Totals → WithNotes L → Name → O
 noted_step limits j p = noted_with limits j p (working j.state p)
 
 abbrev pub noted_processes : Language → Totals → System
-noted_processes L limits = record { State = WithNotes L; Name = Name; step = noted_step limits; Quiet = λ j. Quiet j.state }
+noted_processes L limits = record {
+  State = WithNotes L;
+  Name = Name;
+  step = noted_step limits;
+  Quiet = λ j. Quiet j.state;
+}

@@ -1,3 +1,4 @@
+-- None of this belongs to what the program promises: it is for contracts between crates.
 -- Ordered runs: each step keeps the order condition by the notes beside the run. The proof that ordered runs end alike
 -- starts from it.
 use Rattle.std.specs.Prelude.{◌≡◌, List, [], ◌∷◌, Some}
@@ -11,4 +12,5 @@ abbrev pub IsOrderedRun : {L : Language} → Totals → State L → Notes → Li
 IsOrderedRun limits s n [] = Unit {0}
 IsOrderedRun {L} limits s n (p ∷ ps) =
     ((own : L.Own) → working s p ≡ Some own → KnowsBefore L n p (L.next own s.store))
-    × ((own : L.Own) (m : State L) → working s p ≡ Some own → step limits s p ≡ Some m → IsOrderedRun limits m (notes_after s n p (L.next own s.store)) ps)
+    × ((own : L.Own) (m : State L) → working s p ≡ Some own → step limits s p ≡ Some m
+    → IsOrderedRun limits m (notes_after s n p (L.next own s.store)) ps)

@@ -1,8 +1,11 @@
+-- None of this belongs to what the program promises: it is for contracts between crates.
 -- The order condition as a test that computes. A law of this crate says that it tells what the definition in
 -- `sp_journal` says, so that rows can be computed.
-use Rattle.std.specs.Prelude.{ℕ, suc, Bool, true, false, ◌&&◌, if◌then◌else◌, List, [], ◌∷◌, ◌++◌, length, Option, Some, None}
+use Rattle.std.specs.Prelude.{ℕ, suc, Bool, true, false, ◌&&◌, if◌then◌else◌, List, [], ◌∷◌, ◌++◌, length, Option, Some}
+use Rattle.std.specs.Prelude.{None}
 use Rattle.sp_journal.specs.declared.entry.Way.{Way}
-use Rattle.sp_journal.specs.Names.{Name, Channel, same_way, same_channel, Happening, Opened, Forked, Offered, Ended, Faulted, Laid, Paused, Occurrence}
+use Rattle.sp_journal.specs.Names.{Name, Channel, same_way, same_channel, Happening, Opened, Forked, Offered, Ended}
+use Rattle.sp_journal.specs.Names.{Faulted, Laid, Paused, Occurrence}
 use Rattle.sp_journal.specs.Past.{Judged, judged_by, nothing_judged}
 
 -- an offer of this way on this channel
@@ -23,7 +26,8 @@ is_known j p (Some m) = j.past p m
 -- of these entries, from index i on, p knows the completion of each offer of this way on this channel
 abbrev pub knows_all : Judged → Name → Way → Channel → ℕ → List Occurrence → Bool
 knows_all j p w c i [] = true
-knows_all j p w c i (e ∷ es) = (if is_offer w c e.what then is_known j p (j.completed i) else true) && knows_all j p w c (suc i) es
+knows_all j p w c i (e ∷ es) = (if is_offer w c e.what then is_known j p (j.completed i) else true)
+    && knows_all j p w c (suc i) es
 
 -- the condition at one entry
 abbrev pub is_in_order : Judged → List Occurrence → Name → Happening → Bool
@@ -37,7 +41,8 @@ is_in_order j done p Paused = true
 
 abbrev pub order_from : Judged → List Occurrence → List Occurrence → Bool
 order_from j done [] = true
-order_from j done (e ∷ es) = is_in_order j done e.who e.what && order_from (judged_by j (length done) e.who e.what) (done ++ e ∷ []) es
+order_from j done (e ∷ es) = is_in_order j done e.who e.what
+    && order_from (judged_by j (length done) e.who e.what) (done ++ e ∷ []) es
 
 abbrev pub order_test : List Occurrence → Bool
 order_test es = order_from nothing_judged [] es

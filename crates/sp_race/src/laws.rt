@@ -18,7 +18,8 @@ ghost use Rattle.sp_race.specs.Tested.{order_test};
 /// one with n names that leads to t. So the output and the end are those of the run in every schedule.
 pub fn ordered_runs_end_alike()
     ensures { (g : Setting) (turn : ℕ) (es : List Occurrence) (n : ℕ) (t : StateOf g)
-        → IsFreeOfInterference g.program → IsAlong g turn es n t → IsClean es → (IsDone g t ⊎ IsIdle g t) → AreOrdered es
+        → IsFreeOfInterference g.program → IsAlong g turn es n t → IsClean es → (IsDone g t ⊎ IsIdle g t)
+        → AreOrdered es
         → (qs : List Name) (u : StateOf g) → Lawful g (start g) qs u → EndsAlike (system_of g) (start g) n t qs u }
 {}
 

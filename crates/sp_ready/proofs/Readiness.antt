@@ -19,7 +19,8 @@ use Rattle.sp_facts.specs.Gives.{KeepsInterference, IsAccepted}
 use Rattle.sp_facts.proofs.Joining.{accepted_fine, accepted_free, accepted_formed, accepted_small}
 use Rattle.sp_link.specs.Premises.{IsReady}
 
-variable_at : (vs : List Placed) (x : ℕ) (v : Variable) → slice_get (map variable_of vs) x ≡ Some v → (i : Placed) × (slice_get vs x ≡ Some i) × (variable_of i ≡ v)
+variable_at : (vs : List Placed) (x : ℕ) (v : Variable) → slice_get (map variable_of vs) x ≡ Some v → (i : Placed)
+    × (slice_get vs x ≡ Some i) × (variable_of i ≡ v)
 variable_at [] x v e = absurd (cc e)
 variable_at (i ∷ vs) zero v e = (i, refl, same_Some _ _ e)
 variable_at (i ∷ vs) (suc x) v e = variable_at vs x v e
@@ -27,14 +28,27 @@ variable_at (i ∷ vs) (suc x) v e = variable_at vs x v e
 module _ (p : c.Program) (kept : KeepsInterference p) where
   -- a function changes nothing outside itself
   changes_nothing : (f : ℕ) → IsFunction (bare p) f → (x : ℕ) → ImplicitTarget (bare p) f x → ⊥
-  changes_nothing f function x target = let m = block_at p.blocks f function.0 function.2 in kept rule.I8 (m.0).at (f, m.0, m.1, refl, function, x, target)
+  changes_nothing f function x target = let m = block_at p.blocks f function.0 function.2 in
+      kept rule.I8 (m.0).at (f, m.0, m.1, refl, function, x, target)
 
   -- and takes values alone
-  takes_values : (f : ℕ) (b : Block) → slice_get (bare p).blocks f ≡ Some b → IsFunction (bare p) f → (x : ℕ) → IsMember x b.formals → (v : Variable) → slice_get (bare p).variables x ≡ Some v → v.role ≡ role.Reference → ⊥
+  takes_values : (f : ℕ) (b : Block) → slice_get (bare p).blocks f ≡ Some b → IsFunction (bare p) f → (x : ℕ)
+      → IsMember x b.formals → (v : Variable) → slice_get (bare p).variables x ≡ Some v → v.role ≡ role.Reference → ⊥
   takes_values f b at function x i v is r =
       let m = block_at p.blocks f b at in
       let w = variable_at p.variables x v is in
-      kept rule.I7 (w.0).at (f, m.0, m.1, function, x, subst (λ (z : Block). IsMember x z.formals) (sym m.2) i, w.0, w.1, ap (λ (z : Variable). z.role) w.2 ∙ r, refl)
+      kept rule.I7 (w.0).at (
+        f,
+        m.0,
+        m.1,
+        function,
+        x,
+        subst (λ (z : Block). IsMember x z.formals) (sym m.2) i,
+        w.0,
+        w.1,
+        ap (λ (z : Variable). z.role) w.2 ∙ r,
+        refl,
+      )
 
 module _ (p : c.Program) (formed : IsFormed (bare p)) (free : IsFreeOfInterference (bare p)) where
   -- the program's block is there, since it has the input
@@ -44,7 +58,9 @@ module _ (p : c.Program) (formed : IsFormed (bare p)) (free : IsFreeOfInterferen
       let home = formed.homes 0 i.0 i.1 in
       (home.0, subst (λ k. slice_get (bare p).blocks k ≡ Some home.0) (free.consoles 0 i.0 i.1 i.2).0 home.1)
 
-pub accepted_ready : (text : List ℕ) (p : c.Program) → IsAccepted text p → (moves shares : Stmt → List ℕ) → SetsAre (bare p) moves shares → (input : List ℕ) (lim : Limits) → AreLimits lim → IsReady (record { program = bare p; input = input; limits = lim }) moves shares
+pub accepted_ready : (text : List ℕ) (p : c.Program) → IsAccepted text p → (moves shares : Stmt → List ℕ)
+    → SetsAre (bare p) moves shares → (input : List ℕ) (lim : Limits) → AreLimits lim
+    → IsReady (record { program = bare p; input = input; limits = lim }) moves shares
 accepted_ready text p a moves shares sets input lim l =
     let formed = accepted_formed text p a in
     let free = accepted_free text p a in

@@ -11,9 +11,11 @@ ghost use Rattle.sp_code.specs.Sound.{AreLimits};
 ghost use Rattle.sp_facts.specs.Gives.{IsAccepted};
 ghost use Rattle.sp_link.specs.Premises.{IsReady};
 
-/// The program of a text that breaks no rule is ready: where its forks take over and share exactly what the sets of its statements
-/// say, its code runs as it means, on every input with all limits within their types.
+/// The program of a text that breaks no rule is ready: where its forks take over and share exactly what the sets of its
+/// statements say, its code runs as it means, on every input with all limits within their types.
 pub fn accepted_programs_are_ready()
-    ensures { (text : List ℕ) (c : Checked) → IsAccepted text c → (moves shares : Stmt → List ℕ) → SetsAre (bare c) moves shares
-        → (input : List ℕ) (lim : Limits) → AreLimits lim → IsReady (record { program = bare c; input = input; limits = lim }) moves shares }
+    ensures { (text : List ℕ) (c : Checked) → IsAccepted text c → (moves shares : Stmt → List ℕ)
+        → SetsAre (bare c) moves shares
+        → (input : List ℕ) (lim : Limits) → AreLimits lim
+        → IsReady (record { program = bare c; input = input; limits = lim }) moves shares }
 {}

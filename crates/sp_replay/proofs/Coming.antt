@@ -1,5 +1,7 @@
 -- The legal history of a run that is followed goes on, and what its laws give there.
-use Rattle.std.proofs.Common.{◌≡◌, ◌≢◌, ℕ, zero, suc, ◌+◌, ◌-◌, ◌<◌, ◌≤◌, ◌==◌, ◌||◌, nat_lt, inl, inr, if◌then◌else◌, Bool, true, false, List, [], ◌∷◌, ◌++◌, length, Option, Some, None, refl, sym, ap, ◌∙◌, subst, arith}
+use Rattle.std.proofs.Common.{◌≡◌, ◌≢◌, ℕ, zero, suc, ◌+◌, ◌-◌, ◌<◌, ◌≤◌, ◌==◌, ◌||◌, nat_lt, inl, inr, if◌then◌else◌}
+use Rattle.std.proofs.Common.{Bool, true, false, List, [], ◌∷◌, ◌++◌, length, Option, Some, None, refl, sym, ap, ◌∙◌}
+use Rattle.std.proofs.Common.{subst, arith}
 use Rattle.std.specs.Option.{option_map}
 use Rattle.sp_base.specs.declared.limits.Limits.{Limits}
 use Rattle.sp_cell.specs.Map.{Plain}
@@ -12,7 +14,9 @@ use Rattle.sp_journal.proofs.BirthLaws.{Lawful, lawful}
 use Rattle.sp_code.specs.declared.code.Parts.{Parts}
 use Rattle.sp_code.specs.Memory.{Setting}
 use Rattle.sp_code.specs.PlainStore.{plain}
-use Rattle.sp_code.specs.Control.{Control, Ready, Unborn, control_at_start, entries_of, comes_back, takes, behind, front, front_while, standing, Standing, Running as Going, IsDone, IsDeadlock, IsFault, IsMemory, is_ready, has_ended}
+use Rattle.sp_code.specs.Control.{Control, Ready, Unborn, control_at_start, entries_of, comes_back, takes, behind}
+use Rattle.sp_code.specs.Control.{front, front_while, standing, Standing, Running as Going, IsDone, IsDeadlock, IsFault}
+use Rattle.sp_code.specs.Control.{IsMemory, is_ready, has_ended}
 use Rattle.sp_code.specs.System.{System, Enters, IsSystem, opening, event_of}
 use Rattle.sp_history.specs.Agreement.{HasOuts, IsGot}
 use Rattle.sp_history.specs.Lines.{HasChildren}
@@ -41,7 +45,8 @@ use Rattle.sp_runner.specs.Works.{IsRunOf}
 use Rattle.sp_runner.proofs.Working.{Has, is_ranked, may_turn, may_hand_in}
 use Rattle.sp_replay.specs.declared.followed.Followed.{Followed}
 use Rattle.sp_replay.specs.Held.{held_at}
-use Rattle.sp_replay.specs.Following.{IsAway, HasCome, IsOutAs, AreOut, Follows, Stands, RunsOn, WasTurned, SameRun, IsInHand, Made, Exchanged}
+use Rattle.sp_replay.specs.Following.{IsAway, HasCome, IsOutAs, AreOut, Follows, Stands, RunsOn, WasTurned, SameRun}
+use Rattle.sp_replay.specs.Following.{IsInHand, Made, Exchanged}
 use Rattle.sp_replay.proofs.Living.{ended_none, few_out}
 use Rattle.sp_replay.proofs.Giving.{out_same, taken_some, taken_out, given_out}
 
@@ -62,25 +67,35 @@ module _ (x : Kernel) (c : HasCome x) where
 
   -- the system of the kernel is that along its journal
   pub is_system : IsSystem plain (setting_of x) x.journal.entries (system_of x)
-  is_system = subst (λ (g : Setting). IsSystem plain g x.journal.entries (system_of x)) (sym setting_is) (subst (λ (es : List Entry). IsSystem plain (setting_of c.opened) es (system_of x)) (sym entries_are) (along c.opened c.opening c.log x c.told))
+  is_system = subst (λ (g : Setting). IsSystem plain g x.journal.entries (system_of x)) (sym setting_is)
+      (subst (λ (es : List Entry). IsSystem plain (setting_of c.opened) es (system_of x)) (sym entries_are)
+      (along c.opened c.opening c.log x c.told))
 
   pub has_outs : HasOuts (control_of x)
   has_outs = subst HasOuts (sym (control_is c.opened c.opening c.log x c.told))
-      (outs_all plain (setting_of c.opened) control_at_start (opening plain (setting_of c.opened)) (system_of x) c.log orderly_start (agrees_start plain (setting_of c.opened)) outs_start (from_start c.opened c.opening c.log x c.told))
+      (outs_all plain (setting_of c.opened) control_at_start (opening plain (setting_of c.opened)) (system_of x) c.log
+      orderly_start (agrees_start plain (setting_of c.opened)) outs_start
+      (from_start c.opened c.opening c.log x c.told))
 
   has_children : HasChildren (control_of x)
   has_children = subst HasChildren (sym (control_is c.opened c.opening c.log x c.told))
-      (children_all plain (setting_of c.opened) control_at_start (opening plain (setting_of c.opened)) (system_of x) c.log orderly_start (agrees_start plain (setting_of c.opened)) children_start (from_start c.opened c.opening c.log x c.told))
+      (children_all plain (setting_of c.opened) control_at_start (opening plain (setting_of c.opened)) (system_of x)
+      c.log orderly_start (agrees_start plain (setting_of c.opened)) children_start
+      (from_start c.opened c.opening c.log x c.told))
 
   is_lawful : Lawful (births x.journal.entries)
   is_lawful = lawful x.journal.entries is_named.nameable
 
   pub out_bound : x.out + 1 < 18446744073709551616
-  out_bound = let a : x.out ≤ (births x.journal.entries).processes = few_out (control_of x) is_whole.orderly has_outs in let b : (births x.journal.entries).processes ≤ 4294967296 = is_lawful.few in omega (arith, a, b)
+  out_bound = let a : x.out ≤ (births x.journal.entries).processes = few_out (control_of x) is_whole.orderly has_outs in
+      let b : (births x.journal.entries).processes ≤ 4294967296 = is_lawful.few in omega (arith, a, b)
 
   -- ---- where none is taken, none is ready
 
-  none_left : (a f e o : Bool) (r : List ℕ) → front_while (if a then IsMemory else (if f then IsFault else (if e then IsDone else (if is_ready r || o then Going else IsDeadlock)))) r ≡ None → a ≡ false → (f ≡ true → r ≡ []) → (e ≡ true → r ≡ []) → r ≡ []
+  none_left : (a f e o : Bool) (r : List ℕ) → front_while
+      (if a then IsMemory else (if f then IsFault else
+      (if e then IsDone else (if is_ready r || o then Going else IsDeadlock)))) r ≡ None → a ≡ false
+      → (f ≡ true → r ≡ []) → (e ≡ true → r ≡ []) → r ≡ []
   none_left a f e o [] is up still done = refl
   none_left true f e o (p ∷ ps) is up still done = absurd (cc up)
   none_left false true e o (p ∷ ps) is up still done = still refl
@@ -91,7 +106,8 @@ module _ (x : Kernel) (c : HasCome x) where
   up_none n e = grind (arith, e)
 
   pub none_ready : (who : ℕ → Option Proc) → AreOut x who → front (control_of x) ≡ None → x.ready ≡ []
-  none_ready who o is = none_left (nat_lt 0 x.abandons) x.faulted (has_ended ((control_of x).doing 0)) (nat_lt 0 x.out) x.ready is (up_none x.abandons c.kept) o.still (ended_none (control_of x) is_whole.orderly has_children is_lawful)
+  none_ready who o is = none_left (nat_lt 0 x.abandons) x.faulted (has_ended ((control_of x).doing 0)) (nat_lt 0 x.out)
+      x.ready is (up_none x.abandons c.kept) o.still (ended_none (control_of x) is_whole.orderly has_children is_lawful)
 
   -- ---- a process that is held
 
@@ -123,8 +139,10 @@ module _ (x : Kernel) (c : HasCome x) where
     -- and may be handed in after it
     pub fits : (h : Handed) → WasTurned p code lim h → Fits x 0 h
     fits h t =
-        let may = may_hand_in c.opened code lim run c.log 0 p has (notes_of_worker 0 c.log) h.proc h.stop refl t.turn t.same t.whole in
-        (later c.opened c.opening c.log x c.told 0 c.log (notes_of_worker 0 c.log) refl (starts_self c.log) refl (ask.Turn (Some h)) may.1).1
+        let may = may_hand_in c.opened code lim run c.log 0 p has (notes_of_worker 0 c.log) h.proc h.stop refl t.turn
+        t.same t.whole in
+        (later c.opened c.opening c.log x c.told 0 c.log (notes_of_worker 0 c.log) refl (starts_self c.log) refl
+        (ask.Turn (Some h)) may.1).1
 
 -- ---- the history goes on
 
@@ -135,27 +153,39 @@ module _ (x : Kernel) (c : HasCome x) where
     opened = c.opened;
     opening = c.opening;
     log = c.log ++ record { worker = 0; given = None; event = None; got = Some p.number } ∷ [];
-    told = runs_on Steps c.opened c.log x y 0 (ask.Turn None) (got.Work p) (record { worker = 0; given = None; event = None; got = Some p.number }) c.told (noted_take x 0 y p t);
+    told = runs_on Steps c.opened c.log x y 0 (ask.Turn None) (got.Work p)
+        (record { worker = 0; given = None; event = None; got = Some p.number }) c.told (noted_take x 0 y p t);
     kept = ap (λ (k : Control). k.abandons) t.control ∙ c.kept;
   }
 
   -- one call of the kernel that takes: the queue is shorter then
   fewer : (y : Kernel) (p : Proc) → Takes x 0 y (Some p) → length y.ready < length x.ready
   fewer y p t =
-      let g : IsGot (control_of x) (Some p.number) = got_of (control_of x) (is_whole x c).orderly (Some p.number) t.front in
+      let g : IsGot (control_of x) (Some p.number) =
+      got_of (control_of x) (is_whole x c).orderly (Some p.number) t.front in
       let r : y.ready ≡ behind x.ready = ap (λ (k : Control). k.ready) t.control in
       let a : length y.ready ≡ length g.0.0 = ap length (r ∙ ap behind g.0.1) in
       let b : length x.ready ≡ length (p.number ∷ g.0.0) = ap length g.0.1 in
       omega (arith, a, b)
 
-  pub takes_some : (y : Kernel) (p : Proc) → Takes x 0 y (Some p) → HasCome y × SameRun x y × (length y.ready < length x.ready)
-  takes_some y p t = (come_taken y p t, record { setting = same_setting x y t.setting; entries = ap (λ (j : _). j.entries) t.journal; system = t.system }, fewer y p t)
+  pub takes_some : (y : Kernel) (p : Proc) → Takes x 0 y (Some p) → HasCome y × SameRun x y
+      × (length y.ready < length x.ready)
+  takes_some y p t = (
+    come_taken y p t,
+    record {
+      setting = same_setting x y t.setting;
+      entries = ap (λ (j : _). j.entries) t.journal;
+      system = t.system;
+    },
+    fewer y p t,
+  )
 
   -- what is told where none is taken
   nothing : (y : Kernel) → front (control_of y) ≡ None → (g : Got) × Answers y g None
   nothing y is = go (standing (control_of y)) y.out refl refl
     where
-      over : (st : Standing) (n : ℕ) → st ≢ Going → standing (control_of y) ≡ st → y.out ≡ n → (g : Got) × Answers y g None
+      over : (st : Standing) (n : ℕ) → st ≢ Going → standing (control_of y) ≡ st → y.out ≡ n → (g : Got)
+          × Answers y g None
       over st zero n s o = (got.Finished, ((λ e. n (sym s ∙ e)), o))
       over st (suc k) n s o = (got.Nothing, (is, inr (omega (arith, o))))
 
@@ -174,20 +204,34 @@ module _ (x : Kernel) (c : HasCome x) where
     answered None t = nothing y (ap (λ (z : Kernel). front (control_of z)) (t.same refl) ∙ sym t.front)
     answered (Some p) t = (
       got.Work p,
-      (refl, ap (λ (s : System Plain). s.condition p.number) t.system ∙ (t.work p refl).0, (t.work p refl).1 ∙ ap (λ (g : Setting). g.input) (sym (same_setting m y t.setting))),
+      (
+        refl,
+        ap (λ (s : System Plain). s.condition p.number) t.system ∙ (t.work p refl).0,
+        (t.work p refl).1
+            ∙ ap (λ (g : Setting). g.input) (sym (same_setting m y t.setting)),
+      ),
     )
 
     -- where one was handed in, and the next was taken, if any
     pub come_given : (r : Option Proc) → Takes m 0 y r → HasCome y
     come_given r t =
         let a = answered r t in
-        let n : Note = record { worker = 0; given = Some h.proc.number; event = Some e; got = option_map (λ (p : Proc). p.number) r } in
+        let n : Note = record {
+          worker = 0;
+          given = Some h.proc.number;
+          event = Some e;
+          got = option_map (λ (p : Proc). p.number) r;
+        } in
         record {
           opened = c.opened;
           opening = c.opening;
           log = c.log ++ n ∷ [];
-          told = runs_on Steps c.opened c.log x y 0 (ask.Turn (Some h)) a.0 n c.told (noted_turn x 0 h m y r a.0 e f gave t refl a.1);
-          kept = ap (λ (k : Control). k.abandons) (t.control ∙ ap (takes 0 (option_map (λ (p : Proc). p.number) r)) gave.control) ∙ taken_abandons 0 (option_map (λ (p : Proc). p.number) r) (comes_back h.proc.number e (control_of x)) ∙ back_abandons h.proc.number e (control_of x) ∙ c.kept;
+          told = runs_on Steps c.opened c.log x y 0 (ask.Turn (Some h)) a.0 n c.told
+              (noted_turn x 0 h m y r a.0 e f gave t refl a.1);
+          kept = ap (λ (k : Control). k.abandons)
+              (t.control ∙ ap (takes 0 (option_map (λ (p : Proc). p.number) r)) gave.control)
+              ∙ taken_abandons 0 (option_map (λ (p : Proc). p.number) r) (comes_back h.proc.number e (control_of x))
+              ∙ back_abandons h.proc.number e (control_of x) ∙ c.kept;
         }
 
 -- ---- the steps of a run that is followed
@@ -197,7 +241,8 @@ pub starts : (x : Kernel) → IsOpening x → (held : List (Option Proc)) → he
 starts x o held e = record {
   come = record { opened = x; opening = o; log = []; told = refl; kept = o.abandons };
   held = record {
-    each = λ q p f. absurd (let g : held_at [] q ≡ Some p = subst (λ (l : List (Option Proc)). held_at l q ≡ Some p) e f in cc g);
+    each = λ q p f. absurd (let g : held_at [] q ≡ Some p =
+        subst (λ (l : List (Option Proc)). held_at l q ≡ Some p) e f in cc g);
     all = λ q a. absurd (at_start (q == 0) (subst IsAway (ap (λ (k : Control). k.doing q) o.control) a));
     still = λ f. absurd (let g = ap (λ (k : Control). k.faulted) o.control in cc (f, g));
   };
@@ -208,32 +253,55 @@ starts x o held e = record {
     at_start false i = i
 
 -- one more was taken, and is held
-pub take_more : (x y : Kernel) (held new : List (Option Proc)) (p : Proc) → Follows x (held_at held) → Takes x 0 y (Some p) → ((q : ℕ) → held_at new q ≡ at_key ◌==◌ p.number (Some p) (held_at held) q)
+pub take_more : (x y : Kernel) (held new : List (Option Proc)) (p : Proc) → Follows x (held_at held)
+    → Takes x 0 y (Some p) → ((q : ℕ) → held_at new q ≡ at_key ◌==◌ p.number (Some p) (held_at held) q)
     → Follows y (held_at new) × SameRun x y × (length y.ready < length x.ready)
 take_more x y held new p f t same =
-    let s = takes_some x f.come y p t in
-    (record { come = s.0; held = out_same y (at_key ◌==◌ p.number (Some p) (held_at held)) (held_at new) same (taken_some x y (held_at held) f.held p t) }, s.1, s.2)
+    let s = takes_some x f.come y p t in (
+      record {
+        come = s.0;
+        held = out_same y (at_key ◌==◌ p.number (Some p) (held_at held)) (held_at new) same
+            (taken_some x y (held_at held) f.held p t);
+      },
+      s.1,
+      s.2,
+    )
 
 -- none was taken, and all that can run are held
-pub take_none : (x y : Kernel) (held : List (Option Proc)) → Follows x (held_at held) → Takes x 0 y None → Follows y (held_at held) × (y.ready ≡ []) × SameRun x y
+pub take_none : (x y : Kernel) (held : List (Option Proc)) → Follows x (held_at held) → Takes x 0 y None
+    → Follows y (held_at held) × (y.ready ≡ []) × SameRun x y
 take_none x y held f t =
     let same : x ≡ y = sym (t.same refl) in
-    subst (λ (z : Kernel). Follows z (held_at held) × (z.ready ≡ []) × SameRun x z) same (f, none_ready x f.come (held_at held) f.held (sym t.front), record { setting = refl; entries = refl; system = refl })
+    subst (λ (z : Kernel). Follows z (held_at held) × (z.ready ≡ []) × SameRun x z) same (
+      f,
+      none_ready x f.come (held_at held) f.held (sym t.front),
+      record { setting = refl; entries = refl; system = refl },
+    )
 
 pub same_again : (x y z : Kernel) → SameRun x y → SameRun y z → SameRun x z
-same_again x y z a b = record { setting = b.setting ∙ a.setting; entries = b.entries ∙ a.entries; system = b.system ∙ a.system }
+same_again x y z a b = record {
+  setting = b.setting ∙ a.setting;
+  entries = b.entries ∙ a.entries;
+  system = b.system
+      ∙ a.system;
+}
 
-module _ (f : Followed) (code : Parts) (lim : Limits) (runs : RunsOn f.kernel code lim) (h : Handed) (i : IsInHand f code lim h) where
+module _ (f : Followed) (code : Parts) (lim : Limits) (runs : RunsOn f.kernel code lim) (h : Handed)
+    (i : IsInHand f code lim h) where
   -- what is in hand may be handed in
   pub fits_in : Fits f.kernel 0 h
-  fits_in = fits f.kernel i.follows.come code lim runs i.before (i.follows.held.each i.before.number i.before i.picked) h i.turned
+  fits_in = fits f.kernel i.follows.come code lim runs i.before (i.follows.held.each i.before.number i.before i.picked)
+      h i.turned
 
   module _ (m : Kernel) (gave : Gave f.kernel h.proc.number h m) where
     pub out_between : m.out + 1 < 18446744073709551616
-    out_between = let a : m.out ≡ f.kernel.out - 1 = ap (λ (k : Control). k.out) gave.control in let b = out_bound f.kernel i.follows.come in omega (arith, a, b)
+    out_between = let a : m.out ≡ f.kernel.out - 1 = ap (λ (k : Control). k.out) gave.control in
+        let b = out_bound f.kernel i.follows.come in omega (arith, a, b)
 
     left : AreOut m (held_at f.held)
-    left = given_out f.kernel (is_whole f.kernel i.follows.come) i.none_ready i.who i.follows.held h m gave (held_at f.held) (λ q. subst (λ n. held_at f.held q ≡ at_key ◌==◌ n None i.who q) (sym i.turned.same.0) (i.others q))
+    left = given_out f.kernel (is_whole f.kernel i.follows.come) i.none_ready i.who i.follows.held h m gave
+        (held_at f.held) (λ q. subst (λ n. held_at f.held q ≡ at_key ◌==◌ n None i.who q) (sym i.turned.same.0)
+        (i.others q))
 
     -- its event was made, and the next was taken, if any
     pub exchanges : (r : Option Proc) (y : Kernel) → Takes m 0 y r → Exchanged f.kernel h.proc.number f.held r y
@@ -252,7 +320,8 @@ module _ (f : Followed) (code : Parts) (lim : Limits) (runs : RunsOn f.kernel co
 
 -- the same kernel, with the same processes in another list
 pub follows_same : (x y : Kernel) (f h : ℕ → Option Proc) → y ≡ x → ((q : ℕ) → h q ≡ f q) → Follows x f → Follows y h
-follows_same x y f h e same s = subst (λ (z : Kernel). Follows z h) (sym e) (record { come = s.come; held = out_same x f h same s.held })
+follows_same x y f h e same s = subst (λ (z : Kernel). Follows z h) (sym e)
+    (record { come = s.come; held = out_same x f h same s.held })
 
 -- an event was made, and then others were taken
 pub made_then : (x y z : Kernel) (p : ℕ) (e : Event) → Made x p e y → SameRun y z → Made x p e z
@@ -263,11 +332,15 @@ made_then x y z p e m s = record {
 }
 
 -- who is held has its number
-pub picked_out : (x : Kernel) (who : ℕ → Option Proc) → AreOut x who → (q : ℕ) (p : Proc) → who q ≡ Some p → IsOutAs x p.number p
+pub picked_out : (x : Kernel) (who : ℕ → Option Proc) → AreOut x who → (q : ℕ) (p : Proc) → who q ≡ Some p
+    → IsOutAs x p.number p
 picked_out x who o q p e = let w = o.each q p e in subst (λ n. IsOutAs x n p) (sym w.number) w
 
 -- one was picked and turned, and all others are held
-pub in_hand : (f g : Followed) (code : Parts) (lim : Limits) (q : ℕ) (p : Proc) (h : Handed) → Stands f → g.kernel ≡ f.kernel → held_at f.held q ≡ Some p → ((r : ℕ) → held_at g.held r ≡ at_key ◌==◌ q None (held_at f.held) r) → WasTurned p code lim h → IsInHand g code lim h
+pub in_hand : (f g : Followed) (code : Parts) (lim : Limits) (q : ℕ) (p : Proc) (h : Handed) → Stands f
+    → g.kernel ≡ f.kernel → held_at f.held q ≡ Some p
+    → ((r : ℕ) → held_at g.held r ≡ at_key ◌==◌ q None (held_at f.held) r) → WasTurned p code lim h
+    → IsInHand g code lim h
 in_hand f g code lim q p h s same e others t =
     let n : p.number ≡ q = (s.follows.held.each q p e).number in
     record {

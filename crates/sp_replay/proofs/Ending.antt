@@ -1,10 +1,12 @@
 -- The end and the output of a run that was followed.
-use Rattle.std.proofs.Common.{◌≡◌, ◌≢◌, ℕ, zero, suc, ◌<◌, ◌||◌, nat_lt, if◌then◌else◌, Bool, true, false, List, [], ◌∷◌, length, Option, Some, None, refl, sym, ap, ◌∙◌, subst, arith}
+use Rattle.std.proofs.Common.{◌≡◌, ◌≢◌, ℕ, zero, suc, ◌<◌, ◌||◌, nat_lt, if◌then◌else◌, Bool, true, false, List, []}
+use Rattle.std.proofs.Common.{◌∷◌, length, Option, Some, None, refl, sym, ap, ◌∙◌, subst, arith}
 use Rattle.std.proofs.lemmas.Option.{same_Some}
 use Rattle.sp_cell.specs.Map.{Plain}
 use Rattle.sp_journal.specs.declared.outcome.End.{End}
 use Rattle.sp_code.specs.PlainStore.{plain}
-use Rattle.sp_code.specs.Control.{Doing, Unborn, Ready, Out, Sending, Receiving, Joining, Laid, Ended, Gone, standing, Running as Going, IsDone, IsDeadlock, IsFault, IsMemory, is_ready, has_ended}
+use Rattle.sp_code.specs.Control.{Doing, Unborn, Ready, Out, Sending, Receiving, Joining, Laid, Ended, Gone, standing}
+use Rattle.sp_code.specs.Control.{Running as Going, IsDone, IsDeadlock, IsFault, IsMemory, is_ready, has_ended}
 use Rattle.sp_code.specs.System.{store_in}
 use Rattle.sp_history.specs.Agreement.{Each, IsOut, phase, phase_in, Running, HasOuts}
 use Rattle.sp_history.specs.Holding.{IsOutputOf}
@@ -24,14 +26,17 @@ use Rattle.sp_replay.proofs.Coming.{is_whole, has_outs}
 
 -- ---- how the control stands
 
-by_going : (a f d r : Bool) → (if a then IsMemory else (if f then IsFault else (if d then IsDone else (if r then Going else IsDeadlock)))) ≡ Going → (f ≡ false) × (d ≡ false) × (r ≡ true)
+by_going : (a f d r : Bool) → (if a then IsMemory else
+    (if f then IsFault else (if d then IsDone else (if r then Going else IsDeadlock)))) ≡ Going → (f ≡ false)
+    × (d ≡ false) × (r ≡ true)
 by_going true f d r e = absurd (cc e)
 by_going false true d r e = absurd (cc e)
 by_going false false true r e = absurd (cc e)
 by_going false false false true e = (refl, refl, refl)
 by_going false false false false e = absurd (cc e)
 
-by_deadlock : (a f d r : Bool) → (if a then IsMemory else (if f then IsFault else (if d then IsDone else (if r then Going else IsDeadlock)))) ≡ IsDeadlock → r ≡ false
+by_deadlock : (a f d r : Bool) → (if a then IsMemory else
+    (if f then IsFault else (if d then IsDone else (if r then Going else IsDeadlock)))) ≡ IsDeadlock → r ≡ false
 by_deadlock true f d r e = absurd (cc e)
 by_deadlock false true d r e = absurd (cc e)
 by_deadlock false false true r e = absurd (cc e)
@@ -49,13 +54,15 @@ none_out (p ∷ ps) n is = absurd (cc is)
 -- ---- the end
 
 module _ (x : Kernel) (c : HasCome x) (who : ℕ → Option Proc) (o : AreOut x who) (none : x.ready ≡ []) where
-  first_out : (qs : List ℕ) → 0 < length qs → Each (λ q. IsOut ((control_of x).doing q)) qs → (q : ℕ) × (phase_in ((system_of x).condition q) ≡ Running)
+  first_out : (qs : List ℕ) → 0 < length qs → Each (λ q. IsOut ((control_of x).doing q)) qs → (q : ℕ)
+      × (phase_in ((system_of x).condition q) ≡ Running)
   first_out [] l e = absurd (omega (arith, l))
   first_out (q ∷ qs) l e = (q, sym ((is_whole x c).agrees.each q) ∙ ap phase e.0.1)
 
   goes_on : standing (control_of x) ≡ Going → GoesOn (system_of x)
   goes_on is =
-      let b = by_going (nat_lt 0 x.abandons) x.faulted (has_ended ((control_of x).doing 0)) (is_ready x.ready || nat_lt 0 x.out) is in
+      let b = by_going (nat_lt 0 x.abandons) x.faulted (has_ended ((control_of x).doing 0))
+      (is_ready x.ready || nat_lt 0 x.out) is in
       let outs : HasOuts (control_of x) = has_outs x c in
       record {
         quiet = b.0;
@@ -71,7 +78,8 @@ module _ (x : Kernel) (c : HasCome x) (who : ℕ → Option Proc) (o : AreOut x 
 
   idle : standing (control_of x) ≡ IsDeadlock → (q : ℕ) → phase_in ((system_of x).condition q) ≢ Running
   idle is = nobody_runs (control_of x) (system_of x) (is_whole x c).orderly (is_whole x c).agrees (has_outs x c) none
-      (none_out x.ready x.out (by_deadlock (nat_lt 0 x.abandons) x.faulted (has_ended ((control_of x).doing 0)) (is_ready x.ready || nat_lt 0 x.out) is)) not_gone
+      (none_out x.ready x.out (by_deadlock (nat_lt 0 x.abandons) x.faulted (has_ended ((control_of x).doing 0))
+      (is_ready x.ready || nat_lt 0 x.out) is)) not_gone
 
   pub ends_so : (e : Option End) → KernelEndsSo x e → EndsSo x.journal.entries (system_of x) e
   ends_so None is = goes_on is
@@ -80,9 +88,12 @@ module _ (x : Kernel) (c : HasCome x) (who : ℕ → Option Proc) (o : AreOut x 
   -- ---- the output
 
   holder : (q : ℕ) × (bs : List ℕ) × IsOutputOf (system_of x) q bs
-  holder = one_holder (setting_of c.opened) (system_of x) c.log (λ es t l. c.opening.sound.safe c.opened.root.value.input.value c.opened.limits c.opening.limits es t l) (from_start c.opened c.opening c.log x c.told)
+  holder = one_holder (setting_of c.opened) (system_of x) c.log
+      (λ es t l. c.opening.sound.safe c.opened.root.value.input.value c.opened.limits c.opening.limits es t l)
+      (from_start c.opened c.opening c.log x c.told)
 
-  is_output : (q : ℕ) (m : Plain) (bs : List ℕ) → store_in ((system_of x).condition q) ≡ Some m → plain.output m ≡ Some bs → IsOutputOf (system_of x) q bs
+  is_output : (q : ℕ) (m : Plain) (bs : List ℕ) → store_in ((system_of x).condition q) ≡ Some m
+      → plain.output m ≡ Some bs → IsOutputOf (system_of x) q bs
   is_output q m bs at out = record {
     store = m;
     at = at;
@@ -98,7 +109,8 @@ module _ (x : Kernel) (c : HasCome x) (who : ℕ → Option Proc) (o : AreOut x 
   store_is q p e = ap store_in (o.each q p e).runs
 
   -- of one that is held
-  pub by_held : (bs : List ℕ) (q : ℕ) (p : Proc) → who q ≡ Some p → written_by p ≡ Some bs → (r : ℕ) × IsOutputOf (system_of x) r bs
+  pub by_held : (bs : List ℕ) (q : ℕ) (p : Proc) → who q ≡ Some p → written_by p ≡ Some bs → (r : ℕ)
+      × IsOutputOf (system_of x) r bs
   by_held bs q p e w = (q, is_output q p.store bs (store_is q p e) w)
 
   -- one of both has it
@@ -114,7 +126,13 @@ module _ (x : Kernel) (c : HasCome x) (who : ℕ → Option Proc) (o : AreOut x 
           absurd (cc (some, no))
 
       at_home : (d : Doing) → (control_of x).doing holder.0 ≡ d → ((w : ℕ) → d ≡ Out w → ⊥) → (d ≡ Gone → ⊥) → ⊥
-      at_home d e n g = not_here holder.1 (holder.0, holder.2.store, ((λ w f. n w (sym e ∙ f)), (λ f. g (sym e ∙ f))), holder.2.at, holder.2.output)
+      at_home d e n g = not_here holder.1 (
+        holder.0,
+        holder.2.store,
+        ((λ w f. n w (sym e ∙ f)), (λ f. g (sym e ∙ f))),
+        holder.2.at,
+        holder.2.output,
+      )
 
       go : (d : Doing) → (control_of x).doing holder.0 ≡ d → ⊥
       go (Out w) e = away (subst IsAway (sym e) tt)
@@ -133,16 +151,21 @@ none_first : (a b : Option (List ℕ)) → or_rest a b ≡ None → (a ≡ None)
 none_first None b e = (refl, e)
 none_first (Some bs) b e = absurd (cc e)
 
-pub no_outputs : (held : List (Option Proc)) → outputs held ≡ None → (q : ℕ) (p : Proc) → held_at held q ≡ Some p → written_by p ≡ None
+pub no_outputs : (held : List (Option Proc)) → outputs held ≡ None → (q : ℕ) (p : Proc) → held_at held q ≡ Some p
+    → written_by p ≡ None
 no_outputs [] e q p is = absurd (cc is)
-no_outputs (o ∷ os) e zero p is = subst (λ (r : Option Proc). output_in r ≡ None) is (none_first (output_in o) (outputs os) e).0
+no_outputs (o ∷ os) e zero p is = subst (λ (r : Option Proc). output_in r ≡ None) is
+    (none_first (output_in o) (outputs os) e).0
 no_outputs (o ∷ os) e (suc q) p is = no_outputs os (none_first (output_in o) (outputs os) e).1 q p is
 
-pub some_output : (held : List (Option Proc)) (bs : List ℕ) → outputs held ≡ Some bs → (q : ℕ) × (p : Proc) × (held_at held q ≡ Some p) × (written_by p ≡ Some bs)
+pub some_output : (held : List (Option Proc)) (bs : List ℕ) → outputs held ≡ Some bs → (q : ℕ) × (p : Proc)
+    × (held_at held q ≡ Some p) × (written_by p ≡ Some bs)
 some_output [] bs e = absurd (cc e)
 some_output (None ∷ os) bs e = let r = some_output os bs e in (suc r.0, r.1, r.2, r.3)
 some_output (Some p ∷ os) bs e = go (written_by p) refl e (λ f. some_output os bs f)
   where
-    go : (w : Option (List ℕ)) → written_by p ≡ w → or_rest w (outputs os) ≡ Some bs → (outputs os ≡ Some bs → (q : ℕ) × (u : Proc) × (held_at os q ≡ Some u) × (written_by u ≡ Some bs)) → (q : ℕ) × (u : Proc) × (held_at (Some p ∷ os) q ≡ Some u) × (written_by u ≡ Some bs)
+    go : (w : Option (List ℕ)) → written_by p ≡ w → or_rest w (outputs os) ≡ Some bs
+        → (outputs os ≡ Some bs → (q : ℕ) × (u : Proc) × (held_at os q ≡ Some u) × (written_by u ≡ Some bs)) → (q : ℕ)
+        × (u : Proc) × (held_at (Some p ∷ os) q ≡ Some u) × (written_by u ≡ Some bs)
     go (Some cs) is f on = (zero, p, refl, is ∙ f)
     go None is f on = let r = on f in (suc r.0, r.1, r.2, r.3)

@@ -1,5 +1,6 @@
 -- The system along one entry more, and where there is none.
-use Rattle.std.proofs.Common.{◌≡◌, ◌≢◌, ℕ, zero, suc, ◌<◌, Bool, true, false, List, [], ◌∷◌, ◌++◌, length, take, get_or, slice_get, MatchBool, Option, Some, None, refl, sym, ap, ◌∙◌, subst, arith}
+use Rattle.std.proofs.Common.{◌≡◌, ◌≢◌, ℕ, zero, suc, ◌<◌, Bool, true, false, List, [], ◌∷◌, ◌++◌, length, take, get_or}
+use Rattle.std.proofs.Common.{slice_get, MatchBool, Option, Some, None, refl, sym, ap, ◌∙◌, subst, arith}
 use Rattle.sp_cell.specs.Map.{Plain}
 use Rattle.sp_journal.specs.declared.entry.Entry.{Entry}
 use Rattle.sp_journal.specs.declared.entry.Event.{Event}
@@ -18,8 +19,13 @@ use Rattle.sp_replay.specs.Replays.{IsUnfitAt}
 use Rattle.sp_replay.proofs.Coming.{is_whole}
 
 -- the last entry of several
-leads_last : {S : Type 0} (stores : Stores S) (g : Setting) (s : System S) (es : List Entry) (e : Entry) (t : System S) → Leads stores g s (es ++ e ∷ []) t → (u : System S) × Leads stores g s es u × Enters stores g u e.process e.event t
-leads_last {S = S} stores g s [] e t h = (s, refl, subst (λ (z : System S). Enters stores g s e.process e.event z) (sym h.2) h.1)
+leads_last : {S : Type 0} (stores : Stores S) (g : Setting) (s : System S) (es : List Entry) (e : Entry) (t : System S)
+    → Leads stores g s (es ++ e ∷ []) t → (u : System S) × Leads stores g s es u × Enters stores g u e.process e.event t
+leads_last {S = S} stores g s [] e t h = (
+  s,
+  refl,
+  subst (λ (z : System S). Enters stores g s e.process e.event z) (sym h.2) h.1,
+)
 leads_last stores g s (x ∷ es) e t h = let r = leads_last stores g h.0 es e t h.2 in (r.0, (h.0, h.1, r.1), r.2)
 
 pub one_more : (es : List Entry) (n : ℕ) (e : Entry) → slice_get es n ≡ Some e → take (suc n) es ≡ take n es ++ e ∷ []
@@ -33,13 +39,17 @@ inside (x ∷ es) zero e is = omega arith
 inside (x ∷ es) (suc n) e is = let l = inside es n e is in omega (arith, l)
 
 -- an entry that can't come where the others have led is the first that does not fit
-pub unfit : (g : Setting) (es : List Entry) (n : ℕ) (e : Entry) (s : System Plain) → slice_get es n ≡ Some e → IsSystem plain g (take n es) s → ((t : System Plain) → Enters plain g s e.process e.event t → ⊥) → IsUnfitAt g es n
+pub unfit : (g : Setting) (es : List Entry) (n : ℕ) (e : Entry) (s : System Plain) → slice_get es n ≡ Some e
+    → IsSystem plain g (take n es) s → ((t : System Plain) → Enters plain g s e.process e.event t → ⊥)
+    → IsUnfitAt g es n
 unfit g es n e s at along cannot = record {
   inside = inside es n e at;
   fits = (s, along);
   unfit = λ t l.
-      let r = leads_last plain g (opening plain g) (take n es) e t (subst (λ (fs : List Entry). IsSystem plain g fs t) (one_more es n e at) l) in
-      cannot t (subst (λ (z : System Plain). Enters plain g z e.process e.event t) (leads_same plain g (opening plain g) (take n es) r.0 s r.1 along) r.2);
+      let r = leads_last plain g (opening plain g) (take n es) e t
+      (subst (λ (fs : List Entry). IsSystem plain g fs t) (one_more es n e at) l) in
+      cannot t (subst (λ (z : System Plain). Enters plain g z e.process e.event t)
+      (leads_same plain g (opening plain g) (take n es) r.0 s r.1 along) r.2);
 }
 
 -- who runs is ready or out
@@ -55,20 +65,26 @@ run_away Laid e n = absurd (cc e)
 run_away Ended e n = absurd (cc e)
 
 -- who is not held does not run
-pub not_held : (x : Kernel) (c : HasCome x) (who : ℕ → Option Proc) → AreOut x who → x.ready ≡ [] → (e : Entry) → who e.process ≡ None → CannotCome x e
+pub not_held : (x : Kernel) (c : HasCome x) (who : ℕ → Option Proc) → AreOut x who → x.ready ≡ [] → (e : Entry)
+    → who e.process ≡ None → CannotCome x e
 not_held x c who o none e free t enters = absurd (cc (sym free ∙ w.1))
   where
     not_ready : (control_of x).doing e.process ≡ Ready → ⊥
-    not_ready is = let i : Among e.process [] = subst (Among e.process) none ((is_whole x c).orderly.queue.all e.process is) in i
+    not_ready is = let i : Among e.process [] =
+        subst (Among e.process) none ((is_whole x c).orderly.queue.all e.process is) in i
 
     w : (p : Proc) × (who e.process ≡ Some p)
-    w = o.all e.process (run_away ((control_of x).doing e.process) ((is_whole x c).agrees.each e.process ∙ ap phase_in enters.1) not_ready)
+    w = o.all e.process (run_away ((control_of x).doing e.process)
+        ((is_whole x c).agrees.each e.process ∙ ap phase_in enters.1) not_ready)
 
 -- a turn makes no other event
 other_event : (x y : Kernel) (e : Entry) (f : Event) → Made x e.process f y → f ≢ e.event → CannotCome x e
-other_event x y e f made n t enters = n (event_same plain (setting_of x) (system_of x) e.process f e.event (system_of y) t made.enters enters)
+other_event x y e f made n t enters = n (event_same plain (setting_of x) (system_of x) e.process f e.event (system_of y)
+    t made.enters enters)
 
-pub compared : (b : Bool) (f : Event) (x : Kernel) (g : Followed) (d : Entry) (e : Event) → Stands g → Made x d.process e g.kernel → f ≡ e → MatchBool b (f ≡ d.event) (f ≢ d.event) → MatchBool b (Stands g × Made x d.process d.event g.kernel) (CannotCome x d)
+pub compared : (b : Bool) (f : Event) (x : Kernel) (g : Followed) (d : Entry) (e : Event) → Stands g
+    → Made x d.process e g.kernel → f ≡ e → MatchBool b (f ≡ d.event) (f ≢ d.event)
+    → MatchBool b (Stands g × Made x d.process d.event g.kernel) (CannotCome x d)
 compared true f x g d e s m is c = (s, subst (λ v. Made x d.process v g.kernel) (sym is ∙ c) m)
 compared false f x g d e s m is c = other_event x g.kernel d e m (λ w. c (is ∙ w))
 

@@ -1,5 +1,6 @@
 -- Who is out after a process was taken, and after one was handed in.
-use Rattle.std.proofs.Common.{◌≡◌, ◌≢◌, ◌⊎◌, ℕ, ◌==◌, inl, inr, if◌then◌else◌, Bool, true, false, [], Option, Some, None, refl, sym, ap, ◌∙◌, subst}
+use Rattle.std.proofs.Common.{◌≡◌, ◌≢◌, ◌⊎◌, ℕ, ◌==◌, inl, inr, if◌then◌else◌, Bool, true, false, [], Option, Some}
+use Rattle.std.proofs.Common.{None, refl, sym, ap, ◌∙◌, subst}
 use Rattle.std.proofs.lemmas.Option.{none-some, same_Some}
 use Rattle.sp_cell.specs.Map.{Plain}
 use Rattle.sp_journal.specs.declared.entry.Event.{Event}
@@ -33,7 +34,12 @@ out_same y f h same o = record {
 
 module _ (x y : Kernel) (who : ℕ → Option Proc) (o : AreOut x who) where
   pub taken_some : (p : Proc) → Takes x 0 y (Some p) → AreOut y (at_key ◌==◌ p.number (Some p) who)
-  taken_some p t = record { each = each; all = all; still = λ f. ap (λ (k : Control). k.ready) t.control ∙ ap behind (o.still (sym (ap (λ (k : Control). k.faulted) t.control) ∙ f)) }
+  taken_some p t = record {
+    each = each;
+    all = all;
+    still = λ f. ap (λ (k : Control). k.ready) t.control
+        ∙ ap behind (o.still (sym (ap (λ (k : Control). k.faulted) t.control) ∙ f));
+  }
     where
       doing_is : (q : ℕ) → (control_of y).doing q ≡ at_key ◌==◌ p.number (Out 0) (control_of x).doing q
       doing_is q = ap (λ (k : Control). k.doing q) t.control
@@ -57,7 +63,8 @@ module _ (x y : Kernel) (who : ℕ → Option Proc) (o : AreOut x who) where
         where
           go : (p.number ≡ q) ⊎ ((p.number ≢ q) × (p.number == q ≡ false)) → IsOutAs y q u
           go (inl is) =
-              let same : p ≡ u = same_Some _ _ (sym (subst (λ z. at_key ◌==◌ p.number (Some p) who z ≡ Some p) is here) ∙ e) in
+              let same : p ≡ u = same_Some _ _
+              (sym (subst (λ z. at_key ◌==◌ p.number (Some p) who z ≡ Some p) is here) ∙ e) in
               subst (λ z. IsOutAs y q z) same (subst (λ z. IsOutAs y z p) is mine)
           go (inr n) =
               let w : IsOutAs x q u = o.each q u (sym (at_other who p.number q (Some p) n.0) ∙ e) in
@@ -71,7 +78,8 @@ module _ (x y : Kernel) (who : ℕ → Option Proc) (o : AreOut x who) where
       all : (q : ℕ) → IsAway ((control_of y).doing q) → (u : Proc) × (at_key ◌==◌ p.number (Some p) who q ≡ Some u)
       all q a = go (number_or p.number q)
         where
-          go : (p.number ≡ q) ⊎ ((p.number ≢ q) × (p.number == q ≡ false)) → (u : Proc) × (at_key ◌==◌ p.number (Some p) who q ≡ Some u)
+          go : (p.number ≡ q) ⊎ ((p.number ≢ q) × (p.number == q ≡ false)) → (u : Proc)
+              × (at_key ◌==◌ p.number (Some p) who q ≡ Some u)
           go (inl is) = (p, subst (λ z. at_key ◌==◌ p.number (Some p) who z ≡ Some p) is here)
           go (inr n) =
               let w = o.all q (subst IsAway (doing_is q ∙ at_other (control_of x).doing p.number q (Out 0) n.0) a) in
@@ -83,7 +91,9 @@ module _ (x y : Kernel) (who : ℕ → Option Proc) (o : AreOut x who) where
   taken_out (Some p) t = taken_some p t
 
 -- after one was handed in
-module _ (x : Kernel) (whole : IsKernel x) (none : x.ready ≡ []) (who : ℕ → Option Proc) (o : AreOut x who) (h : Handed) (m : Kernel) (gave : Gave x h.proc.number h m) (rest : ℕ → Option Proc) (others : (q : ℕ) → rest q ≡ at_key ◌==◌ h.proc.number None who q) where
+module _ (x : Kernel) (whole : IsKernel x) (none : x.ready ≡ []) (who : ℕ → Option Proc) (o : AreOut x who) (h : Handed)
+    (m : Kernel) (gave : Gave x h.proc.number h m) (rest : ℕ → Option Proc)
+    (others : (q : ℕ) → rest q ≡ at_key ◌==◌ h.proc.number None who q) where
   abbrev e : Event
   e = event_of x.limits (system_of x) (turn_of h)
 
@@ -91,19 +101,24 @@ module _ (x : Kernel) (whole : IsKernel x) (none : x.ready ≡ []) (who : ℕ �
   doing_now q = ap (λ (k : Control). k.doing q) gave.control
 
   laid : x.faulted ≡ true → e ≡ event.Laid
-  laid f = ap (λ (b : Bool). if b then event.Laid else event_or (fault_of x.limits (system_of x) (turn_of h)) (turn_of h)) f
+  laid f = ap (λ (b : Bool). if b then event.Laid else
+      event_or (fault_of x.limits (system_of x) (turn_of h)) (turn_of h)) f
 
   each_left : (q : ℕ) (u : Proc) → rest q ≡ Some u → IsOutAs m q u
   each_left q u f = go (number_or h.proc.number q)
     where
       go : (h.proc.number ≡ q) ⊎ ((h.proc.number ≢ q) × (h.proc.number == q ≡ false)) → IsOutAs m q u
-      go (inl is) = absurd (none-some u (sym (subst (λ z. at_key ◌==◌ h.proc.number None who z ≡ None) is (at_same who h.proc.number None)) ∙ sym (others q) ∙ f))
+      go (inl is) = absurd (none-some u (sym
+          (subst (λ z. at_key ◌==◌ h.proc.number None who z ≡ None) is (at_same who h.proc.number None))
+          ∙ sym (others q) ∙ f))
       go (inr n) =
           let w : IsOutAs x q u = o.each q u (sym (at_other who h.proc.number q None n.0) ∙ sym (others q) ∙ f) in
           record {
             number = w.number;
             out = doing_now q ∙ back_out (control_of x) whole.orderly q 0 h.proc.number w.out n.0 e;
-            runs = ap (λ (s : System Plain). s.condition q) gave.system ∙ after_same plain (setting_of x) (system_of x) q h.proc.number (config_of u) w.runs (out_there whole.orderly q 0 w.out) n.0 (turn_of h);
+            runs = ap (λ (s : System Plain). s.condition q) gave.system
+                ∙ after_same plain (setting_of x) (system_of x) q h.proc.number (config_of u) w.runs
+                (out_there whole.orderly q 0 w.out) n.0 (turn_of h);
             input = w.input ∙ ap (λ (g : Setting). g.input) (sym (same_setting x m gave.setting));
           }
 
@@ -117,5 +132,6 @@ module _ (x : Kernel) (whole : IsKernel x) (none : x.ready ≡ []) (who : ℕ �
   given_out = record {
     each = each_left;
     all = all_left;
-    still = λ f. ap (λ (k : Control). k.ready) gave.control ∙ back_still (control_of x) h.proc.number e laid none (sym (ap (λ (k : Control). k.faulted) gave.control) ∙ f);
+    still = λ f. ap (λ (k : Control). k.ready) gave.control
+        ∙ back_still (control_of x) h.proc.number e laid none (sym (ap (λ (k : Control). k.faulted) gave.control) ∙ f);
   }

@@ -1,7 +1,9 @@
 -- The root lives while any process does, since parents wait for their children; and how many processes can be out.
-use Rattle.std.proofs.Common.{◌≡◌, ◌≢◌, ◌⊎◌, ℕ, zero, suc, ◌+◌, ◌<◌, ◌≤◌, ◌==◌, inl, inr, cond, Bool, true, false, List, [], ◌∷◌, length, refl, sym, subst, arith}
+use Rattle.std.proofs.Common.{◌≡◌, ◌≢◌, ◌⊎◌, ℕ, zero, suc, ◌+◌, ◌<◌, ◌≤◌, ◌==◌, inl, inr, cond, Bool, true, false, List}
+use Rattle.std.proofs.Common.{[], ◌∷◌, length, refl, sym, subst, arith}
 use Rattle.sp_journal.proofs.BirthLaws.{Lawful, Born}
-use Rattle.sp_code.specs.Control.{Control, Doing, Unborn, Ready, Out, Sending, Receiving, Joining, Laid, Ended, Gone, has_ended}
+use Rattle.sp_code.specs.Control.{Control, Doing, Unborn, Ready, Out, Sending, Receiving, Joining, Laid, Ended, Gone}
+use Rattle.sp_code.specs.Control.{has_ended}
 use Rattle.sp_history.specs.Agreement.{Each, Differ, Among, IsOrderly, HasOuts, IsOut}
 use Rattle.sp_history.specs.Lines.{left_of, IsLive, HasChildren}
 use Rattle.sp_history.proofs.Queues.{each_of, number_or, itself}
@@ -34,13 +36,15 @@ module _ (k : Control) (h : IsOrderly k) (c : HasChildren k) (lawful : Lawful k.
   up_to zero q le l = let e : q ≡ 0 = omega (arith, le) in subst (λ r. IsLive (k.doing r)) e l
   up_to (suc n) q le l = go (number_or q 0) (λ r s i. up_to n r s i)
     where
-      go : (q ≡ 0) ⊎ ((q ≢ 0) × (q == 0 ≡ false)) → ((r : ℕ) → r ≤ n → IsLive (k.doing r) → IsLive (k.doing 0)) → IsLive (k.doing 0)
+      go : (q ≡ 0) ⊎ ((q ≢ 0) × (q == 0 ≡ false)) → ((r : ℕ) → r ≤ n → IsLive (k.doing r) → IsLive (k.doing 0))
+          → IsLive (k.doing 0)
       go (inl is) on = subst (λ r. IsLive (k.doing r)) is l
       go (inr o) on =
           let apart = o.0 in
           let b : Born k.births q = lawful.born q (omega (arith, apart)) (below q l) in
           on b.birth.parent (let less = b.older in omega (arith, less, le))
-          (awaits q (c.children b.birth.parent) (k.doing b.birth.parent) (c.all q b.birth b.is l) (c.count b.birth.parent))
+          (awaits q (c.children b.birth.parent) (k.doing b.birth.parent) (c.all q b.birth b.is l)
+          (c.count b.birth.parent))
 
   pub root_lives : (q : ℕ) → IsLive (k.doing q) → IsLive (k.doing 0)
   root_lives q l = up_to q q (omega arith) l
@@ -87,7 +91,8 @@ less : (p : ℕ) (xs : List ℕ) → Differ xs → Each (λ q. q < suc p) xs →
 less p [] d e = tt {0}
 less p (x ∷ xs) d e = go (number_or p x) (less p xs d.1 e.1)
   where
-    go : (p ≡ x) ⊎ ((p ≢ x) × (p == x ≡ false)) → Each (λ q. q < p) (without p xs) → Each (λ q. q < p) (cond (p == x) xs (x ∷ without p xs))
+    go : (p ≡ x) ⊎ ((p ≢ x) × (p == x ≡ false)) → Each (λ q. q < p) (without p xs)
+        → Each (λ q. q < p) (cond (p == x) xs (x ∷ without p xs))
     go (inl is) h = rw (subst (λ y. p == y ≡ true) is (itself p)) (smaller xs d.0 e.1)
       where
         smaller : (ys : List ℕ) → Each (λ y. y ≢ x) ys → Each (λ q. q < suc p) ys → Each (λ q. q < p) ys
@@ -99,7 +104,8 @@ no_more : (p : ℕ) (xs : List ℕ) → length xs ≤ length (without p xs) + 1
 no_more p [] = omega arith
 no_more p (x ∷ xs) = go (p == x) (no_more p xs)
   where
-    go : (b : Bool) → length xs ≤ length (without p xs) + 1 → length (x ∷ xs) ≤ length (cond b xs (x ∷ without p xs)) + 1
+    go : (b : Bool) → length xs ≤ length (without p xs) + 1
+        → length (x ∷ xs) ≤ length (cond b xs (x ∷ without p xs)) + 1
     go true h = omega arith
     go false h = omega (arith, h)
 
@@ -107,7 +113,10 @@ no_more p (x ∷ xs) = go (p == x) (no_more p xs)
 few_below : (n : ℕ) (xs : List ℕ) → Differ xs → Each (λ q. q < n) xs → length xs ≤ n
 few_below zero [] d e = omega arith
 few_below zero (x ∷ xs) d e = absurd (let l = e.0 in omega (arith, l))
-few_below (suc n) xs d e = let a = few_below n (without n xs) (without_differ n xs d) (less n xs d e) in let b = no_more n xs in omega (arith, a, b)
+few_below (suc n) xs d e = let a = few_below n (without n xs) (without_differ n xs d) (less n xs d e) in
+    let b = no_more n xs in omega (arith, a, b)
 
 pub few_out : (k : Control) → IsOrderly k → HasOuts k → k.out ≤ k.births.processes
-few_out k h o = subst (λ n. n ≤ k.births.processes) o.count (few_below k.births.processes o.outs o.distinct (each_of (λ q. IsOut (k.doing q)) (λ q. q < k.births.processes) o.outs (λ q i. out_there h q i.0 i.1) o.each))
+few_out k h o = subst (λ n. n ≤ k.births.processes) o.count
+    (few_below k.births.processes o.outs o.distinct
+    (each_of (λ q. IsOut (k.doing q)) (λ q. q < k.births.processes) o.outs (λ q i. out_there h q i.0 i.1) o.each))

@@ -1,3 +1,4 @@
+-- None of this belongs to what the program promises: it is for contracts between crates.
 -- Processes that are held, by their numbers: the contracts of `held` cite it.
 use Rattle.std.specs.Prelude.{ℕ, List, [], ◌∷◌, Option, Some, None, slice_get}
 use Rattle.sp_machine.specs.declared.state.State.{State as Proc}

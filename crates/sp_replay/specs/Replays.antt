@@ -1,3 +1,4 @@
+-- None of this belongs to what the program promises: it is for contracts between crates.
 -- What following a journal answers: the contract of `replay`. The machine's system along the journal says it, so that a
 -- journal is accepted exactly where there is one.
 use Rattle.std.specs.Prelude.{◌≡◌, ◌≢◌, ℕ, suc, ◌<◌, List, length, take, Option, Some, None, false, Result, Ok, Err}

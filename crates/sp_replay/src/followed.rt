@@ -7,7 +7,8 @@ ghost use Rattle.sp_kernel.specs.Asks.{IsOpening};
 ghost use Rattle.sp_kernel.specs.Kernels.{setting_of, system_of};
 ghost use Rattle.sp_machine.specs.Procs.{CanTurn, IsRankedFrom};
 ghost use Rattle.sp_replay.specs.Held.{held_at};
-ghost use Rattle.sp_replay.specs.Following.{Follows, Stands, SameRun, RunsOn, WasTurned, IsInHand, Exchanged, Made, CannotCome, with_taken};
+ghost use Rattle.sp_replay.specs.Following.{Follows, Stands, SameRun, RunsOn, WasTurned, IsInHand, Exchanged, Made};
+ghost use Rattle.sp_replay.specs.Following.{CannotCome, with_taken};
 ghost use Rattle.sp_replay.specs.Replays.{Replays, LeadsTo};
 
 use crate::held::{hold, output, pick};
@@ -82,7 +83,8 @@ impl Followed {
         requires run { RunsOn self.old.kernel code.now limits.now }
         requires hand { IsInHand self.old code.now limits.now handed }
         ensures held { self.new.held ≡ self.old.held }
-        ensures exchanged { IfOk result (λ r. Exchanged self.old.kernel handed.proc.number self.old.held r self.new.kernel) }
+        ensures exchanged { IfOk result (λ r. Exchanged self.old.kernel handed.proc.number self.old.held r
+            self.new.kernel) }
     {
         let Ok(()) = self.kernel.give(0, handed) else {
             return Err(Memory);
@@ -105,7 +107,8 @@ impl Followed {
     fn hand_in(&mut self, code: &Code, limits: &Limits, handed: Handed) -> Result<(), Memory>
         requires run { RunsOn self.old.kernel code.now limits.now }
         requires hand { IsInHand self.old code.now limits.now handed }
-        ensures { OnOk result (Stands self.new × ((e : _) × Made self.old.kernel handed.proc.number e self.new.kernel)) }
+        ensures { OnOk result (Stands self.new
+            × ((e : _) × Made self.old.kernel handed.proc.number e self.new.kernel)) }
     {
         let taken = self.exchange(code, limits, handed)?;
         self.keep(taken)?;
@@ -117,7 +120,8 @@ impl Followed {
         requires sound { IsSound code.now }
         requires run { RunsOn self.old.kernel code.now limits.now }
         requires stands { Stands self.old }
-        ensures { IfOk result (λ fits. MatchBool fits (Stands self.new × Made self.old.kernel entry.process entry.event self.new.kernel)
+        ensures { IfOk result (λ fits. MatchBool fits
+            (Stands self.new × Made self.old.kernel entry.process entry.event self.new.kernel)
             (CannotCome self.old.kernel entry)) }
     {
         let Some(proc) = pick(&mut self.held, entry.process) else {

@@ -29,8 +29,8 @@ pub struct Replayed {
 /// Why a journal is not followed.
 #[derive(Clone, Copy, Debug, PartialEq, Eq, Error)]
 pub enum ReplayError {
-    /// The entry with this index, counted from 0, is the first that cannot come next: its process does not run there, or its turn
-    /// makes another event.
+    /// The entry with this index, counted from 0, is the first that cannot come next: its process does not run there,
+    /// or its turn makes another event.
     #[error("entry {0} cannot come next")]
     Unfit(u64),
     /// Memory was refused.
@@ -65,8 +65,9 @@ fn begin(
     Followed::start(alloc, kernel)
 }
 
-/// Runs the code on an input along a journal: each entry is the event of the next turn of its process. Each process that can run is
-/// held here, and is turned only when an entry names it. What is made in this call takes its memory from `alloc`. The code is sound.
+/// Runs the code on an input along a journal: each entry is the event of the next turn of its process. Each process
+/// that can run is held here, and is turned only when an entry names it. What is made in this call takes its memory
+/// from `alloc`. The code is sound.
 ///
 /// The end and the output are those of the machine after the whole journal. `Unfit` comes only where the machine is not
 /// defined along it, with the first entry that does not fit; there nothing else comes, but where memory is refused.

@@ -1,3 +1,4 @@
+-- None of this belongs to what the program promises: it is for contracts between crates.
 -- What each process does after the entries of a journal, by the rules of the kernel. The report of those that wait is
 -- said by it, as a fold over the entries.
 use Rattle.std.specs.Prelude.{ℕ, ◌-◌, ◌==◌, ◌&&◌, Bool, true, false, cond, not, List, [], ◌∷◌, Option, Some, None}
@@ -22,7 +23,11 @@ pub record Conditions : Type 0 where
 
 -- the root runs
 abbrev pub first_conditions : Conditions
-first_conditions = record { of = at_key ◌==◌ 0 condition.Running (λ q. condition.Unstarted); pending = λ c. None; faulted = false }
+first_conditions = record {
+  of = at_key ◌==◌ 0 condition.Running (λ q. condition.Unstarted);
+  pending = λ c. None;
+  faulted = false;
+}
 
 -- process p is in this condition
 abbrev pub becomes : Conditions → ℕ → Condition → Conditions
@@ -30,13 +35,18 @@ becomes t p k = record t { of = at_key ◌==◌ p k t.of }
 
 -- process p waits for n children, which run
 abbrev pub forked : Births → Conditions → ℕ → ℕ → Conditions
-forked s t p n = record t { of = λ q. cond (is_next s n q) condition.Running (at_key ◌==◌ p (condition.Joining s.processes n n) t.of q) }
+forked s t p n = record t {
+  of = λ q. cond (is_next s n q) condition.Running
+      (at_key ◌==◌ p (condition.Joining s.processes n n) t.of q);
+}
 
 -- an offer waits where none is pending, and meets one of the other way; where one of its own way is pending it changes
 -- nothing
 abbrev pub offered : Conditions → Way → ℕ → ℕ → Option Pending → Conditions
-offered t w p c None = record (becomes t p (condition.Offering w c)) { pending = at_key ◌==◌ c (Some (record { way = w; process = p })) t.pending }
-offered t w p c (Some o) = cond (same_way w o.way) t (record (becomes t o.process condition.Running) { pending = at_key ◌==◌ c None t.pending })
+offered t w p c None = record (becomes t p (condition.Offering w c))
+    { pending = at_key ◌==◌ c (Some (record { way = w; process = p })) t.pending }
+offered t w p c (Some o) = cond (same_way w o.way) t
+    (record (becomes t o.process condition.Running) { pending = at_key ◌==◌ c None t.pending })
 
 -- one child less has to end; after the last one the process runs
 abbrev pub less_left : ℕ → ℕ → ℕ → Condition
@@ -102,7 +112,8 @@ noted e t = record t { faulted = cond (is_fault e) true t.faulted }
 
 -- after this entry; that of a process which does not run, or at the wrong side of a fault, changes nothing
 abbrev pub after : Births → Conditions → Entry → Conditions
-after s t e = noted e.event (cond (is_running (t.of e.process) && is_timely t.faulted e.event) (changed s t e.process e.event) t)
+after s t e = noted e.event (cond (is_running (t.of e.process) && is_timely t.faulted e.event)
+    (changed s t e.process e.event) t)
 
 -- after all these entries
 abbrev pub after_all : Births → Conditions → List Entry → Conditions

@@ -1,3 +1,4 @@
+-- None of this belongs to what the program promises: it is for contracts between crates.
 -- What a table of conditions holds, and that what processes wait for is there. No public contract cites these; the
 -- parts of the report of those that wait keep them.
 use Rattle.std.specs.Prelude.{ℕ, ◌+◌, ◌<◌, ◌≤◌, nat_eq, unwrap_or}
@@ -10,7 +11,11 @@ use Rattle.sp_report.specs.Conditions.{Conditions}
 
 -- the table as the definition sees it
 abbrev pub seen : Table → Conditions
-seen t = record { of = λ q. unwrap_or (hash.get nat_eq t.of q) condition.Unstarted; pending = λ c. hash.get nat_eq t.pending c; faulted = t.faulted }
+seen t = record {
+  of = λ q. unwrap_or (hash.get nat_eq t.of q) condition.Unstarted;
+  pending = λ c. hash.get nat_eq t.pending c;
+  faulted = t.faulted;
+}
 
 -- what a process waits for is there
 abbrev pub Fits : Births → Condition → Type 0

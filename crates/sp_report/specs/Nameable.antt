@@ -1,3 +1,4 @@
+-- None of this belongs to what the program promises: it is for contracts between crates.
 -- That a journal is nameable is a fact without choices, as a ghost field of a struct has to be: the watchers keep it
 -- beside their journals.
 use Rattle.std.specs.Prelude.{ℕ, List, [], ◌∷◌}
@@ -20,4 +21,5 @@ numbers_prop s p event.Pause = Unit-prop
 -- so for whole journals
 pub nameable_prop : (s : Births) (es : List Entry) → IsProp (NameableFrom s es)
 nameable_prop s [] = Unit-prop
-nameable_prop s (e ∷ es) = ×_prop (×_prop le_prop (numbers_prop s e.process e.event)) (nameable_prop (after_entry s e) es)
+nameable_prop s (e ∷ es) = ×_prop (×_prop le_prop (numbers_prop s e.process e.event))
+    (nameable_prop (after_entry s e) es)

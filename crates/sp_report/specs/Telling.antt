@@ -1,3 +1,4 @@
+-- All of this belongs to what the program promises (docs/promise.txt).
 -- Which watchers are told, by the option `--show`, and what they tell together: the contract of `tell` promises it, and
 -- the output of the top call is said by it. What a watcher is, its trait says: what it was told, its text over every
 -- list of entries, and its title. The definitions take these as functions, so that contracts name the texts of a whole
@@ -24,4 +25,5 @@ AreFresh told watchers = All (λ w. told w ≡ []) watchers
 
 -- the texts of the chosen watchers over a list of entries, in the order in which they stand
 abbrev pub reports : {W E : Type 0} → (W → List E → List ℕ) → (W → List ℕ) → List W → Show → List E → List ℕ
-reports text title watchers show entries = flat_map (λ w. text w entries) (filter (λ w. is_chosen show (title w)) watchers)
+reports text title watchers show entries = flat_map (λ w. text w entries)
+    (filter (λ w. is_chosen show (title w)) watchers)

@@ -1,3 +1,4 @@
+-- None of this belongs to what the program promises: it is for contracts between crates.
 -- The text of a timeline: each entry on a line of its own. The contract of the timeline promises it.
 use Rattle.std.specs.Prelude.{◌==◌, ◌+◌, ℕ, Bool, true, false, List, [], ◌∷◌, ◌++◌, codes, decimal}
 use Rattle.sp_journal.specs.declared.entry.Entry.{Entry}
@@ -7,7 +8,8 @@ use Rattle.sp_journal.specs.Texts.{entry_text}
 -- the lines of the entries from index i on, as `3 0/0.1 send 0#0`
 abbrev pub timeline_lines : ℕ → Births → List Entry → List ℕ
 timeline_lines i s [] = []
-timeline_lines i s (e ∷ es) = (decimal i ++ codes " " ++ entry_text s e ++ codes "\n") ++ timeline_lines (i + 1) (after_entry s e) es
+timeline_lines i s (e ∷ es) = (decimal i ++ codes " " ++ entry_text s e ++ codes "\n")
+    ++ timeline_lines (i + 1) (after_entry s e) es
 
 -- the name of the report, and the lines
 abbrev pub timeline_text : List Entry → List ℕ

@@ -1,3 +1,4 @@
+-- None of this belongs to what the program promises: it is for contracts between crates.
 -- The text on the processes that wait: who waits for what, in the order of names. The contract of that report promises
 -- it.
 use Rattle.std.specs.Prelude.{ℕ, Bool, true, false, not, List, [], ◌++◌, codes, filter}
@@ -61,4 +62,5 @@ waiting s t = filter (λ q. is_waiting (t.of q)) (numbers 0 s.processes)
 
 -- a line for each process that waits, in order of names
 abbrev pub waiting_text : List Entry → List ℕ
-waiting_text es = codes "waiting\n" ++ waiting_lines (births es) (conditions es) (in_order (births es) (waiting (births es) (conditions es)))
+waiting_text es = codes "waiting\n" ++ waiting_lines (births es) (conditions es)
+    (in_order (births es) (waiting (births es) (conditions es)))

@@ -6,8 +6,8 @@ ghost use Rattle.sp_report.specs.Telling.{AreFresh};
 use crate::watcher::Watcher;
 use std::alloc::{AllocError, Global};
 
-/// The four watchers in the order in which their reports stand, each at the place of its name. They have been told nothing.
-/// The error is want of memory alone.
+/// The four watchers in the order in which their reports stand, each at the place of its name. They have been told
+/// nothing. The error is want of memory alone.
 pub fn in_order(
     alloc: Global,
     timeline: Box<dyn Watcher>,

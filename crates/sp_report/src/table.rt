@@ -3,7 +3,8 @@
 ghost use Rattle.std.specs.Prelude.{◌≡◌, ◌∷◌, [], IfOk, OnOk};
 ghost use Rattle.sp_journal.specs.Births.{CanFollow, births};
 ghost use Rattle.sp_journal.specs.Ledger.{IsLedger};
-ghost use Rattle.sp_report.specs.Conditions.{after, becomes, changed, first_conditions, forked, less_left, offered, reported};
+ghost use Rattle.sp_report.specs.Conditions.{after, becomes, changed, first_conditions, forked, less_left, offered};
+ghost use Rattle.sp_report.specs.Conditions.{reported};
 ghost use Rattle.sp_report.specs.Fits.{seen};
 
 use crate::condition::{Condition, Pending, is_fault, is_timely};

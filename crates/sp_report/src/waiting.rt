@@ -8,7 +8,8 @@ ghost use Rattle.sp_report.specs.Conditions.{conditions};
 ghost use Rattle.sp_report.specs.Fits.{AllFit, Fits, seen};
 ghost use Rattle.sp_report.specs.InOrder.{in_order};
 ghost use Rattle.sp_report.specs.Nameable.{nameable_prop};
-ghost use Rattle.sp_report.specs.Waiting.{children_text, left_of, wait_text, waiting, waiting_line, waiting_lines, waiting_text};
+ghost use Rattle.sp_report.specs.Waiting.{children_text, left_of, wait_text, waiting, waiting_line, waiting_lines};
+ghost use Rattle.sp_report.specs.Waiting.{waiting_text};
 
 use crate::condition::Condition;
 use crate::table::Table;

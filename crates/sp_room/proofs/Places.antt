@@ -10,7 +10,14 @@ module _ {O A G N : Type 0} {g : Ghosts O A G N} where
   stays_of room t u same is = (same.table ∙ is.0, same.opening ∙ is.1)
 
   pub stays_at : (n k : ℕ) (t u : RoomSeat O A G N g) → SamePlace t u → IsSeatAt n k t → IsSeatAt n k u
-  stays_at n k t u same is = record { number = same.number ∙ is.number; from = same.from ∙ is.from; joined = same.joined ∙ is.joined; looked = same.looked ∙ is.looked; last = λ z. same.dealt ∙ is.last z }
+  stays_at n k t u same is = record {
+    number = same.number ∙ is.number;
+    from = same.from ∙ is.from;
+    joined = same.joined
+        ∙ is.joined;
+    looked = same.looked ∙ is.looked;
+    last = λ z. same.dealt ∙ is.last z;
+  }
 
   pub same_again : (t u w : RoomSeat O A G N g) → SamePlace t u → SamePlace u w → SamePlace t w
   same_again t u w one two = record {

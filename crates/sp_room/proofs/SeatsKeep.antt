@@ -1,5 +1,7 @@
 -- Dealing out seats, taking them in, and the end: each keeps the rule of the room's table.
-use Rattle.std.proofs.Common.{◌≡◌, ◌≢◌, ◌⊎◌, inl, inr, ⊎_elim, ℕ, zero, suc, ◌+◌, ◌-◌, ◌<◌, ◌≤◌, List, [], ◌∷◌, ◌++◌, length, get_or, set, refl, sym, ap, ◌∙◌, subst, arith, length-set, length-append, true≢false, Option, Some, true, false}
+use Rattle.std.proofs.Common.{◌≡◌, ◌≢◌, ◌⊎◌, inl, inr, ⊎_elim, ℕ, zero, suc, ◌+◌, ◌-◌, ◌<◌, ◌≤◌, List, [], ◌∷◌, ◌++◌}
+use Rattle.std.proofs.Common.{length, get_or, set, refl, sym, ap, ◌∙◌, subst, arith, length-set, length-append}
+use Rattle.std.proofs.Common.{true≢false, Option, Some, true, false}
 use Rattle.std.proofs.lemmas.Option.{same_Some}
 use mathlib.Core.Logic.{dite}
 use mathlib.Core.Option.{some, some-injective, some-ne-none}
@@ -10,10 +12,12 @@ use Rattle.atomic_table.proofs.Lists.{at_set, set_here, set_else, at_longer}
 use Rattle.sp_room.specs.declared.desk.Desk.{Desk}
 use Rattle.sp_room.specs.declared.view.View.{View}
 use Rattle.sp_room.specs.History.{StartsWith, notes_by, LeadsTo}
-use Rattle.sp_room.specs.Roomed.{Filed, St, Sat, Knows, Roomed, first_view, dealt_out, newcomer, taking, spent_view, newborn, claims_of, IsNewAt}
+use Rattle.sp_room.specs.Roomed.{Filed, St, Sat, Knows, Roomed, first_view, dealt_out, newcomer, taking, spent_view}
+use Rattle.sp_room.specs.Roomed.{newborn, claims_of, IsNewAt}
 use Rattle.sp_room.proofs.Histories.{at_inside, claims_set, claims_end}
 
-pub at_end : {X : Type 0} (l : List X) (a b : X) (j : ℕ) → get_elem? (l ++ a ∷ []) j ≡ some b → (get_elem? l j ≡ some b) ⊎ ((j ≡ length l) × (a ≡ b))
+pub at_end : {X : Type 0} (l : List X) (a b : X) (j : ℕ) → get_elem? (l ++ a ∷ []) j ≡ some b → (get_elem? l j ≡ some b)
+    ⊎ ((j ≡ length l) × (a ≡ b))
 at_end [] a b zero e = inr (refl, some-injective a b e)
 at_end [] a b (suc j) e = absurd (some-ne-none b (sym e))
 at_end (x ∷ xs) a b zero e = inl e
@@ -24,7 +28,8 @@ at_some [] i h = absurd (omega arith)
 at_some (x ∷ xs) zero h = (x, refl)
 at_some (x ∷ xs) (suc i) h = at_some xs i (omega arith)
 
-module _ {O A G N : Type 0} (opens : O → Type 0) (steps : O → ℕ → A → O → G → Option N → Type 0) (author : N → ℕ) (start : O) where
+module _ {O A G N : Type 0} (opens : O → Type 0) (steps : O → ℕ → A → O → G → Option N → Type 0) (author : N → ℕ)
+    (start : O) where
   abbrev V : Type 0
   V = View O N
 
@@ -35,8 +40,10 @@ module _ {O A G N : Type 0} (opens : O → Type 0) (steps : O → ℕ → A → 
   turn s = get_or s.words 0 0
 
   -- what a seat knows stays, where the seats that were taken in stay so, and it deals with as many seats
-  stays : (log : List N) (t : ℕ) (old new : List V) (j : ℕ) (u : V) → Knows author start log t old j u → ((k : ℕ) (x : V) → get_elem? old k ≡ some x → x.spent ≡ true → get_elem? new k ≡ some x)
-      → (u.dealt ≢ 0 → (u.dealt ≡ length new) × (j + 1 ≡ length new)) → claims_of new ≤ claims_of old → Knows author start log t new j u
+  stays : (log : List N) (t : ℕ) (old new : List V) (j : ℕ) (u : V) → Knows author start log t old j u
+      → ((k : ℕ) (x : V) → get_elem? old k ≡ some x → x.spent ≡ true → get_elem? new k ≡ some x)
+      → (u.dealt ≢ 0 → (u.dealt ≡ length new) × (j + 1 ≡ length new)) → claims_of new ≤ claims_of old
+      → Knows author start log t new j u
   stays log t old new j u k there counts less = record {
     opened = k.opened;
     numbered = k.numbered;
@@ -52,7 +59,8 @@ module _ {O A G N : Type 0} (opens : O → Type 0) (steps : O → ℕ → A → 
   one : (l : List V) (i : ℕ) (x y : V) → get_elem? l i ≡ some x → get_elem? l i ≡ some y → x ≡ y
   one l i x y a b = some-injective x y (sym a ∙ b)
 
-  pub opens_room : (d : Filed O N) → opens start → d.value.object ≡ start → d.value.notes.items ≡ [] → d.value.reserved ≡ 64 → 64 ≤ d.value.notes.cap → Rule (opening (0 ∷ 0 ∷ []) (Some d ∷ []) (first_view start))
+  pub opens_room : (d : Filed O N) → opens start → d.value.object ≡ start → d.value.notes.items ≡ []
+      → d.value.reserved ≡ 64 → 64 ≤ d.value.notes.cap → Rule (opening (0 ∷ 0 ∷ []) (Some d ∷ []) (first_view start))
   opens_room d fine is empty kept space = record {
     fine = fine;
     log = [];
@@ -66,27 +74,36 @@ module _ {O A G N : Type 0} (opens : O → Type 0) (steps : O → ℕ → A → 
     each = first;
     nobody = λ _ _. refl;
   } where
-    first : (j : ℕ) (v : V) → get_elem? (first_view start ∷ []) j ≡ some v → v.spent ≡ false → Knows author start [] 0 (first_view start ∷ []) j v
-    first zero v e on = subst (λ (z : V). Knows author start [] 0 (first_view start ∷ []) 0 z) (some-injective (first_view start) v e) record {
-      opened = refl;
-      numbered = refl;
-      seen = ([], refl);
-      own = refl;
-      holds = λ no. absurd (true≢false (sym no));
-      counts = λ _. (refl, refl);
-      joins = refl;
-      taken_in = λ i own e. absurd (some-ne-none own (sym e));
-      had_seen = λ i l e. absurd (some-ne-none l (sym e));
-    }
+    first : (j : ℕ) (v : V) → get_elem? (first_view start ∷ []) j ≡ some v → v.spent ≡ false
+        → Knows author start [] 0 (first_view start ∷ []) j v
+    first zero v e on = subst (λ (z : V). Knows author start [] 0 (first_view start ∷ []) 0 z)
+        (some-injective (first_view start) v e) record {
+          opened = refl;
+          numbered = refl;
+          seen = ([], refl);
+          own = refl;
+          holds = λ no. absurd (true≢false (sym no));
+          counts = λ _. (refl, refl);
+          joins = refl;
+          taken_in = λ i own e. absurd (some-ne-none own (sym e));
+          had_seen = λ i l e. absurd (some-ne-none l (sym e));
+        }
     first (suc j) v e on = absurd (some-ne-none v (sym e))
 
-  pub deals : (id : ℕ) (v : V) → v.spent ≡ false → v.dealt ≢ 0 → 0 < v.claims → Splits Rule id v (dealt_out v) (newcomer v)
-  deals id v active dealing claim s r at = let k = r.each id v at active in let n : ℕ = length s.views in let old : List V = set s.views id (dealt_out v) in let new : List V = old ++ newcomer v ∷ [] in
-      let c = k.counts dealing in let wide : length old ≡ n = length-set s.views id (dealt_out v) in let long : length new ≡ length old + 1 = length-append old (newcomer v ∷ []) in
+  pub deals : (id : ℕ) (v : V) → v.spent ≡ false → v.dealt ≢ 0 → 0 < v.claims
+      → Splits Rule id v (dealt_out v) (newcomer v)
+  deals id v active dealing claim s r at = let k = r.each id v at active in let n : ℕ = length s.views in
+      let old : List V = set s.views id (dealt_out v) in let new : List V = old ++ newcomer v ∷ [] in
+      let c = k.counts dealing in let wide : length old ≡ n = length-set s.views id (dealt_out v) in
+      let long : length new ≡ length old + 1 = length-append old (newcomer v ∷ []) in
       let inside : id < n = at_inside s.views id v at in
-      let less : claims_of new ≤ claims_of s.views = omega (arith, claim, claims_set s.views id v (dealt_out v) at, claims_end old (newcomer v)) in
+      let less : claims_of new ≤ claims_of s.views =
+      omega (arith, claim, claims_set s.views id v (dealt_out v) at, claims_end old (newcomer v)) in
       let there : (j : ℕ) (x : V) → get_elem? s.views j ≡ some x → x.spent ≡ true → get_elem? new j ≡ some x
-      = λ j x e gone. at_longer old (newcomer v ∷ []) j x (set_else s.views id j (dealt_out v) (λ same. true≢false (sym gone ∙ (ap (λ (z : V). z.spent) (one s.views id x v (ap (get_elem? s.views) (sym same) ∙ e) at) ∙ active))) ∙ e) in record {
+      = λ j x e gone. at_longer old (newcomer v ∷ []) j x
+      (set_else s.views id j (dealt_out v)
+      (λ same. true≢false (sym gone ∙ (ap (λ (z : V). z.spent)
+      (one s.views id x v (ap (get_elem? s.views) (sym same) ∙ e) at) ∙ active))) ∙ e) in record {
         fine = r.fine;
         log = r.log;
         last = r.last;
@@ -96,12 +113,24 @@ module _ {O A G N : Type 0} (opens : O → Type 0) (steps : O → ℕ → A → 
         count = r.count;
         free = λ z. let t = r.free z in (t.0, t.1, t.2, t.3, omega (arith, t.4, less), t.5);
         taken = λ j e. let t = r.taken j e in dite (ℕ_discrete j id)
-            (λ same. let is : t.0 ≡ v = one s.views id t.0 v (ap (get_elem? s.views) (sym same) ∙ t.1) at in
-            (dealt_out v, at_longer old (newcomer v ∷ []) j (dealt_out v) (ap (get_elem? old) same ∙ set_here s.views id (dealt_out v) inside), ap (λ (z : V). z.holding) (sym is) ∙ t.2, active))
-            (λ ne. (t.0, at_longer old (newcomer v ∷ []) j t.0 (set_else s.views id j (dealt_out v) ne ∙ t.1), t.2, t.3));
+            (λ same. let is : t.0 ≡ v = one s.views id t.0 v (ap (get_elem? s.views) (sym same) ∙ t.1) at in (
+              dealt_out v,
+              at_longer old (newcomer v ∷ []) j (dealt_out v)
+                  (ap (get_elem? old) same ∙ set_here s.views id (dealt_out v) inside),
+              ap (λ (z : V). z.holding) (sym is)
+                  ∙ t.2,
+              active,
+            ))
+            (λ ne. (
+              t.0,
+              at_longer old (newcomer v ∷ []) j t.0 (set_else s.views id j (dealt_out v) ne ∙ t.1),
+              t.2,
+              t.3,
+            ));
         each = λ j u e on. ⊎_elim
             (λ (h : get_elem? old j ≡ some u). ⊎_elim
-            (λ (p : (j ≡ id) × (dealt_out v ≡ u)). subst (λ (z : ℕ × V). Knows author start r.log (turn s) new z.0 z.1) (λ i. (sym p.0 i, p.1 i))
+            (λ (p : (j ≡ id) × (dealt_out v ≡ u)). subst (λ (z : ℕ × V). Knows author start r.log (turn s) new z.0 z.1)
+            (λ i. (sym p.0 i, p.1 i))
             (stays r.log (turn s) s.views new id (dealt_out v) record {
               opened = k.opened;
               numbered = k.numbered;
@@ -113,7 +142,8 @@ module _ {O A G N : Type 0} (opens : O → Type 0) (steps : O → ℕ → A → 
               taken_in = k.taken_in;
               had_seen = k.had_seen;
             } there (λ z. absurd (z refl)) less))
-            (λ (p : (j ≢ id) × (get_elem? s.views j ≡ some u)). stays r.log (turn s) s.views new j u (r.each j u p.1 on) there
+            (λ (p : (j ≢ id) × (get_elem? s.views j ≡ some u)). stays r.log (turn s) s.views new j u (r.each j u p.1 on)
+            there
             (λ z. let d = (r.each j u p.1 on).counts z in absurd (p.0 (omega (arith, d.1, c.1)))) less)
             (at_set s.views id j (dealt_out v) u h))
             (λ (h : (j ≡ length old) × (newcomer v ≡ u)). let here : j ≡ v.dealt = h.0 ∙ (wide ∙ sym c.0) in
@@ -132,17 +162,27 @@ module _ {O A G N : Type 0} (opens : O → Type 0) (steps : O → ℕ → A → 
         nobody = λ j le. r.nobody j (omega (arith, le, wide, long));
       }
 
-  pub joins : (id : ℕ) (v : V) (other : ℕ) (w : V) → v.spent ≡ false → v.holding ≡ false → w.spent ≡ false → w.holding ≡ false → w.number + 1 ≡ v.from
+  pub joins : (id : ℕ) (v : V) (other : ℕ) (w : V) → v.spent ≡ false → v.holding ≡ false → w.spent ≡ false
+      → w.holding ≡ false → w.number + 1 ≡ v.from
       → Joins Rule id v other w (taking v w) spent_view
-  joins id v other w active idle there_active there_idle next s r at apart at_other = let k = r.each id v at active in let both : V = taking v w in let mid : List V = set s.views id both in let new : List V = set mid other spent_view in
-      let was : get_elem? s.views other ≡ some w = sym (set_else s.views id other both apart) ∙ at_other in let l = r.each other w was there_active in
+  joins id v other w active idle there_active there_idle next s r at apart at_other = let k = r.each id v at active in
+      let both : V = taking v w in let mid : List V = set s.views id both in
+      let new : List V = set mid other spent_view in
+      let was : get_elem? s.views other ≡ some w = sym (set_else s.views id other both apart) ∙ at_other in
+      let l = r.each other w was there_active in
       let wide : length new ≡ length s.views = length-set mid other spent_view ∙ length-set s.views id both in
-      let less : claims_of new ≤ claims_of s.views = omega (arith, claims_set s.views id v both at, claims_set mid other w spent_view at_other) in
-      let inside : other < length mid = at_inside mid other w at_other in let gone : get_elem? new other ≡ some spent_view = set_here mid other spent_view inside in
-      let stay : (j : ℕ) (x : V) → j ≢ id → j ≢ other → get_elem? s.views j ≡ some x → get_elem? new j ≡ some x = λ j x a b e. set_else mid other j spent_view b ∙ (set_else s.views id j both a ∙ e) in
+      let less : claims_of new ≤ claims_of s.views =
+      omega (arith, claims_set s.views id v both at, claims_set mid other w spent_view at_other) in
+      let inside : other < length mid = at_inside mid other w at_other in
+      let gone : get_elem? new other ≡ some spent_view = set_here mid other spent_view inside in
+      let stay : (j : ℕ) (x : V) → j ≢ id → j ≢ other → get_elem? s.views j ≡ some x
+      → get_elem? new j ≡ some x = λ j x a b e. set_else mid other j spent_view b
+      ∙ (set_else s.views id j both a ∙ e) in
       let there : (j : ℕ) (x : V) → get_elem? s.views j ≡ some x → x.spent ≡ true → get_elem? new j ≡ some x
-      = λ j x e sp. stay j x (λ same. true≢false (sym sp ∙ (ap (λ (z : V). z.spent) (one s.views id x v (ap (get_elem? s.views) (sym same) ∙ e) at) ∙ active)))
-      (λ same. true≢false (sym sp ∙ (ap (λ (z : V). z.spent) (one s.views other x w (ap (get_elem? s.views) (sym same) ∙ e) was) ∙ there_active))) e in record {
+      = λ j x e sp. stay j x (λ same. true≢false
+      (sym sp ∙ (ap (λ (z : V). z.spent) (one s.views id x v (ap (get_elem? s.views) (sym same) ∙ e) at) ∙ active)))
+      (λ same. true≢false (sym sp ∙ (ap (λ (z : V). z.spent)
+      (one s.views other x w (ap (get_elem? s.views) (sym same) ∙ e) was) ∙ there_active))) e in record {
         fine = r.fine;
         log = r.log;
         last = r.last;
@@ -153,15 +193,18 @@ module _ {O A G N : Type 0} (opens : O → Type 0) (steps : O → ℕ → A → 
         free = λ z. let t = r.free z in (t.0, t.1, t.2, t.3, omega (arith, t.4, less), t.5);
         taken = λ j e. let t = r.taken j e in (
           t.0,
-          stay j t.0 (λ same. true≢false (sym t.2 ∙ (ap (λ (z : V). z.holding) (one s.views id t.0 v (ap (get_elem? s.views) (sym same) ∙ t.1) at) ∙ idle)))
-              (λ same. true≢false (sym t.2 ∙ (ap (λ (z : V). z.holding) (one s.views other t.0 w (ap (get_elem? s.views) (sym same) ∙ t.1) was) ∙ there_idle))) t.1,
+          stay j t.0 (λ same. true≢false (sym t.2
+              ∙ (ap (λ (z : V). z.holding) (one s.views id t.0 v (ap (get_elem? s.views) (sym same) ∙ t.1) at) ∙ idle)))
+              (λ same. true≢false (sym t.2 ∙ (ap (λ (z : V). z.holding)
+              (one s.views other t.0 w (ap (get_elem? s.views) (sym same) ∙ t.1) was) ∙ there_idle))) t.1,
           t.2,
           t.3,
         );
         each = λ j u e on. ⊎_elim
             (λ (p : (j ≡ other) × (spent_view ≡ u)). absurd (true≢false (ap (λ (z : V). z.spent) p.1 ∙ on)))
             (λ (p : (j ≢ other) × (get_elem? mid j ≡ some u)). ⊎_elim
-            (λ (q : (j ≡ id) × (both ≡ u)). subst (λ (z : ℕ × V). Knows author start r.log (turn s) new z.0 z.1) (λ i. (sym q.0 i, q.1 i)) record {
+            (λ (q : (j ≡ id) × (both ≡ u)). subst (λ (z : ℕ × V). Knows author start r.log (turn s) new z.0 z.1)
+            (λ i. (sym q.0 i, q.1 i)) record {
               opened = k.opened;
               numbered = k.numbered;
               seen = k.seen;
@@ -172,46 +215,73 @@ module _ {O A G N : Type 0} (opens : O → Type 0) (steps : O → ℕ → A → 
               taken_in = took r.log (turn s) s.views new k l next gone there;
               had_seen = looked_too r.log (turn s) s.views k l;
             })
-            (λ (q : (j ≢ id) × (get_elem? s.views j ≡ some u)). stays r.log (turn s) s.views new j u (r.each j u q.1 on) there
+            (λ (q : (j ≢ id) × (get_elem? s.views j ≡ some u)). stays r.log (turn s) s.views new j u (r.each j u q.1 on)
+            there
             (λ z. let c = (r.each j u q.1 on).counts z in (c.0 ∙ sym wide, c.1 ∙ sym wide)) less)
             (at_set s.views id j both u p.1))
             (at_set mid other j spent_view u e);
         nobody = λ j le. r.nobody j (subst (λ n. n ≤ j) wide le);
       } where
-        took : (log : List N) (t : ℕ) (old new : List V) → Knows author start log t old id v → Knows author start log t old other w → w.number + 1 ≡ v.from → get_elem? new other ≡ some spent_view
-            → ((j : ℕ) (x : V) → get_elem? old j ≡ some x → x.spent ≡ true → get_elem? new j ≡ some x) → (i : ℕ) (own : List N) → get_elem? (w.own ∷ v.joined) i ≡ some own
-            → (notes_by author (w.number + i) log ≡ own) × (x : V) × (get_elem? new (w.number + i) ≡ some x) × (x.spent ≡ true)
-        took log t old new k l next gone there zero own e = let here : w.number + 0 ≡ other = omega (arith, l.numbered) in
-            (ap (λ n. notes_by author n log) here ∙ (l.own ∙ some-injective w.own own e), spent_view, ap (get_elem? new) here ∙ gone, refl)
-        took log t old new k l next gone there (suc i) own e = let h = k.taken_in i own e in let here : w.number + suc i ≡ v.from + i = omega (arith, next) in
-            (ap (λ n. notes_by author n log) here ∙ h.0, h.1, ap (get_elem? new) here ∙ there (v.from + i) h.1 h.2 h.3, h.3)
+        took : (log : List N) (t : ℕ) (old new : List V) → Knows author start log t old id v
+            → Knows author start log t old other w → w.number + 1 ≡ v.from → get_elem? new other ≡ some spent_view
+            → ((j : ℕ) (x : V) → get_elem? old j ≡ some x → x.spent ≡ true → get_elem? new j ≡ some x)
+            → (i : ℕ) (own : List N) → get_elem? (w.own ∷ v.joined) i ≡ some own
+            → (notes_by author (w.number + i) log ≡ own) × (x : V) × (get_elem? new (w.number + i) ≡ some x)
+            × (x.spent ≡ true)
+        took log t old new k l next gone there zero own e = let here : w.number + 0 ≡ other =
+            omega (arith, l.numbered) in (
+              ap (λ n. notes_by author n log) here ∙ (l.own ∙ some-injective w.own own e),
+              spent_view,
+              ap (get_elem? new) here ∙ gone,
+              refl,
+            )
+        took log t old new k l next gone there (suc i) own e = let h = k.taken_in i own e in
+            let here : w.number + suc i ≡ v.from + i = omega (arith, next) in (
+              ap (λ n. notes_by author n log) here ∙ h.0,
+              h.1,
+              ap (get_elem? new) here ∙ there (v.from + i) h.1 h.2 h.3,
+              h.3,
+            )
 
-        looked_too : (log : List N) (t : ℕ) (old : List V) → Knows author start log t old id v → Knows author start log t old other w → (i : ℕ) (x : List N) → get_elem? (w.seen ∷ v.looked) i ≡ some x → StartsWith log x
+        looked_too : (log : List N) (t : ℕ) (old : List V) → Knows author start log t old id v
+            → Knows author start log t old other w → (i : ℕ) (x : List N) → get_elem? (w.seen ∷ v.looked) i ≡ some x
+            → StartsWith log x
         looked_too log t old k l zero x e = subst (StartsWith log) (some-injective w.seen x e) l.seen
         looked_too log t old k l (suc i) x e = k.had_seen i x e
 
   -- at the end, where one seat has taken in all others
-  pub all_home : (s : St O N) (r : Rule s) (id : ℕ) (v : V) → get_elem? s.views id ≡ some v → v.spent ≡ false → v.holding ≡ false → v.from ≡ 0 → v.dealt ≢ 0 → turn s ≡ 0
+  pub all_home : (s : St O N) (r : Rule s) (id : ℕ) (v : V) → get_elem? s.views id ≡ some v → v.spent ≡ false
+      → v.holding ≡ false → v.from ≡ 0 → v.dealt ≢ 0 → turn s ≡ 0
   all_home s r id v at active idle from deals = dite (ℕ_discrete (turn s) 0) (λ z. z)
-      (λ held. let j : ℕ = turn s - 1 in let k = r.each id v at active in let t = r.taken j (omega (arith, held)) in let c = k.counts deals in let here : j < length s.views = at_inside s.views j t.0 t.1 in
+      (λ held. let j : ℕ = turn s - 1 in let k = r.each id v at active in let t = r.taken j (omega (arith, held)) in
+      let c = k.counts deals in let here : j < length s.views = at_inside s.views j t.0 t.1 in
       absurd (dite (ℕ_discrete j id)
-      (λ same. true≢false (sym t.2 ∙ (ap (λ (z : V). z.holding) (one s.views id t.0 v (ap (get_elem? s.views) (sym same) ∙ t.1) at) ∙ idle)))
-      (λ ne. let g = at_some v.joined j (omega (arith, ne, here, c.1, k.joins, from)) in let h = k.taken_in j g.0 g.1 in let at_j : v.from + j ≡ j = omega (arith, from) in
-      true≢false (sym h.3 ∙ (ap (λ (z : V). z.spent) (one s.views j h.1 t.0 (ap (get_elem? s.views) (sym at_j) ∙ h.2) t.1) ∙ t.3)))))
+      (λ same. true≢false (sym t.2 ∙ (ap (λ (z : V). z.holding)
+      (one s.views id t.0 v (ap (get_elem? s.views) (sym same) ∙ t.1) at) ∙ idle)))
+      (λ ne. let g = at_some v.joined j (omega (arith, ne, here, c.1, k.joins, from)) in let h = k.taken_in j g.0 g.1 in
+      let at_j : v.from + j ≡ j = omega (arith, from) in
+      true≢false (sym h.3 ∙ (ap (λ (z : V). z.spent)
+      (one s.views j h.1 t.0 (ap (get_elem? s.views) (sym at_j) ∙ h.2) t.1) ∙ t.3)))))
 
   -- what was laid back, and whose notes are whose
-  pub settles : (words : List ℕ) (slots : List (Option (Filed O N))) (id : ℕ) (v : V) (x : Option (Filed O N)) → Final (Seen Rule id v) words slots → v.spent ≡ false → v.holding ≡ false → v.from ≡ 0 → v.dealt ≢ 0
-      → get_elem? slots 0 ≡ some x → (d : Filed O N) × (x ≡ Some d) × LeadsTo steps start d.value.notes.items d.value.object
-      × ((k : ℕ) (own : List N) → get_elem? (v.joined ++ v.own ∷ []) k ≡ some own → notes_by author k d.value.notes.items ≡ own)
+  pub settles : (words : List ℕ) (slots : List (Option (Filed O N))) (id : ℕ) (v : V) (x : Option (Filed O N))
+      → Final (Seen Rule id v) words slots → v.spent ≡ false → v.holding ≡ false → v.from ≡ 0 → v.dealt ≢ 0
+      → get_elem? slots 0 ≡ some x → (d : Filed O N) × (x ≡ Some d)
+      × LeadsTo steps start d.value.notes.items d.value.object
+      × ((k : ℕ) (own : List N) → get_elem? (v.joined ++ v.own ∷ []) k ≡ some own
+      → notes_by author k d.value.notes.items ≡ own)
       × ((k : ℕ) (l : List N) → get_elem? (v.looked ++ v.seen ∷ []) k ≡ some l → StartsWith d.value.notes.items l)
-  settles words slots id v x final active idle from deals found = let s : St O N = final.0 in let r = final.1.0 in let at = final.1.1 in let k = r.each id v at active in
+  settles words slots id v x final active idle from deals found = let s : St O N = final.0 in let r = final.1.0 in
+      let at = final.1.1 in let k = r.each id v at active in
       let h = r.free (all_home s r id v at active idle from deals) in let d : Filed O N = h.0 in (
         d,
         some-injective x (Some d) (sym found ∙ final.4 0 (Some d) h.1),
         subst (λ l. LeadsTo steps start l d.value.object) (sym h.2) h.3,
         λ j own e. ap (λ l. notes_by author j l) h.2 ∙ ⊎_elim
-            (λ (p : get_elem? v.joined j ≡ some own). let t = k.taken_in j own p in let at_j : j ≡ v.from + j = omega (arith, from) in ap (λ n. notes_by author n r.log) at_j ∙ t.0)
-            (λ (p : (j ≡ length v.joined) × (v.own ≡ own)). let at_j : j ≡ id = omega (arith, p.0, k.joins, from) in ap (λ n. notes_by author n r.log) at_j ∙ (k.own ∙ p.1))
+            (λ (p : get_elem? v.joined j ≡ some own). let t = k.taken_in j own p in
+            let at_j : j ≡ v.from + j = omega (arith, from) in ap (λ n. notes_by author n r.log) at_j ∙ t.0)
+            (λ (p : (j ≡ length v.joined) × (v.own ≡ own)). let at_j : j ≡ id = omega (arith, p.0, k.joins, from) in
+            ap (λ n. notes_by author n r.log) at_j ∙ (k.own ∙ p.1))
             (at_end v.joined v.own own j e),
         λ j l e. subst (λ z. StartsWith z l) (sym h.2) (⊎_elim
             (λ (p : get_elem? v.looked j ≡ some l). k.had_seen j l p)
@@ -220,22 +290,39 @@ module _ {O A G N : Type 0} (opens : O → Type 0) (steps : O → ℕ → A → 
       )
 
   -- and nobody else has a note
-  pub nobody_else : (words : List ℕ) (slots : List (Option (Filed O N))) (id : ℕ) (v : V) (x : Option (Filed O N)) (d : Filed O N) → Final (Seen Rule id v) words slots → v.spent ≡ false → v.holding ≡ false → v.from ≡ 0 → v.dealt ≢ 0
+  pub nobody_else : (words : List ℕ) (slots : List (Option (Filed O N))) (id : ℕ) (v : V) (x : Option (Filed O N))
+      (d : Filed O N) → Final (Seen Rule id v) words slots → v.spent ≡ false → v.holding ≡ false → v.from ≡ 0
+      → v.dealt ≢ 0
       → get_elem? slots 0 ≡ some x → x ≡ Some d → (k : ℕ) → v.dealt ≤ k → notes_by author k d.value.notes.items ≡ []
-  nobody_else words slots id v x d final active idle from deals found is k out = let s : St O N = final.0 in let r = final.1.0 in let at = final.1.1 in let c = (r.each id v at active).counts deals in
+  nobody_else words slots id v x d final active idle from deals found is k out = let s : St O N = final.0 in
+      let r = final.1.0 in let at = final.1.1 in let c = (r.each id v at active).counts deals in
       let h = r.free (all_home s r id v at active idle from deals) in
-      let same : h.0 ≡ d = same_Some h.0 d (sym (some-injective x (Some h.0) (sym found ∙ final.4 0 (Some h.0) h.1)) ∙ is) in
-      ap (λ (e : Filed O N). notes_by author k e.value.notes.items) (sym same) ∙ (ap (λ l. notes_by author k l) h.2 ∙ r.nobody k (omega (arith, c.0, out)))
+      let same : h.0 ≡ d = same_Some h.0 d (sym (some-injective x (Some h.0) (sym found ∙ final.4 0 (Some h.0) h.1))
+      ∙ is) in
+      ap (λ (e : Filed O N). notes_by author k e.value.notes.items) (sym same)
+      ∙ (ap (λ l. notes_by author k l) h.2 ∙ r.nobody k (omega (arith, c.0, out)))
 
 -- the first of several seats leaves the dealing to the next
-pub deals_on : {O A G N : Type 0} (opens : O → Type 0) (steps : O → ℕ → A → O → G → Option N → Type 0) (author : N → ℕ) (start : O) (id : ℕ) (me : Sat O N) (number : ℕ) (dealt : ℕ) (claims : ℕ)
-    → me ≡ (newborn start number dealt claims, []) → 0 < dealt → 0 < claims → Splits (Roomed opens steps author start) id me.0 (dealt_out me.0) (newcomer me.0)
-deals_on opens steps author start id me number dealt claims is several claim = deals opens steps author start id me.0 (ap (λ (m : Sat _ _). m.0.spent) is) (λ z. let e : dealt ≡ 0 = ap (λ (m : Sat _ _). m.0.dealt) (sym is) ∙ z in absurd (omega arith)) (let e : me.0.claims ≡ claims = ap (λ (m : Sat _ _). m.0.claims) is in omega arith)
+pub deals_on : {O A G N : Type 0} (opens : O → Type 0) (steps : O → ℕ → A → O → G → Option N → Type 0) (author : N → ℕ)
+    (start : O) (id : ℕ) (me : Sat O N) (number : ℕ) (dealt : ℕ) (claims : ℕ)
+    → me ≡ (newborn start number dealt claims, []) → 0 < dealt → 0 < claims
+    → Splits (Roomed opens steps author start) id me.0 (dealt_out me.0) (newcomer me.0)
+deals_on opens steps author start id me number dealt claims is several claim =
+    deals opens steps author start id me.0 (ap (λ (m : Sat _ _). m.0.spent) is)
+    (λ z. let e : dealt ≡ 0 = ap (λ (m : Sat _ _). m.0.dealt) (sym is) ∙ z in absurd (omega arith))
+    (let e : me.0.claims ≡ claims = ap (λ (m : Sat _ _). m.0.claims) is in omega arith)
 
 -- a seat that was dealt is new
-pub born : {O N : Type 0} (x : O) (n k : ℕ) (v : View O N) → v ≡ newborn x k v.dealt v.claims → 0 < v.claims → (k + 1 ≡ n → v.dealt ≡ n) → IsNewAt n k v
+pub born : {O N : Type 0} (x : O) (n k : ℕ) (v : View O N) → v ≡ newborn x k v.dealt v.claims → 0 < v.claims
+    → (k + 1 ≡ n → v.dealt ≡ n) → IsNewAt n k v
 born x n k v is claim last = record {
-  stands = record { number = λ i. (is i).number; from = λ i. (is i).from; joined = λ i. (is i).joined; looked = λ i. (is i).looked; last = last };
+  stands = record {
+    number = λ i. (is i).number;
+    from = λ i. (is i).from;
+    joined = λ i. (is i).joined;
+    looked = λ i. (is i).looked;
+    last = last;
+  };
   seen = λ i. (is i).seen;
   own = λ i. (is i).own;
   turns = λ i. (is i).turns;
@@ -243,23 +330,42 @@ born x n k v is claim last = record {
 }
 
 -- the table of a new room
-pub opens_table : {O A G N : Type 0} (opens : O → Type 0) (steps : O → ℕ → A → O → G → Option N → Type 0) (author : N → ℕ) (x : O) (d : Filed O N) (slots : List (Option (Filed O N)))
-    → slots ≡ Some d ∷ [] → x ≡ d.value.object → opens d.value.object → d.value.notes.items ≡ [] → d.value.reserved ≡ 64 → 64 ≤ d.value.notes.cap → Roomed opens steps author x (opening (0 ∷ 0 ∷ []) slots (first_view x))
-opens_table {O} {A} {G} {N} opens steps author x d slots is same fine empty kept space = subst (λ (z : O × List (Option (Filed O N))). Roomed opens steps author z.0 (opening (0 ∷ 0 ∷ []) z.1 (first_view z.0)))
+pub opens_table : {O A G N : Type 0} (opens : O → Type 0) (steps : O → ℕ → A → O → G → Option N → Type 0)
+    (author : N → ℕ) (x : O) (d : Filed O N) (slots : List (Option (Filed O N)))
+    → slots ≡ Some d ∷ [] → x ≡ d.value.object → opens d.value.object → d.value.notes.items ≡ [] → d.value.reserved ≡ 64
+    → 64 ≤ d.value.notes.cap → Roomed opens steps author x (opening (0 ∷ 0 ∷ []) slots (first_view x))
+opens_table {O} {A} {G} {N} opens steps author x d slots is same fine empty kept space =
+    subst (λ (z : O × List (Option (Filed O N))). Roomed opens steps author z.0
+    (opening (0 ∷ 0 ∷ []) z.1 (first_view z.0)))
     (λ i. (sym same i, sym is i)) (opens_room opens steps author d.value.object d fine refl empty kept space)
 
 -- the same, of what was filed
-pub opens_filed : {O A G N : Type 0} (opens : O → Type 0) (steps : O → ℕ → A → O → G → Option N → Type 0) (author : N → ℕ) (x : O) (first : Desk O N) (d : Filed O N) (slots : List (Option (Filed O N)))
-    → d.value ≡ first → slots ≡ Some d ∷ [] → x ≡ first.object → opens first.object → first.notes.items ≡ [] → first.reserved ≡ 64 → 64 ≤ first.notes.cap → Roomed opens steps author x (opening (0 ∷ 0 ∷ []) slots (first_view x))
-opens_filed {O} {A} {G} {N} opens steps author x first d slots filed is same fine empty kept space = let back : first ≡ d.value = sym filed in
-    opens_table opens steps author x d slots is (same ∙ ap (λ (e : Desk O N). e.object) back) (subst (λ (e : Desk O N). opens e.object) back fine) (ap (λ (e : Desk O N). e.notes.items) filed ∙ empty) (ap (λ (e : Desk O N). e.reserved) filed ∙ kept) (subst (λ (e : Desk O N). 64 ≤ e.notes.cap) back space)
+pub opens_filed : {O A G N : Type 0} (opens : O → Type 0) (steps : O → ℕ → A → O → G → Option N → Type 0)
+    (author : N → ℕ) (x : O) (first : Desk O N) (d : Filed O N) (slots : List (Option (Filed O N)))
+    → d.value ≡ first → slots ≡ Some d ∷ [] → x ≡ first.object → opens first.object → first.notes.items ≡ []
+    → first.reserved ≡ 64 → 64 ≤ first.notes.cap
+    → Roomed opens steps author x (opening (0 ∷ 0 ∷ []) slots (first_view x))
+opens_filed {O} {A} {G} {N} opens steps author x first d slots filed is same fine empty kept space =
+    let back : first ≡ d.value = sym filed in
+    opens_table opens steps author x d slots is (same ∙ ap (λ (e : Desk O N). e.object) back)
+    (subst (λ (e : Desk O N). opens e.object) back fine) (ap (λ (e : Desk O N). e.notes.items) filed ∙ empty)
+    (ap (λ (e : Desk O N). e.reserved) filed ∙ kept) (subst (λ (e : Desk O N). 64 ≤ e.notes.cap) back space)
 
 -- the desk that was taken out of the slot
-pub settled : {O A G N : Type 0} (opens : O → Type 0) (steps : O → ℕ → A → O → G → Option N → Type 0) (author : N → ℕ) (start : O) (words : List ℕ) (slots : List (Option (Filed O N))) (id : ℕ) (v : View O N) (x : Option (Filed O N)) (d : Filed O N)
-    → Final (Seen (Roomed opens steps author start) id v) words slots → v.spent ≡ false → v.holding ≡ false → v.from ≡ 0 → v.dealt ≢ 0 → get_elem? slots 0 ≡ some x → x ≡ Some d
-    → LeadsTo steps start d.value.notes.items d.value.object × ((k : ℕ) (own : List N) → get_elem? (v.joined ++ v.own ∷ []) k ≡ some own → notes_by author k d.value.notes.items ≡ own)
+pub settled : {O A G N : Type 0} (opens : O → Type 0) (steps : O → ℕ → A → O → G → Option N → Type 0) (author : N → ℕ)
+    (start : O) (words : List ℕ) (slots : List (Option (Filed O N))) (id : ℕ) (v : View O N) (x : Option (Filed O N))
+    (d : Filed O N)
+    → Final (Seen (Roomed opens steps author start) id v) words slots → v.spent ≡ false → v.holding ≡ false → v.from ≡ 0
+    → v.dealt ≢ 0 → get_elem? slots 0 ≡ some x → x ≡ Some d
+    → LeadsTo steps start d.value.notes.items d.value.object
+    × ((k : ℕ) (own : List N) → get_elem? (v.joined ++ v.own ∷ []) k ≡ some own
+    → notes_by author k d.value.notes.items ≡ own)
     × ((k : ℕ) (l : List N) → get_elem? (v.looked ++ v.seen ∷ []) k ≡ some l → StartsWith d.value.notes.items l)
-settled {O} {A} {G} {N} opens steps author start words slots id v x d final active idle from dealing found is = let t = settles opens steps author start words slots id v x final active idle from dealing found in
+settled {O} {A} {G} {N} opens steps author start words slots id v x d final active idle from dealing found is = let t =
+    settles opens steps author start words slots id v x final active idle from dealing found in
     let same : t.0 ≡ d = same_Some t.0 d (sym t.1 ∙ is) in
-    subst (λ (e : Filed O N). LeadsTo steps start e.value.notes.items e.value.object × ((k : ℕ) (own : List N) → get_elem? (v.joined ++ v.own ∷ []) k ≡ some own → notes_by author k e.value.notes.items ≡ own)
-    × ((k : ℕ) (l : List N) → get_elem? (v.looked ++ v.seen ∷ []) k ≡ some l → StartsWith e.value.notes.items l)) same (t.2, t.3, t.4)
+    subst (λ (e : Filed O N). LeadsTo steps start e.value.notes.items e.value.object
+    × ((k : ℕ) (own : List N) → get_elem? (v.joined ++ v.own ∷ []) k ≡ some own
+    → notes_by author k e.value.notes.items ≡ own)
+    × ((k : ℕ) (l : List N) → get_elem? (v.looked ++ v.seen ∷ []) k ≡ some l → StartsWith e.value.notes.items l)) same
+    (t.2, t.3, t.4)

@@ -1,3 +1,4 @@
+-- None of this belongs to what the program promises: it is for contracts between crates.
 -- What a clause reads of a room that was closed: its object and its history. The contracts of the end of a run, here
 -- and in the kernel and the runner, cite it.
 use Rattle.std.specs.Prelude.{List}

@@ -1,3 +1,4 @@
+-- Some of this belongs to what the program promises (docs/promise.txt).
 -- Histories, and what one thread makes of them. The contracts of the room say by it that what was asked is one
 -- sequence of steps, whatever the schedule was.
 use Rattle.std.specs.Prelude.{◌≡◌, ℕ, List, [], ◌∷◌, ◌++◌, Option, Some, None, Bool, true, false, ◌==◌}
@@ -24,4 +25,5 @@ noted None = []
 -- asked in this order from the first state, the object gives these notes, and is in the last state then
 abbrev pub LeadsTo : {O A G N : Type 0} → (O → ℕ → A → O → G → Option N → Type 0) → O → List N → O → Type 0
 LeadsTo steps x [] y = x ≡ y
-LeadsTo {O} {A} {G} steps x (n ∷ ns) y = (mid : O) × (w : ℕ) × (a : A) × (g : G) × steps x w a mid g (Some n) × LeadsTo steps mid ns y
+LeadsTo {O} {A} {G} steps x (n ∷ ns) y = (mid : O) × (w : ℕ) × (a : A) × (g : G) × steps x w a mid g (Some n)
+    × LeadsTo steps mid ns y

@@ -1,3 +1,4 @@
+-- None of this belongs to what the program promises: it is for contracts between crates.
 -- What a clause reads of a seat and of its room: its number, what it has seen, its own notes and its claims. The
 -- contracts of the room, the runner and the example of a sum cite it.
 use Rattle.std.specs.Prelude.{◌≡◌, ℕ, List, Some}

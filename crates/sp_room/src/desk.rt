@@ -22,10 +22,12 @@ pub(crate) fn put_last<K: Kept>(
 ) -> (K::Got, K::Note)
     requires serves { K.can_serve desk.old.object worker ask }
     requires last { K.final_ask ask ≡ true }
-    requires reserve { (0 < desk.old.reserved) × (length desk.old.notes.items + desk.old.reserved ≤ vec_capacity desk.old.notes) }
+    requires reserve { (0 < desk.old.reserved)
+        × (length desk.old.notes.items + desk.old.reserved ≤ vec_capacity desk.old.notes) }
     ensures step { K.steps desk.old.object worker ask desk.new.object result.0 (Some result.1) }
     ensures notes { desk.new.notes.items ≡ desk.old.notes.items ++ result.1 ∷ [] }
-    ensures reserve { (desk.new.reserved ≡ desk.old.reserved - 1) × (length desk.new.notes.items + desk.new.reserved ≤ vec_capacity desk.new.notes) }
+    ensures reserve { (desk.new.reserved ≡ desk.old.reserved - 1)
+        × (length desk.new.notes.items + desk.new.reserved ≤ vec_capacity desk.new.notes) }
 {
     let Served { got, note } = desk.object.serve(worker, ask);
     let Some(note) = note else { unreachable!() };
@@ -45,8 +47,10 @@ pub(crate) fn put<K: Kept>(
     requires reserve { length desk.old.notes.items + desk.old.reserved ≤ vec_capacity desk.old.notes }
     ensures ok { IfOk result (λ s. K.steps desk.old.object worker ask desk.new.object s.got s.note
         × (desk.new.notes.items ≡ desk.old.notes.items ++ noted s.note)) }
-    ensures err { IfErr result (λ g. K.refused ask g × (desk.new.object ≡ desk.old.object) × (desk.new.notes.items ≡ desk.old.notes.items)) }
-    ensures reserve { (desk.new.reserved ≡ desk.old.reserved) × (length desk.new.notes.items + desk.new.reserved ≤ vec_capacity desk.new.notes) }
+    ensures err { IfErr result (λ g. K.refused ask g × (desk.new.object ≡ desk.old.object)
+        × (desk.new.notes.items ≡ desk.old.notes.items)) }
+    ensures reserve { (desk.new.reserved ≡ desk.old.reserved)
+        × (length desk.new.notes.items + desk.new.reserved ≤ vec_capacity desk.new.notes) }
 {
     let more = desk.reserved as usize + 1;
     if desk.notes.reserve(more).is_err() {

@@ -16,9 +16,11 @@ use std::alloc::Global;
 // The last seat takes in the seat before it, again and again. The seats are all of the room's, in their order.
 pub(crate) fn gather<K: Kept>(room: Room<K>, mut row: Vec<RoomSeat<K>>) -> Box<Desk<K, K::Note>>
     requires some { 0 < length row.items }
-    requires all { (k : ℕ) (t : _) → slice_get row.items k ≡ Some t → (seat_table t ≡ room.table.shared.table_id) × IsSeatAt (length row.items) k t }
+    requires all { (k : ℕ) (t : _) → slice_get row.items k ≡ Some t → (seat_table t ≡ room.table.shared.table_id)
+        × IsSeatAt (length row.items) k t }
     ensures legal { LeadsTo K.steps (opening_of room) result.value.notes.items result.value.object }
-    ensures own { (k : ℕ) (t : _) → slice_get row.items k ≡ Some t → notes_by K.author k result.value.notes.items ≡ own_of t }
+    ensures own { (k : ℕ) (t : _) → slice_get row.items k ≡ Some t
+        → notes_by K.author k result.value.notes.items ≡ own_of t }
     ensures seen { (k : ℕ) (t : _) → slice_get row.items k ≡ Some t → StartsWith result.value.notes.items (seen_by t) }
     ensures others { (k : ℕ) → length row.items ≤ k → notes_by K.author k result.value.notes.items ≡ [] }
 {

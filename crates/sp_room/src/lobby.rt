@@ -129,8 +129,8 @@ impl Lobby {
 
     /// Rests until a note wakes the seat, unless something is left to take.
     ///
-    /// It is counted before it looks what is left, and a note says what is left before it looks who is counted: so one of the
-    /// two sees the other.
+    /// It is counted before it looks what is left, and a note says what is left before it looks who is counted: so one
+    /// of the two sees the other.
     pub(crate) fn rest<R: Wait>(&self, rt: &R) {
         let wakes = self.wakes.load(SeqCst);
         self.sleepers.fetch_add(1, SeqCst);

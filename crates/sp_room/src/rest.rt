@@ -10,8 +10,8 @@ use std::thread::yield_now;
 /// How often a seat looks before it sleeps.
 const LOOKS: u32 = 8;
 
-/// How often the processor pauses in one look, one or two microseconds: more than from one note to the next of a seat that goes from
-/// message to message, which so keeps the processes that it wakes itself.
+/// How often the processor pauses in one look, one or two microseconds: more than from one note to the next of a seat
+/// that goes from message to message, which so keeps the processes that it wakes itself.
 const PAUSES: u32 = 40;
 
 /// How often a seat dozes before it rests.

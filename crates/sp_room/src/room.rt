@@ -1,6 +1,8 @@
 //! A room's calls, from its making to its end.
-ghost use Rattle.std.specs.Prelude.{◌≡◌, ℕ, ◌⊎◌, ◌+◌, ◌<◌, ◌≤◌, true, false, Some, List, [], ◌∷◌, length, slice_get, IfOk, IfErr};
-ghost use Rattle.sp_room.specs.Seats.{opening_of, number_of, seen_by, own_of, turns_of, claims_of_seat, seat_view, IsSeatOf, IsNewSeat, IsSeatAt, SamePlace};
+ghost use Rattle.std.specs.Prelude.{◌≡◌, ℕ, ◌⊎◌, ◌+◌, ◌<◌, ◌≤◌, true, false, Some, List, [], ◌∷◌, length, slice_get};
+ghost use Rattle.std.specs.Prelude.{IfOk, IfErr};
+ghost use Rattle.sp_room.specs.Seats.{opening_of, number_of, seen_by, own_of, turns_of, claims_of_seat, seat_view};
+ghost use Rattle.sp_room.specs.Seats.{IsSeatOf, IsNewSeat, IsSeatAt, SamePlace};
 ghost use Rattle.sp_room.specs.Ends.{object_of, notes_of};
 ghost use Rattle.sp_room.specs.Roomed.{Called, Declined};
 ghost use Rattle.sp_room.specs.History.{StartsWith, notes_by, LeadsTo};
@@ -32,7 +34,8 @@ impl<K: Kept> Room<K> {
         requires opens { K.opens object }
         ensures opening { IfOk result (λ r. opening_of r.0 ≡ object) }
         ensures count { IfOk result (λ r. length r.1 ≡ seats) }
-        ensures seats { IfOk result (λ r. (k : ℕ) (t : _) → slice_get r.1 k ≡ Some t → IsSeatOf r.0 t × IsNewSeat seats k t) }
+        ensures seats { IfOk result (λ r. (k : ℕ) (t : _) → slice_get r.1 k ≡ Some t → IsSeatOf r.0 t
+            × IsNewSeat seats k t) }
         ensures err { IfErr result (λ x. x ≡ object) }
     {
         let about = Snapshot::of(&object);
@@ -66,7 +69,8 @@ impl<K: Kept> Room<K> {
         }
     }
 
-    /// Ends the room. The seats are all of its seats, in their order. The history has the notes of the seats, and no others.
+    /// Ends the room. The seats are all of its seats, in their order. The history has the notes of the seats, and no
+    /// others.
     pub fn close(self, seats: List<RoomSeat<K>>) -> Settled<K>
         requires some { 0 < length seats }
         requires seats { (k : ℕ) (t : _) → slice_get seats k ≡ Some t → IsSeatOf self t × IsSeatAt (length seats) k t }
@@ -119,8 +123,9 @@ impl<K: Kept> RoomSeat<K> {
 
     /// Puts the ask to the object, when no other seat has the turn. The worker is the seat's number.
     ///
-    /// One call of the object is made while the turn is held, and its note, if it leaves one, is the next of the history. Want of
-    /// memory for the history gives `K::refuse(ask)` in place of that call. An ask that is the seat's last is never refused.
+    /// One call of the object is made while the turn is held, and its note, if it leaves one, is the next of the
+    /// history. Want of memory for the history gives `K::refuse(ask)` in place of that call. An ask that is the seat's
+    /// last is never refused.
     pub fn serve<R: Wait>(&mut self, rt: &R, room: &Room<K>, ask: K::Ask) -> K::Got
         requires seat { IsSeatOf room.now self.old }
         requires last { K.final_ask ask ≡ true → 0 < claims_of_seat self.old }
@@ -130,7 +135,8 @@ impl<K: Kept> RoomSeat<K> {
         ensures seen { StartsWith (seen_by self.new) (seen_by self.old) }
         ensures own { notes_by K.author (number_of self.new) (seen_by self.new) ≡ own_of self.new }
         ensures call { Called K.steps (opening_of room.now) (seat_view self.old) ask result (seat_view self.new)
-            ⊎ ((K.final_ask ask ≡ false) × Declined K.steps K.refused (opening_of room.now) (seat_view self.old) ask result (seat_view self.new)) }
+            ⊎ ((K.final_ask ask ≡ false) × Declined K.steps K.refused (opening_of room.now) (seat_view self.old) ask
+            result (seat_view self.new)) }
         ensures reserve { K.final_ask ask ≡ false → claims_of_seat self.new ≡ claims_of_seat self.old }
     {
         if K::last(&ask) {
@@ -158,8 +164,8 @@ impl<K: Kept> RoomSeat<K> {
         }
     }
 
-    /// Returns once the object has something left to take that no other seat comes for at once, or for no reason. Before that it looks
-    /// a few times, then it dozes while notes come, and sleeps while none do. It changes nothing.
+    /// Returns once the object has something left to take that no other seat comes for at once, or for no reason.
+    /// Before that it looks a few times, then it dozes while notes come, and sleeps while none do. It changes nothing.
     pub fn rest<R: Wait>(&self, rt: &R, room: &Room<K>)
         requires seat { IsSeatOf room.now self.now }
     {

@@ -18,7 +18,8 @@ pub(crate) fn deal<K: Kept>(
     mut row: Vec<RoomSeat<K>>,
     seats: u32,
 ) -> Vec<RoomSeat<K>>
-    requires first { (first.table_id ≡ room.now.table.shared.table_id) × (first.me ≡ (newborn room.now.table.shared.key.value 0 1 64, [])) }
+    requires first { (first.table_id ≡ room.now.table.shared.table_id)
+        × (first.me ≡ (newborn room.now.table.shared.key.value 0 1 64, [])) }
     requires row { (row.items ≡ []) × (0 < seats) × (seats ≤ 64) × (seats ≤ vec_capacity row) }
     ensures count { length result.items ≡ seats }
     ensures each { (k : ℕ) (t : _) → slice_get result.items k ≡ Some t → (seat_table t ≡ room.now.table.shared.table_id)

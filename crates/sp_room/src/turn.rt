@@ -19,13 +19,14 @@ const TURN: usize = 0;
 /// The word that counts the history.
 const COUNT: usize = 1;
 
-/// How often a seat looks whether the turn comes free before it sleeps, and how long it lets the processor pause between two looks.
+/// How often a seat looks whether the turn comes free before it sleeps, and how long it lets the processor pause
+/// between two looks.
 const TRIES: u32 = 20;
 
 const BETWEEN: u32 = 2;
 
-// Waits until the turn is free, and takes the desk. Who loses a try looks for a moment whether the turn comes free, and then sleeps
-// until a turn is given back.
+// Waits until the turn is free, and takes the desk. Who loses a try looks for a moment whether the turn comes free, and
+// then sleeps until a turn is given back.
 pub(crate) fn take_turn<K: Kept, R: Wait>(
     rt: &R,
     room: &Room<K>,
@@ -70,7 +71,8 @@ fn comes_free<K: Kept>(room: &Room<K>) -> bool {
 
 // Wakes a seat that sleeps until the turn is free, if there is one.
 //
-// The turn is free before it looks, and who sleeps is counted before it finds the turn taken: so one of the two sees the other.
+// The turn is free before it looks, and who sleeps is counted before it finds the turn taken: so one of the two sees
+// the other.
 fn wake_next<K: Kept>(room: &Room<K>) {
     if room.lobby.has_waiting() {
         room.table.shared.wake_one(TURN);
@@ -84,10 +86,12 @@ pub(crate) fn give_back<K: Kept>(
     desk: Box<Desk<K, K::Note>>,
 ) -> u64
     requires room { seat.old.table_id ≡ room.now.table.shared.table_id }
-    requires holds { (seat.old.me ≡ (seat.old.me.0, (0, None) ∷ [])) × (seat.old.me.0.holding ≡ true) × (seat.old.me.0.spent ≡ false) }
+    requires holds { (seat.old.me ≡ (seat.old.me.0, (0, None) ∷ [])) × (seat.old.me.0.holding ≡ true)
+        × (seat.old.me.0.spent ≡ false) }
     requires desk { (desk.value.notes.items ≡ seat.old.me.0.seen)
         × LeadsTo K.steps room.now.table.shared.key.value seat.old.me.0.seen desk.value.object
-        × (desk.value.reserved ≡ seat.old.me.0.reserve) × (length seat.old.me.0.seen + desk.value.reserved ≤ vec_capacity desk.value.notes) }
+        × (desk.value.reserved ≡ seat.old.me.0.reserve)
+        × (length seat.old.me.0.seen + desk.value.reserved ≤ vec_capacity desk.value.notes) }
     ensures same { (seat.new.table_id ≡ seat.old.table_id) × (seat.new.id ≡ seat.old.id) }
     ensures free { seat.new.me ≡ (returned seat.old.me.0, []) }
     ensures count { result ≡ length seat.new.me.0.seen }
@@ -109,11 +113,13 @@ pub(crate) fn give_on<K: Kept>(
     note: K::Note,
 ) -> u64
     requires room { seat.old.table_id ≡ room.now.table.shared.table_id }
-    requires holds { (seat.old.me ≡ (seat.old.me.0, (0, None) ∷ [])) × (seat.old.me.0.holding ≡ true) × (seat.old.me.0.spent ≡ false) }
+    requires holds { (seat.old.me ≡ (seat.old.me.0, (0, None) ∷ [])) × (seat.old.me.0.holding ≡ true)
+        × (seat.old.me.0.spent ≡ false) }
     requires note { K.author note ≡ seat.old.me.0.number }
     requires desk { (desk.value.notes.items ≡ seat.old.me.0.seen ++ note ∷ [])
         × LeadsTo K.steps room.now.table.shared.key.value (seat.old.me.0.seen ++ note ∷ []) desk.value.object
-        × (desk.value.reserved ≡ seat.old.me.0.reserve) × (length desk.value.notes.items + desk.value.reserved ≤ vec_capacity desk.value.notes) }
+        × (desk.value.reserved ≡ seat.old.me.0.reserve)
+        × (length desk.value.notes.items + desk.value.reserved ≤ vec_capacity desk.value.notes) }
     ensures same { (seat.new.table_id ≡ seat.old.table_id) × (seat.new.id ≡ seat.old.id) }
     ensures free { seat.new.me ≡ (returned (raised seat.old.me.0 (note ∷ [])), []) }
     ensures count { result ≡ length seat.new.me.0.seen }
@@ -138,12 +144,14 @@ pub(crate) fn give_last<K: Kept>(
     note: K::Note,
 ) -> u64
     requires room { seat.old.table_id ≡ room.now.table.shared.table_id }
-    requires holds { (seat.old.me ≡ (seat.old.me.0, (0, None) ∷ [])) × (seat.old.me.0.holding ≡ true) × (seat.old.me.0.spent ≡ false) }
+    requires holds { (seat.old.me ≡ (seat.old.me.0, (0, None) ∷ [])) × (seat.old.me.0.holding ≡ true)
+        × (seat.old.me.0.spent ≡ false) }
     requires claim { 0 < seat.old.me.0.claims }
     requires note { K.author note ≡ seat.old.me.0.number }
     requires desk { (desk.value.notes.items ≡ seat.old.me.0.seen ++ note ∷ [])
         × LeadsTo K.steps room.now.table.shared.key.value (seat.old.me.0.seen ++ note ∷ []) desk.value.object
-        × (desk.value.reserved ≡ seat.old.me.0.reserve - 1) × (length desk.value.notes.items + desk.value.reserved ≤ vec_capacity desk.value.notes) }
+        × (desk.value.reserved ≡ seat.old.me.0.reserve - 1)
+        × (length desk.value.notes.items + desk.value.reserved ≤ vec_capacity desk.value.notes) }
     ensures same { (seat.new.table_id ≡ seat.old.table_id) × (seat.new.id ≡ seat.old.id) }
     ensures free { seat.new.me ≡ (returned (raised_last seat.old.me.0 (note ∷ [])), []) }
     ensures count { result ≡ length seat.new.me.0.seen }

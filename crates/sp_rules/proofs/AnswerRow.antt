@@ -83,7 +83,8 @@ keeps_v1 p (WithoutProgram (inl h)) = cc h.0
 keeps_v1 p (WithoutProgram (inr h)) = not_true_and_false (is_program h.0)
     (one_layout (λ l. is_program l ≡ true) refl h.1.0 h.0 h.1.1) h.4
 keeps_v1 p (Twice h) = declared_twice h.0 h.1 p h.2 h.3
-keeps_v1 p (SizesDiffer h) = not_true_and_false (has_sizes h.0) (one_layout (λ l. has_sizes l ≡ true) refl h.1.0 h.0 h.1.1) h.3
+keeps_v1 p (SizesDiffer h) = not_true_and_false (has_sizes h.0)
+    (one_layout (λ l. has_sizes l ≡ true) refl h.1.0 h.0 h.1.1) h.3
 keeps_v1 p (TableUnnamed h) = cc h.2
 keeps_v1 p (TableIndexed (t, q, inl h)) = cc h.1.2
 keeps_v1 p (TableIndexed (t, q, inr h)) = cc h.1.2
@@ -101,7 +102,8 @@ sends_not (Some (i.Send k)) = false
 sends_not o = true
 
 no_send : (p k n : ℕ) → SendsAt answer p k n → ⊥
-no_send p k n s = not_true_and_false (sends_not (instr_at answer p)) (each_instr sends_not answer.instrs refl p) (ap sends_not s.3)
+no_send p k n s = not_true_and_false (sends_not (instr_at answer p)) (each_instr sends_not answer.instrs refl p)
+    (ap sends_not s.3)
 
 pub keeps_v4 : (p : ℕ) → BreaksV4 answer p → ⊥
 keeps_v4 p (OtherLength k n q m s l r d) = no_send p k n s

@@ -134,7 +134,8 @@ module _ (ls : List Layout) (ha : List Home) (k : ℕ) (l : Layout) (fs : List F
         (a.1 (subst (λ v. IsMember v l.variables) a.0 (none b.0 x b.2 (subst D (sym a.0) d))))
     became_one x y z d e (inr a) (inl b) = absurd
         (b.1 (subst (λ v. IsMember v l.variables) b.0 (none a.0 x a.2 (subst D (sym b.0) e))))
-    became_one x y z d e (inr a) (inr b) = same_Some _ _ (sym a.1 ∙ ap (slice_get l.variables) (once a.0 b.0 x a.2 b.2) ∙ b.1)
+    became_one x y z d e (inr a) (inr b) = same_Some _ _
+        (sym a.1 ∙ ap (slice_get l.variables) (once a.0 b.0 x a.2 b.2) ∙ b.1)
 
     -- a variable of the new frame
     record IsNew (y : ℕ) : Type 0 where

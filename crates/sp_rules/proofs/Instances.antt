@@ -151,7 +151,8 @@ module _ (c : Parts) (k : Keeps c) (e : KeepsEffects c (Does c)) (known : (p : �
       );
       once = λ j m x u v. e.actual_once a p b up ss l area call j m x u v;
       none = λ j x u d. ⊎_elim (λ f. e.actual_none a p b up ss l area call j x u f) (λ m. own x m) d;
-      sizes = λ j y s. item_there l.sizes j (let b = slice_get_within l.variables j y s in omega (arith, b, sizes_are.0));
+      sizes = λ j y s. item_there l.sizes j (let b = slice_get_within l.variables j y s in
+          omega (arith, b, sizes_are.0));
       room = room_for 0 l.formals (answer_cells l.answer) l.sizes (slice_get l.sizes) sizes_are.1
           (λ j. ap (slice_get l.sizes) (is_none_plus j));
     }

@@ -66,7 +66,8 @@ not_other_area a b h = go (same_area a b) refl
   where
     go : (t : Bool) → same_area a b ≡ t → a ≡ b
     go true e = area_is a b e
-    go false e = absurd (h (λ z. not_true_and_false (same_area a b) (subst (λ y. same_area a y ≡ true) z (area_same a)) e))
+    go false e = absurd (h (λ z. not_true_and_false (same_area a b) (subst (λ y. same_area a y ≡ true) z (area_same a))
+        e))
 
 -- of two declarations one comes first, or they are one
 which_first : (d e : Declared) → IsBefore d e ⊎ ((d ≡ e) ⊎ IsBefore e d)
@@ -230,7 +231,8 @@ module _ (c : Parts) (children : HaveChildren c) (fitting : FitsTypes c) (v1 : (
   foralls p t e =
       let tb = table_of p t (ap table_named e) in
       let ch = first_child c.forks t tb.0 tb.1 (children t tb.0 tb.1) in
-      let ok = and_parts (length tb.0.children == 1) (is_some ch.0.index) (true_from_ne_false ((length tb.0.children == 1)
+      let ok = and_parts (length tb.0.children == 1) (is_some ch.0.index)
+      (true_from_ne_false ((length tb.0.children == 1)
       && is_some ch.0.index) (λ h. v1 ch.0.entry
       (TableIndexed (t, p, inr (e, (ch.0, tb.0, ch.1, refl, tb.1, h)))))) in
       let x = index ch.0.index ok.1 in

@@ -49,8 +49,10 @@ listed (y ∷ xs) (suc n) x e = inr (listed xs n x e)
 one_place : (xs : List ℕ) (n m x : ℕ) → AllDifferent xs → slice_get xs n ≡ Some x → slice_get xs m ≡ Some x → n ≡ m
 one_place [] n m x d e f = absurd (cc e)
 one_place (y ∷ xs) zero zero x d e f = refl
-one_place (y ∷ xs) zero (suc m) x d e f = absurd (d.0 (subst (λ z. IsMember z xs) (sym (same_Some _ _ e)) (listed xs m x f)))
-one_place (y ∷ xs) (suc n) zero x d e f = absurd (d.0 (subst (λ z. IsMember z xs) (sym (same_Some _ _ f)) (listed xs n x e)))
+one_place (y ∷ xs) zero (suc m) x d e f = absurd
+    (d.0 (subst (λ z. IsMember z xs) (sym (same_Some _ _ e)) (listed xs m x f)))
+one_place (y ∷ xs) (suc n) zero x d e f = absurd
+    (d.0 (subst (λ z. IsMember z xs) (sym (same_Some _ _ f)) (listed xs n x e)))
 one_place (y ∷ xs) (suc n) (suc m) x d e f = ap suc (one_place xs n m x d.1 e f)
 
 -- the size behind those of the formals
@@ -96,7 +98,8 @@ module _ (g : Setting) (k : Keeps g.code) (e : KeepsEffects g.code (Does g.code)
     pub output_of_it : May g.code a 1 → (memory plain g).has_output n ≡ true
     output_of_it m =
         let w = mine.1.held 1 m in
-        held (map.get n.store.map output_spot) (subst (λ q. IsOutput (map.get n.store.map q)) (sym (same_Some _ _ w.1)) w.3)
+        held (map.get n.store.map output_spot)
+        (subst (λ q. IsOutput (map.get n.store.map q)) (sym (same_Some _ _ w.1)) w.3)
       where
         held : (o : Option Content) → IsOutput o → is_held (output_of o) ≡ true
         held None h = absurd h

@@ -180,7 +180,8 @@ module _ (g : Setting) {Area : Type 0} (H : Area → List Home) (E : Area → �
     is : (q : Spot) (h : Heir g H E T Room Cells j.area n.frames (base r) q)
         → Has g.code.layouts (base r).frames c.store.map h.variable q
     is q h = let w = child.held h.variable h.there in subst
-        (λ (s : Spot). Has g.code.layouts (base r).frames c.store.map h.variable s) (same_Some _ _ (sym w.1 ∙ h.stood)) w.3
+        (λ (s : Spot). Has g.code.layouts (base r).frames c.store.map h.variable s) (same_Some _ _ (sym w.1 ∙ h.stood))
+        w.3
 
     known_whole : (q : Spot) → In q c.store.moved → IsSome (map.get j.whole q)
     known_whole q i = let h = heir q i in known_of_held (map.get j.whole q)
@@ -193,7 +194,8 @@ module _ (g : Setting) {Area : Type 0} (H : Area → List Home) (E : Area → �
       where
         go : (x : ℕ) → E j.area x → spot_of g.code.layouts n.frames x ≡ Some input_spot → x ≡ 0
         go zero e at = refl
-        go (suc zero) e at = absurd (let z : 1 ≡ 0 = ap (λ (q : Spot). q.variable) (same_Some _ _ at) in omega (arith, z))
+        go (suc zero) e at = absurd (let z : 1 ≡ 0 = ap (λ (q : Spot). q.variable) (same_Some _ _ at) in
+            omega (arith, z))
         go (suc (suc x)) e at = absurd ((mother.clear k (suc (suc x)) input_spot (omega arith) e at).0 refl)
 
     output_at : (h : Heir g H E T Room Cells j.area n.frames (base r) output_spot) → HasConsole g H E T b.area

@@ -115,14 +115,16 @@ keeps_v2 p (Rattle.sp_rules.specs.Rules.Differs a n ss ts r s e) = e (only (λ a
 
 pub keeps_v3 : (p : ℕ) → BreaksV3 answer p → ⊥
 unfolding shapes
-keeps_v3 p (PassesLeft a ss r e) = not_true_and_false (stays_within (instr_at answer p) ss) (only (λ a. Reaches answer a p ss
+keeps_v3 p (PassesLeft a ss r e) = not_true_and_false (stays_within (instr_at answer p) ss)
+    (only (λ a. Reaches answer a p ss
     → stays_within (instr_at answer p) ss ≡ true)
     (λ r. reached_passes answer (Body 0) shapes closed
     (λ p ss. stays_within (instr_at answer p) ss) refl p ss r) a r.0 r.1) e
 
 pub keeps_v5 : (p : ℕ) → BreaksV5 answer p → ⊥
 unfolding shapes
-keeps_v5 p (NoFit a ss r e) = not_true_and_false (call_fits answer (instr_at answer p) ss) (only (λ a. Reaches answer a p ss
+keeps_v5 p (NoFit a ss r e) = not_true_and_false (call_fits answer (instr_at answer p) ss)
+    (only (λ a. Reaches answer a p ss
     → call_fits answer (instr_at answer p) ss ≡ true)
     (λ r. reached_passes answer (Body 0) shapes closed
     (λ p ss. call_fits answer (instr_at answer p) ss) refl p ss r) a r.0 r.1) e

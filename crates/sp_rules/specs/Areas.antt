@@ -1,3 +1,4 @@
+-- All of this belongs to what the program promises (docs/promise.txt).
 -- Areas of code: the code of a block, or of a child of a fork that lies in an area. Each has its first instruction, and
 -- the blocks and forall indices around it, whose frames its instructions count by levels. The rules of code files are
 -- said of areas.

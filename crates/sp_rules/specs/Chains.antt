@@ -1,3 +1,4 @@
+-- None of this belongs to what the program promises: it is for contracts between crates.
 -- Frames along their links, as an area has the blocks and indices around it. Where a variable stands is told by them.
 use Rattle.std.specs.Prelude.{◌≡◌, ◌≤◌, ℕ, List, [], ◌∷◌, ◌++◌, length, Option, Some, None}
 use Rattle.sp_cell.specs.declared.spot.Spot.{Spot}

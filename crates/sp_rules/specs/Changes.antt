@@ -1,3 +1,4 @@
+-- None of this belongs to what the program promises: it is for contracts between crates.
 -- How one instruction of a process that stands changes its memory, and with it the areas of its activations. What a
 -- process holds is kept along it.
 use Rattle.std.specs.Prelude.{◌≡◌, ℕ, ◌+◌, ◌≤◌, List, [], ◌∷◌, Option, Some, true, length, nat_lt}

@@ -1,3 +1,4 @@
+-- None of this belongs to what the program promises: it is for contracts between crates.
 -- Small codes that the rows of V6 and V7 are computed on.
 use Rattle.std.specs.Prelude.{[], ◌∷◌, Some, None, false, pos}
 use Rattle.sp_code.specs.declared.instr.Instr.TheVariants as i

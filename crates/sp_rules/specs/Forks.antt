@@ -1,3 +1,4 @@
+-- Some of this belongs to what the program promises (docs/promise.txt).
 -- The rules on forks, calls and blocks with a result: V6, V7 and V8, each said by what breaks it.
 use Rattle.std.specs.Prelude.{◌≡◌, ◌≢◌, ◌⊎◌, ℕ, ◌<◌, List, [], Some, IsSome, true}
 use Rattle.sp_tree.specs.Interference.{IsMember, AllDifferent}

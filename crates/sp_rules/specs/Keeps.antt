@@ -1,3 +1,4 @@
+-- None of this belongs to what the program promises: it is for contracts between crates.
 -- Code that keeps V1 to V5, said as what holds. The theorem of a turn rests on it, and it follows where no rule is
 -- broken.
 use Rattle.std.specs.Prelude.{◌≡◌, ℕ, ◌≤◌, List, [], ◌∷◌, Some, None, true, slice_get, length}

@@ -1,3 +1,4 @@
+-- All of this belongs to what the program promises (docs/promise.txt).
 -- Rule V1 of code files, point by point: what code names is there, layouts and tables are sound in themselves, and each
 -- instruction stands where it may. Each point says at which instruction it is broken.
 use Rattle.std.specs.Prelude.{◌≡◌, ◌⊎◌, ◌≢◌, ℕ, ◌+◌, ◌≤◌, ◌<◌, ◌==◌, List, [], ◌∷◌, ◌++◌, Option, Some, None, Bool}

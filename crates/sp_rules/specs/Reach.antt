@@ -1,3 +1,4 @@
+-- All of this belongs to what the program promises (docs/promise.txt).
 -- Ways through the code of an area: which instructions it has, and which shapes of operands some way brings to one.
 -- `Reaches` takes all ways, `Arrives` those of at most so many instructions that go on only from instructions at which
 -- V2 is kept.

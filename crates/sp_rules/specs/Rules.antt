@@ -1,3 +1,4 @@
+-- All of this belongs to what the program promises (docs/promise.txt).
 -- Rules V2, V3, V4, V5 and V9 of code files: at which instruction each is broken.
 use Rattle.std.specs.Prelude.{◌≡◌, ◌≢◌, ℕ, zero, suc, ◌<◌, ◌==◌, List, [], ◌∷◌, Option, Some, Bool, true, false, ◌&&◌}
 use Rattle.std.specs.Prelude.{◌||◌, length, nat_le}

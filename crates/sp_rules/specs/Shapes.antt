@@ -1,3 +1,4 @@
+-- All of this belongs to what the program promises (docs/promise.txt).
 -- The shapes of operands, and what each instruction takes and leaves of them. The rules of code files go by it; the
 -- theorem compares it with the entries of a running process's stack.
 use Rattle.std.specs.Prelude.{ℕ, zero, suc, ◌+◌, ◌-◌, ◌*◌, ℤ, ◌-ℤ◌, int_le, nat_abs, nat_le, List, [], ◌∷◌, Option}

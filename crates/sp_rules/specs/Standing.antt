@@ -1,3 +1,4 @@
+-- Some of this belongs to what the program promises (docs/promise.txt).
 -- What is known of a process of verified code at an instruction: its operands have the shapes that some way brings
 -- there, its frames are those of the area, and below its operands lie those of its callers. Nothing of it speaks of the
 -- store.

@@ -1,3 +1,4 @@
+-- Some of this belongs to what the program promises (docs/promise.txt).
 -- The variables that one instruction stores and loads, by the shapes of its operands, and what it needs of the memory.
 use Rattle.std.specs.Prelude.{◌≡◌, ℕ, zero, suc, ◌≤◌, List, [], ◌∷◌, ◌++◌, Option, Some, None, true, length, nat_le}
 use Rattle.std.specs.Prelude.{IsSome}

@@ -1,3 +1,4 @@
+-- All of this belongs to what the program promises (docs/promise.txt).
 -- What a verifier answers: code is verified where no rule is broken at any instruction; else it is rejected for the
 -- first broken rule, at the least instruction at which that one is broken.
 use Rattle.std.specs.Prelude.{◌≡◌, ◌⊎◌, ℕ, ◌<◌, List, Option, Some, Bool, true, false, slice_get}

@@ -1,5 +1,6 @@
 -- Calls and steps taken apart: their parts, one after another.
-use Rattle.std.proofs.Common.{◌≡◌, ℕ, suc, ◌+◌, List, [], ◌∷◌, Option, Some, None, refl, ap, ◌∙◌, sym, subst, arith, drop, slice_get}
+use Rattle.std.proofs.Common.{◌≡◌, ℕ, suc, ◌+◌, List, [], ◌∷◌, Option, Some, None, refl, ap, ◌∙◌, sym, subst, arith}
+use Rattle.std.proofs.Common.{drop, slice_get}
 use Rattle.std.proofs.lemmas.Bool.{eq-eqb}
 use Rattle.sp_tree.specs.declared.checked.KindOf.{KindOf}
 use Rattle.sp_tree.specs.declared.operators.StandardFn.{StandardFn}
@@ -7,7 +8,8 @@ use Rattle.sp_tree.specs.Plain.{Variable, AtInput}
 use Rattle.sp_tree.specs.Cells.{variables_of}
 use Rattle.sp_meaning.specs.Maps.{at_key}
 use Rattle.sp_meaning.specs.Values.{Value, initials, get_at}
-use Rattle.sp_meaning.specs.Own.{Setting, Cell, Input, Tree, Position, Address, Item, Own, Who, same_loc, position_in, value_in}
+use Rattle.sp_meaning.specs.Own.{Setting, Cell, Input, Tree, Position, Address, Item, Own, Who, same_loc, position_in}
+use Rattle.sp_meaning.specs.Own.{value_in}
 use Rattle.sp_meaning.specs.Eval.{Given, ValueOf, At}
 use Rattle.sp_meaning.specs.Deeds.{Deed, Stepped, begins, taken_by}
 use Rattle.sp_meaning.specs.Texts.{Taken, line_length}
@@ -16,25 +18,33 @@ use Rattle.sp_run.specs.DirectEval.{Calls, kind_at, left_of, input_op, checked, 
 use Rattle.sp_run.specs.DirectDeeds.{lay_one, lay, copy_in, take_in, advance}
 use Rattle.sp_run.specs.Acts.{read_value, read_line}
 
-pub copy_on : (g : Setting) (n x : ℕ) (xs ys : List ℕ) (v : Value) (gs hs : List Given) (w : Who) (o o1 : Own) (s s1 : Store) (u : Unit {0}) → ys ≡ x ∷ xs → hs ≡ ValueOf v ∷ gs → put (Cell w.name n x) (Tree v) w o s ≡ Got u o1 s1 → copy_in g n ys hs w o s ≡ copy_in g n xs gs w o1 s1
+pub copy_on : (g : Setting) (n x : ℕ) (xs ys : List ℕ) (v : Value) (gs hs : List Given) (w : Who) (o o1 : Own)
+    (s s1 : Store) (u : Unit {0}) → ys ≡ x ∷ xs → hs ≡ ValueOf v ∷ gs
+    → put (Cell w.name n x) (Tree v) w o s ≡ Got u o1 s1 → copy_in g n ys hs w o s ≡ copy_in g n xs gs w o1 s1
 copy_on g n x xs ys v gs hs w o o1 s s1 u e1 e2 e3 =
     let p : o1 ≡ o = cc in
     let q : s1 ≡ at_key same_loc (Cell w.name n x) (Tree v) s = cc in
     rw (e1, e2, p, q) refl
 
-pub lay_on : (g : Setting) (n b x y : ℕ) (v : Variable) (vs us : List Variable) (w : Who) (o o1 : Own) (s s1 : Store) (u : Unit {0}) → us ≡ v ∷ vs → v.block ≡ b → y ≡ x + 1 → lay_one g n (x, v) (begins (initials g.program.kinds) v.role v.kind) w o s ≡ Got u o1 s1 → lay g n (variables_of b x us) w o s ≡ lay g n (variables_of b y vs) w o1 s1
+pub lay_on : (g : Setting) (n b x y : ℕ) (v : Variable) (vs us : List Variable) (w : Who) (o o1 : Own) (s s1 : Store)
+    (u : Unit {0}) → us ≡ v ∷ vs → v.block ≡ b → y ≡ x + 1
+    → lay_one g n (x, v) (begins (initials g.program.kinds) v.role v.kind) w o s ≡ Got u o1 s1
+    → lay g n (variables_of b x us) w o s ≡ lay g n (variables_of b y vs) w o1 s1
 lay_on g n b x y v vs us w o o1 s s1 u e1 e2 e3 e4 =
     let k : y ≡ suc x = omega arith in
     rw (e1, eq-eqb v.block b e2, e4) (rw k refl)
 
-pub read_is : (g : Setting) (a : Address) (w : Who) (o o1 : Own) (s s1 : Store) (k : KindOf) (v : Value) → kind_at g a.kind w o s ≡ Got k o s → fetch a w o s ≡ Got v o1 s1 → read_at g (At a) w o s ≡ checked k v w o1 s1
+pub read_is : (g : Setting) (a : Address) (w : Who) (o o1 : Own) (s s1 : Store) (k : KindOf) (v : Value)
+    → kind_at g a.kind w o s ≡ Got k o s → fetch a w o s ≡ Got v o1 s1 → read_at g (At a) w o s ≡ checked k v w o1 s1
 read_is g a w o o1 s s1 k v e1 e2 =
     let l : get_at a.path (value_in (s a.spot)) ≡ v = cc in
     let p : o1 ≡ o = cc in
     let q : s1 ≡ s = cc in
     rw (e1, p, q) (ap (λ x. checked k x w o s) l)
 
-pub line_read : (g : Setting) (todo : List Item) (w : Who) (o o1 o2 : Own) (s s1 s2 : Store) (left : List ℕ) (n : ℕ) (u : Unit {0}) → left_of g w o s ≡ Got left o1 s1 → n ≡ line_length left → advance g n w o1 s1 ≡ Got u o2 s2 → read_line g todo w o s ≡ Got (Stepped todo) o2 s2
+pub line_read : (g : Setting) (todo : List Item) (w : Who) (o o1 o2 : Own) (s s1 s2 : Store) (left : List ℕ) (n : ℕ)
+    (u : Unit {0}) → left_of g w o s ≡ Got left o1 s1 → n ≡ line_length left → advance g n w o1 s1 ≡ Got u o2 s2
+    → read_line g todo w o s ≡ Got (Stepped todo) o2 s2
 line_read g todo w o o1 o2 s s1 s2 left n u e1 e2 e3 =
     let l : drop (position_in (s Input)) g.input ≡ left = cc in
     let p : o1 ≡ o = cc in
@@ -42,10 +52,14 @@ line_read g todo w o o1 o2 s s1 s2 left n u e1 e2 e3 =
     let m : n ≡ line_length (drop (position_in (s Input)) g.input) = e2 ∙ ap line_length (sym l) in
     let f = rw (p, q, m) at e3 in
     let a : o2 ≡ o = cc in
-    let b : s2 ≡ at_key same_loc Input (Position (position_in (s Input) + line_length (drop (position_in (s Input)) g.input))) s = cc in
+    let b : s2 ≡ at_key same_loc Input (Position
+    (position_in (s Input) + line_length (drop (position_in (s Input)) g.input))) s = cc in
     rw (a, b) refl
 
-pub value_read : (g : Setting) (a : Address) (todo : List Item) (w : Who) (o o1 o2 : Own) (s s1 s2 : Store) (k : KindOf) (left : List ℕ) (t : Taken) (u : Unit {0}) → kind_at g a.kind w o s ≡ Got k o s → left_of g w o s ≡ Got left o1 s1 → Some t ≡ taken_by k left → take_in g a t w o1 s1 ≡ Got u o2 s2 → read_value g a todo w o s ≡ Got (Stepped todo) o2 s2
+pub value_read : (g : Setting) (a : Address) (todo : List Item) (w : Who) (o o1 o2 : Own) (s s1 s2 : Store) (k : KindOf)
+    (left : List ℕ) (t : Taken) (u : Unit {0}) → kind_at g a.kind w o s ≡ Got k o s → left_of g w o s ≡ Got left o1 s1
+    → Some t ≡ taken_by k left → take_in g a t w o1 s1 ≡ Got u o2 s2
+    → read_value g a todo w o s ≡ Got (Stepped todo) o2 s2
 value_read g a todo w o o1 o2 s s1 s2 k left t u e1 e2 e3 e4 =
     let l : drop (position_in (s Input)) g.input ≡ left = cc in
     let p : o1 ≡ o = cc in
@@ -54,7 +68,9 @@ value_read g a todo w o o1 o2 s s1 s2 k left t u e1 e2 e3 e4 =
     let f = rw (p, q) at e4 in
     rw (e1, m, f) refl
 
-pub input_is : (g : Setting) (call : Calls) (k : ℕ) (f : StandardFn) (w : Who) (o o1 : Own) (s s1 : Store) (left : List ℕ) (c : Came Value) → left_of g w o s ≡ Got left o1 s1 → input_op f left w o1 s1 ≡ c → form_value g call k (AtInput f) w o s ≡ c
+pub input_is : (g : Setting) (call : Calls) (k : ℕ) (f : StandardFn) (w : Who) (o o1 : Own) (s s1 : Store)
+    (left : List ℕ) (c : Came Value) → left_of g w o s ≡ Got left o1 s1 → input_op f left w o1 s1 ≡ c
+    → form_value g call k (AtInput f) w o s ≡ c
 input_is g call k f w o o1 s s1 left c e1 e2 =
     let l : drop (position_in (s Input)) g.input ≡ left = cc in
     let p : o1 ≡ o = cc in

@@ -1,5 +1,6 @@
 -- The search through the arms of a `case`, one after another.
-use Rattle.std.proofs.Common.{◌≡◌, ℕ, zero, suc, ◌<◌, ◌≤◌, Bool, true, false, List, [], ◌∷◌, Option, Some, None, map, drop, length, get_or, refl, ap, ◌∙◌, sym, arith, rules}
+use Rattle.std.proofs.Common.{◌≡◌, ℕ, zero, suc, ◌<◌, ◌≤◌, Bool, true, false, List, [], ◌∷◌, Option, Some, None, map}
+use Rattle.std.proofs.Common.{drop, length, get_or, refl, ap, ◌∙◌, sym, arith, rules}
 use Rattle.std.specs.Prelude.{ℤ}
 use Rattle.sp_tree.specs.declared.checked.Arm.{Arm, out-Arm, fold_out-Arm}
 use Rattle.sp_tree.specs.Plain as p
@@ -9,12 +10,14 @@ use Rattle.sp_meaning.specs.Deeds.{has, arm_for}
 pub arm_is : (a : Arm) → arm_of a ≡ p.On (out-Arm a).constants (stmt_of (out-Arm a).body)
 arm_is a = search (rules, fold_out-Arm)
 
-pub arm_on : (n : ℤ) (bs : List Arm) (i : ℕ) (b : Arm) → i < length bs → b ≡ get_or bs i b → has n (out-Arm b).constants ≡ false → arm_for n (arms_of (drop i bs)) ≡ arm_for n (arms_of (drop (suc i) bs))
+pub arm_on : (n : ℤ) (bs : List Arm) (i : ℕ) (b : Arm) → i < length bs → b ≡ get_or bs i b
+    → has n (out-Arm b).constants ≡ false → arm_for n (arms_of (drop i bs)) ≡ arm_for n (arms_of (drop (suc i) bs))
 arm_on n [] i b h q e = absurd (omega arith)
 arm_on n (c ∷ bs) zero b h q e = rw (sym q) (rw (arm_is b) (rw e refl))
 arm_on n (c ∷ bs) (suc i) b h q e = arm_on n bs i b (omega arith) q e
 
-pub arm_stop : (n : ℤ) (bs : List Arm) (i : ℕ) (b : Arm) → i < length bs → b ≡ get_or bs i b → has n (out-Arm b).constants ≡ true → arm_for n (arms_of (drop i bs)) ≡ Some (stmt_of (out-Arm b).body)
+pub arm_stop : (n : ℤ) (bs : List Arm) (i : ℕ) (b : Arm) → i < length bs → b ≡ get_or bs i b
+    → has n (out-Arm b).constants ≡ true → arm_for n (arms_of (drop i bs)) ≡ Some (stmt_of (out-Arm b).body)
 arm_stop n [] i b h q e = absurd (omega arith)
 arm_stop n (c ∷ bs) zero b h q e = rw (sym q) (rw (arm_is b) (rw e refl))
 arm_stop n (c ∷ bs) (suc i) b h q e = arm_stop n bs i b (omega arith) q e

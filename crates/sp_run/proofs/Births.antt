@@ -1,5 +1,6 @@
 -- Children born one after another.
-use Rattle.std.proofs.Common.{◌≡◌, ℕ, zero, suc, ◌+◌, ◌-◌, ◌<◌, ◌≤◌, List, [], ◌∷◌, Some, None, map, drop, length, get_or, refl, ap, ◌∙◌, sym, arith}
+use Rattle.std.proofs.Common.{◌≡◌, ℕ, zero, suc, ◌+◌, ◌-◌, ◌<◌, ◌≤◌, List, [], ◌∷◌, Some, None, map, drop, length}
+use Rattle.std.proofs.Common.{get_or, refl, ap, ◌∙◌, sym, arith}
 use Rattle.std.proofs.lemmas.Int.{ints}
 use Rattle.std.specs.Prelude.{ℤ, pos, ◌+ℤ◌}
 use Rattle.sp_tree.specs.declared.checked.Stmt as ast
@@ -19,16 +20,21 @@ use Rattle.sp_run.specs.States.{state_of, ChangeIn, Changes}
 module _ (g : o.Setting) (p : Name) (k : ℕ) (w : o.Who) (own : o.Own) where
   pub born_on : (ss : List ast.Stmt) (i : ℕ) (s : ast.Stmt) → i < length ss → s ≡ get_or ss i s
       → births {L = superpascal g} p k i (newborns w own i (children (stmts_of (drop i ss))))
-      ≡ Becomes ((k, i) ∷ p) (Works (newborn w own i (record { todo = push (stmt_of s) []; index = None }))) ∷ births {L = superpascal g} p k (suc i) (newborns w own (suc i) (children (stmts_of (drop (suc i) ss))))
-  born_on ss i s h e = ap (λ z. births {L = superpascal g} p k i (newborns w own i (children (stmts_of z)))) (split ss i s h e)
+      ≡ Becomes ((k, i) ∷ p) (Works (newborn w own i (record { todo = push (stmt_of s) []; index = None })))
+      ∷ births {L = superpascal g} p k (suc i) (newborns w own (suc i) (children (stmts_of (drop (suc i) ss))))
+  born_on ss i s h e = ap (λ z. births {L = superpascal g} p k i (newborns w own i (children (stmts_of z))))
+      (split ss i s h e)
     where
-      split : (ss : List ast.Stmt) (i : ℕ) (s : ast.Stmt) → i < length ss → s ≡ get_or ss i s → drop i ss ≡ s ∷ drop (suc i) ss
+      split : (ss : List ast.Stmt) (i : ℕ) (s : ast.Stmt) → i < length ss → s ≡ get_or ss i s
+          → drop i ss ≡ s ∷ drop (suc i) ss
       split [] i s h e = absurd (omega arith)
       split (t ∷ ss) zero s h e = ap (λ z. z ∷ ss) (sym e)
       split (t ∷ ss) (suc i) s h e = split ss i s (omega arith) e
 
-  pub born_end : (ss : List ast.Stmt) (i : ℕ) → length ss ≤ i → births {L = superpascal g} p k i (newborns w own i (children (stmts_of (drop i ss)))) ≡ []
-  born_end ss i h = ap (λ z. births {L = superpascal g} p k i (newborns w own i (children (stmts_of z)))) (nothing ss i h)
+  pub born_end : (ss : List ast.Stmt) (i : ℕ) → length ss ≤ i
+      → births {L = superpascal g} p k i (newborns w own i (children (stmts_of (drop i ss)))) ≡ []
+  born_end ss i h = ap (λ z. births {L = superpascal g} p k i (newborns w own i (children (stmts_of z))))
+      (nothing ss i h)
     where
       nothing : (ss : List ast.Stmt) (i : ℕ) → length ss ≤ i → drop i ss ≡ []
       nothing [] zero h = refl
@@ -38,13 +44,16 @@ module _ (g : o.Setting) (p : Name) (k : ℕ) (w : o.Who) (own : o.Own) where
 
   pub indexed_on : (x : ℕ) (s : Stmt) (low value : ℤ) (n i : ℕ) → i < n → value ≡ low +ℤ pos i
       → births {L = superpascal g} p k i (newborns w own i (indexed_children x s (low +ℤ pos i) (n - i)))
-      ≡ Becomes ((k, i) ∷ p) (Works (newborn w own i (record { todo = push s []; index = Some (x, value) }))) ∷ births {L = superpascal g} p k (suc i) (newborns w own (suc i) (indexed_children x s (low +ℤ pos (suc i)) (n - suc i)))
+      ≡ Becomes ((k, i) ∷ p) (Works (newborn w own i (record { todo = push s []; index = Some (x, value) })))
+      ∷ births {L = superpascal g} p k (suc i)
+      (newborns w own (suc i) (indexed_children x s (low +ℤ pos (suc i)) (n - suc i)))
   indexed_on x s low value n i h e =
       let d : n - i ≡ suc (n - suc i) = omega arith in
       let f : (low +ℤ pos i) +ℤ pos 1 ≡ low +ℤ pos (suc i) = grind (arith, ints) in
       rw (d, e, ← f) refl
 
-  pub indexed_end : (x : ℕ) (s : Stmt) (low : ℤ) (n i : ℕ) → n ≤ i → births {L = superpascal g} p k i (newborns w own i (indexed_children x s (low +ℤ pos i) (n - i))) ≡ []
+  pub indexed_end : (x : ℕ) (s : Stmt) (low : ℤ) (n i : ℕ) → n ≤ i
+      → births {L = superpascal g} p k i (newborns w own i (indexed_children x s (low +ℤ pos i) (n - i))) ≡ []
   indexed_end x s low n i h = let d : n - i ≡ 0 = omega arith in rw d refl
 
 module _ (run : set.Setting) (p : Name) (k : ℕ) (w : o.Who) (own : o.Own) where
@@ -52,40 +61,53 @@ module _ (run : set.Setting) (p : Name) (k : ℕ) (w : o.Who) (own : o.Own) wher
   each_from ss i = births {L = superpascal (setting_of run)} p k i (newborns w own i (children (stmts_of (drop i ss))))
 
   -- one child more is born
-  pub born_next : (a b : State) (ss : List ast.Stmt) (i j n : ℕ) (s : ast.Stmt) (child : o.Process) (r : StateOf (setting_of run))
-      → i < length ss → s ≡ get_or ss i s → j ≡ i + 1 → n ≡ i → child ≡ newborn w own n (record { todo = push (stmt_of s) []; index = None })
+  pub born_next : (a b : State) (ss : List ast.Stmt) (i j n : ℕ) (s : ast.Stmt) (child : o.Process)
+      (r : StateOf (setting_of run))
+      → i < length ss → s ≡ get_or ss i s → j ≡ i + 1 → n ≡ i
+      → child ≡ newborn w own n (record { todo = push (stmt_of s) []; index = None })
       → Changes run a (Becomes ((k, n) ∷ p) (Works child) ∷ []) b
       → after (each_from ss i) (state_of run a) ≡ r → after (each_from ss j) (state_of run b) ≡ r
   born_next a b ss i j n s child r h e f m c d t =
       let u : j ≡ suc i = omega arith in
       let d1 = rw (c, m) at d in
       rw u (ap (λ (v : StateOf (setting_of run)). after (each_from ss (suc i)) v) d1
-      ∙ (sym (ap (λ (z : List (ChangeIn run)). after z (state_of run a)) (born_on (setting_of run) p k w own ss i s h e)) ∙ t))
+      ∙ (sym (ap (λ (z : List (ChangeIn run)). after z (state_of run a))
+      (born_on (setting_of run) p k w own ss i s h e)) ∙ t))
 
-  pub born_all : (a : State) (ss : List ast.Stmt) (i : ℕ) (r : StateOf (setting_of run)) → length ss ≤ i → after (each_from ss i) (state_of run a) ≡ r → state_of run a ≡ r
-  born_all a ss i r h t = sym (ap (λ (z : List (ChangeIn run)). after z (state_of run a)) (born_end (setting_of run) p k w own ss i h)) ∙ t
+  pub born_all : (a : State) (ss : List ast.Stmt) (i : ℕ) (r : StateOf (setting_of run)) → length ss ≤ i
+      → after (each_from ss i) (state_of run a) ≡ r → state_of run a ≡ r
+  born_all a ss i r h t = sym (ap (λ (z : List (ChangeIn run)). after z (state_of run a))
+      (born_end (setting_of run) p k w own ss i h)) ∙ t
 
   abbrev indexed_from : ℕ → Stmt → ℤ → ℕ → ℕ → List (ChangeIn run)
-  indexed_from x s low n i = births {L = superpascal (setting_of run)} p k i (newborns w own i (indexed_children x s (low +ℤ pos i) (n - i)))
+  indexed_from x s low n i = births {L = superpascal (setting_of run)} p k i
+      (newborns w own i (indexed_children x s (low +ℤ pos i) (n - i)))
 
-  pub indexed_next : (a b : State) (x : ℕ) (s : Stmt) (low value : ℤ) (n i j : ℕ) (child : o.Process) (r : StateOf (setting_of run))
-      → i < n → value ≡ low +ℤ pos i → j ≡ i + 1 → child ≡ newborn w own i (record { todo = push s []; index = Some (x, value) })
+  pub indexed_next : (a b : State) (x : ℕ) (s : Stmt) (low value : ℤ) (n i j : ℕ) (child : o.Process)
+      (r : StateOf (setting_of run))
+      → i < n → value ≡ low +ℤ pos i → j ≡ i + 1
+      → child ≡ newborn w own i (record { todo = push s []; index = Some (x, value) })
       → Changes run a (Becomes ((k, i) ∷ p) (Works child) ∷ []) b
       → after (indexed_from x s low n i) (state_of run a) ≡ r → after (indexed_from x s low n j) (state_of run b) ≡ r
   indexed_next a b x s low value n i j child r h e f c d t =
       let u : j ≡ suc i = omega arith in
       let d1 = rw c at d in
       rw u (ap (λ (v : StateOf (setting_of run)). after (indexed_from x s low n (suc i)) v) d1
-      ∙ (sym (ap (λ (z : List (ChangeIn run)). after z (state_of run a)) (indexed_on (setting_of run) p k w own x s low value n i h e)) ∙ t))
+      ∙ (sym (ap (λ (z : List (ChangeIn run)). after z (state_of run a))
+      (indexed_on (setting_of run) p k w own x s low value n i h e)) ∙ t))
 
-  pub indexed_all : (a : State) (x : ℕ) (s : Stmt) (low : ℤ) (n i : ℕ) (r : StateOf (setting_of run)) → n ≤ i → after (indexed_from x s low n i) (state_of run a) ≡ r → state_of run a ≡ r
-  indexed_all a x s low n i r h t = sym (ap (λ (z : List (ChangeIn run)). after z (state_of run a)) (indexed_end (setting_of run) p k w own x s low n i h)) ∙ t
+  pub indexed_all : (a : State) (x : ℕ) (s : Stmt) (low : ℤ) (n i : ℕ) (r : StateOf (setting_of run)) → n ≤ i
+      → after (indexed_from x s low n i) (state_of run a) ≡ r → state_of run a ≡ r
+  indexed_all a x s low n i r h t = sym (ap (λ (z : List (ChangeIn run)). after z (state_of run a))
+      (indexed_end (setting_of run) p k w own x s low n i h)) ∙ t
 
 -- how many they are
-pub each_count : (w : o.Who) (own : o.Own) (ss : List ast.Stmt) (i : ℕ) → length ss ≡ length (newborns w own i (children (stmts_of ss)))
+pub each_count : (w : o.Who) (own : o.Own) (ss : List ast.Stmt) (i : ℕ)
+    → length ss ≡ length (newborns w own i (children (stmts_of ss)))
 each_count w own [] i = refl
 each_count w own (s ∷ ss) i = ap suc (each_count w own ss (suc i))
 
-pub indexed_count : (w : o.Who) (own : o.Own) (x : ℕ) (s : Stmt) (low : ℤ) (n i : ℕ) → n ≡ length (newborns w own i (indexed_children x s low n))
+pub indexed_count : (w : o.Who) (own : o.Own) (x : ℕ) (s : Stmt) (low : ℤ) (n i : ℕ)
+    → n ≡ length (newborns w own i (indexed_children x s low n))
 indexed_count w own x s low zero i = refl
 indexed_count w own x s low (suc n) i = ap suc (indexed_count w own x s (low +ℤ pos 1) n (suc i))

@@ -6,8 +6,10 @@ use Rattle.sp_tree.specs.Bare.{bare_block}
 use Rattle.sp_tree.specs.PlainOf.{block_of, blocks_of}
 use Rattle.sp_run.proofs.Values.{some_mapped, none_mapped}
 
-pub some_block : (bs : List Block) (f : ℕ) (b : Block) → slice_get bs f ≡ Some b → slice_get (blocks_of bs) f ≡ Some (block_of b)
-some_block bs f b e = some_mapped bare_block (map placed.block_of bs) f (placed.block_of b) (some_mapped placed.block_of bs f b e)
+pub some_block : (bs : List Block) (f : ℕ) (b : Block) → slice_get bs f ≡ Some b
+    → slice_get (blocks_of bs) f ≡ Some (block_of b)
+some_block bs f b e = some_mapped bare_block (map placed.block_of bs) f (placed.block_of b)
+    (some_mapped placed.block_of bs f b e)
 
 pub no_block : (bs : List Block) (f : ℕ) → slice_get bs f ≡ None → slice_get (blocks_of bs) f ≡ None
 no_block bs f e = none_mapped bare_block (map placed.block_of bs) f (none_mapped placed.block_of bs f e)

@@ -1,5 +1,6 @@
 -- All processes of a state, gone through one after another: none is running, and those that wait.
-use Rattle.std.proofs.Common.{◌≡◌, ◌⊎◌, ⊎_elim, inl, inr, ℕ, zero, suc, ◌+◌, ◌<◌, ◌≤◌, Bool, true, false, List, [], ◌∷◌, Option, Some, None, map, length, get_or, refl, ap, ◌∙◌, sym, subst, arith, add-one}
+use Rattle.std.proofs.Common.{◌≡◌, ◌⊎◌, ⊎_elim, inl, inr, ℕ, zero, suc, ◌+◌, ◌<◌, ◌≤◌, Bool, true, false, List, [], ◌∷◌}
+use Rattle.std.proofs.Common.{Option, Some, None, map, length, get_or, refl, ap, ◌∙◌, sym, subst, arith, add-one}
 use Rattle.std.specs.Prelude.{◌≢◌}
 use Rattle.sp_base.proofs.Facts.{below_or_at}
 use Rattle.sp_run.specs.declared.machine.Setting as set
@@ -26,14 +27,18 @@ name_at_is (c ∷ bs) zero b h e = ap (λ (x : Became). x.name) (sym e)
 name_at_is (c ∷ bs) (suc k) b h e = name_at_is bs k b (omega arith) e
 
 -- a process is absent, or it is one of the entries
-known : (bs : List Became) (q : Name) → (conditions_of bs q ≡ m.Absent) ⊎ ((k : ℕ) × (k < length bs) × (name_at bs k ≡ q))
+known : (bs : List Became) (q : Name) → (conditions_of bs q ≡ m.Absent)
+    ⊎ ((k : ℕ) × (k < length bs) × (name_at bs k ≡ q))
 known bs q = entered (λ (b : Became). b.name) (λ (b : Became). plain_condition b.condition) (λ p. m.Absent) bs q
 
-pub idle_all : (run : set.Setting) (s : State) → ((k : ℕ) → k < length s.conditions → running (setting_of run) (state_of run s) (name_at s.conditions k) ≡ None) → IsIdle (setting_of run) (state_of run s)
+pub idle_all : (run : set.Setting) (s : State)
+    → ((k : ℕ) → k < length s.conditions → running (setting_of run) (state_of run s) (name_at s.conditions k) ≡ None)
+    → IsIdle (setting_of run) (state_of run s)
 unfolding state_of
 idle_all run s h q = ⊎_elim
     (λ (e : conditions_of s.conditions q ≡ m.Absent). ap (working_in (conditions_of s.conditions) q) e)
-    (λ (x : (k : ℕ) × (k < length s.conditions) × (name_at s.conditions k ≡ q)). subst (λ z. running (setting_of run) (state_of run s) z ≡ None) x.2 (h x.0 x.1))
+    (λ (x : (k : ℕ) × (k < length s.conditions) × (name_at s.conditions k ≡ q)). subst
+    (λ z. running (setting_of run) (state_of run s) z ≡ None) x.2 (h x.0 x.1))
     (known s.conditions q)
 
 -- an offer stands in a condition where its process waits
@@ -48,19 +53,25 @@ waits_with m.Ended f e = absurd (cc e)
 pub record AreBelow (run : set.Setting) (s : State) (i : ℕ) (vs : List Waiting) : Type 0 where
   pub sorted : IsSorted vs
   pub only : (w : Waiting) → IsIn w vs → WaitsSo (setting_of run) (state_of run s) w
-  pub whole : (k : ℕ) → k < i → (w : Waiting) → WaitsSo (setting_of run) (state_of run s) w → name_at s.conditions k ≡ w.who → IsIn w vs
+  pub whole : (k : ℕ) → k < i → (w : Waiting) → WaitsSo (setting_of run) (state_of run s) w
+      → name_at s.conditions k ≡ w.who → IsIn w vs
 
-below_waits : (run : set.Setting) (s : State) (i : ℕ) (vs : List Waiting) (f : m.Offer o.Process o.Held o.Address) → AreBelow run s i vs
+below_waits : (run : set.Setting) (s : State) (i : ℕ) (vs : List Waiting) (f : m.Offer o.Process o.Held o.Address)
+    → AreBelow run s i vs
     → offer_in (conditions_of s.conditions (name_at s.conditions i)) ≡ Some f
-    → AreBelow run s (suc i) (inserted (record { who = name_at s.conditions i; way = way_of f.cargo; channel = f.channel }) vs)
+    → AreBelow run s (suc i) (inserted (record
+    { who = name_at s.conditions i; way = way_of f.cargo; channel = f.channel }) vs)
 unfolding state_of
 below_waits run s i vs f h e =
     let w : Waiting = record { who = name_at s.conditions i; way = way_of f.cargo; channel = f.channel } in
-    let so : WaitsSo (setting_of run) (state_of run s) w = (f, waits_with (conditions_of s.conditions (name_at s.conditions i)) f e, refl, refl) in
-    let has : IsIn w (inserted w vs) = inserted_has w vs (λ v k n. waits_once (setting_of run) (state_of run s) w v so (h.only v k) n) in
+    let so : WaitsSo (setting_of run) (state_of run s) w =
+    (f, waits_with (conditions_of s.conditions (name_at s.conditions i)) f e, refl, refl) in
+    let has : IsIn w (inserted w vs) = inserted_has w vs
+    (λ v k n. waits_once (setting_of run) (state_of run s) w v so (h.only v k) n) in
     record {
       sorted = sorted_inserted w vs h.sorted;
-      only = λ v k. ⊎_elim (λ (z : v ≡ w). subst (WaitsSo (setting_of run) (state_of run s)) (sym z) so) (λ (z : IsIn v vs). h.only v z) (in_inserted v w vs k);
+      only = λ v k. ⊎_elim (λ (z : v ≡ w). subst (WaitsSo (setting_of run) (state_of run s)) (sym z) so)
+          (λ (z : IsIn v vs). h.only v z) (in_inserted v w vs k);
       whole = λ k l v t n. ⊎_elim
           (λ (z : k < i). inserted_keeps v w vs (h.whole k z v t n))
           (λ (z : k ≡ i). let q : w.who ≡ v.who = ap (name_at s.conditions) (sym z) ∙ n in
@@ -69,36 +80,46 @@ below_waits run s i vs f h e =
           (below_or_at k i l);
     }
 
-below_past : (run : set.Setting) (s : State) (i : ℕ) (vs : List Waiting) → AreBelow run s i vs → offer_in (conditions_of s.conditions (name_at s.conditions i)) ≡ None → AreBelow run s (suc i) vs
+below_past : (run : set.Setting) (s : State) (i : ℕ) (vs : List Waiting) → AreBelow run s i vs
+    → offer_in (conditions_of s.conditions (name_at s.conditions i)) ≡ None → AreBelow run s (suc i) vs
 unfolding state_of
 below_past run s i vs h e = record {
   sorted = h.sorted;
   only = h.only;
   whole = λ k l v t n. ⊎_elim
       (λ (z : k < i). h.whole k z v t n)
-      (λ (z : k ≡ i). let c : conditions_of s.conditions (name_at s.conditions i) ≡ m.Waits t.0 = ap (conditions_of s.conditions) (ap (name_at s.conditions) (sym z) ∙ n) ∙ t.1 in
+      (λ (z : k ≡ i). let c : conditions_of s.conditions (name_at s.conditions i) ≡ m.Waits t.0 =
+      ap (conditions_of s.conditions) (ap (name_at s.conditions) (sym z) ∙ n) ∙ t.1 in
       let x : Some t.0 ≡ None = sym (ap offer_in c) ∙ e in absurd (cc x))
       (below_or_at k i l);
 }
 
-below_one : (run : set.Setting) (s : State) (i : ℕ) (vs : List Waiting) (x : Option (m.Offer o.Process o.Held o.Address)) → AreBelow run s i vs
-    → offer_in (conditions_of s.conditions (name_at s.conditions i)) ≡ x → AreBelow run s (suc i) (with_offer (name_at s.conditions i) x vs)
+below_one : (run : set.Setting) (s : State) (i : ℕ) (vs : List Waiting)
+    (x : Option (m.Offer o.Process o.Held o.Address)) → AreBelow run s i vs
+    → offer_in (conditions_of s.conditions (name_at s.conditions i)) ≡ x
+    → AreBelow run s (suc i) (with_offer (name_at s.conditions i) x vs)
 below_one run s i vs None h e = below_past run s i vs h e
 below_one run s i vs (Some f) h e = below_waits run s i vs f h e
 
 pub below_next : (run : set.Setting) (s : State) (i : ℕ) (b : Became) (vs us : List Waiting) → AreBelow run s i vs
-    → i < length s.conditions → b ≡ get_or s.conditions i b → us ≡ with_offer b.name (offer_in (conditions_of s.conditions b.name)) vs → AreBelow run s (i + 1) us
+    → i < length s.conditions → b ≡ get_or s.conditions i b
+    → us ≡ with_offer b.name (offer_in (conditions_of s.conditions b.name)) vs → AreBelow run s (i + 1) us
 below_next run s i b vs us h l e u =
     let at : name_at s.conditions i ≡ b.name = name_at_is s.conditions i b l e in
-    rw (u, add-one) (subst (λ (n : Name). AreBelow run s (suc i) (with_offer n (offer_in (conditions_of s.conditions n)) vs)) at (below_one run s i vs (offer_in (conditions_of s.conditions (name_at s.conditions i))) h refl))
+    rw (u, add-one) (subst (λ (n : Name). AreBelow run s (suc i)
+    (with_offer n (offer_in (conditions_of s.conditions n)) vs)) at
+    (below_one run s i vs (offer_in (conditions_of s.conditions (name_at s.conditions i))) h refl))
 
-pub below_all : (run : set.Setting) (s : State) (i : ℕ) (vs : List Waiting) → AreBelow run s i vs → length s.conditions ≤ i → AreWaiting (setting_of run) (state_of run s) vs
+pub below_all : (run : set.Setting) (s : State) (i : ℕ) (vs : List Waiting) → AreBelow run s i vs
+    → length s.conditions ≤ i → AreWaiting (setting_of run) (state_of run s) vs
 unfolding state_of
 below_all run s i vs h l = record {
   sorted = h.sorted;
   only = h.only;
   whole = λ w t. ⊎_elim
-      (λ (e : conditions_of s.conditions w.who ≡ m.Absent). let x : m.Absent ≡ m.Waits t.0 = sym e ∙ t.1 in absurd (cc x))
-      (λ (x : (k : ℕ) × (k < length s.conditions) × (name_at s.conditions k ≡ w.who)). h.whole x.0 (omega (arith, x.1)) w t x.2)
+      (λ (e : conditions_of s.conditions w.who ≡ m.Absent). let x : m.Absent ≡ m.Waits t.0 = sym e ∙ t.1 in
+      absurd (cc x))
+      (λ (x : (k : ℕ) × (k < length s.conditions) × (name_at s.conditions k ≡ w.who)). h.whole x.0 (omega (arith, x.1))
+      w t x.2)
       (known s.conditions w.who);
 }

@@ -31,30 +31,49 @@ not_ended : (c : Standing) → has_ended c ≡ false → c ≡ m.Ended → ⊥
 not_ended c e h = let x : true ≡ false = sym (ap has_ended h) ∙ e in absurd (cc x)
 
 -- none was found
-pub none_runs : (p : Option Process) (x : Option o.Process) → option_map plain_process p ≡ x → is_some p ≡ false → x ≡ None
+pub none_runs : (p : Option Process) (x : Option o.Process) → option_map plain_process p ≡ x → is_some p ≡ false
+    → x ≡ None
 none_runs None x e h = sym e
 none_runs (Some p) x e h = absurd (cc h)
 
 module _ (run : set.Setting) (s : State) where
-  pub ends_fault : (p : Name) (f : Fault) (n : ProcName) → s.fault ≡ Some (p, f) → n ≡ proc_name p → EndsSo (setting_of run) (state_of run s) (Some (end.Fault n f))
+  pub ends_fault : (p : Name) (f : Fault) (n : ProcName) → s.fault ≡ Some (p, f) → n ≡ proc_name p
+      → EndsSo (setting_of run) (state_of run s) (Some (end.Fault n f))
   unfolding state_of
   ends_fault p f n e h = (p, e, h)
 
-  pub ends_done : has_ended (conditions_of s.conditions []) ≡ true → EndsSo (setting_of run) (state_of run s) (Some end.Done)
+  pub ends_done : has_ended (conditions_of s.conditions []) ≡ true
+      → EndsSo (setting_of run) (state_of run s) (Some end.Done)
   unfolding state_of
   ends_done e = ended_is (conditions_of s.conditions []) e
 
-  pub ends_deadlock : (vs : List Waiting) (ws : List Waiter) → s.fault ≡ None → has_ended (conditions_of s.conditions []) ≡ false → IsIdle (setting_of run) (state_of run s) → AreWaiting (setting_of run) (state_of run s) vs → ws ≡ map waiter_of vs → EndsSo (setting_of run) (state_of run s) (Some (end.Deadlock ws))
+  pub ends_deadlock : (vs : List Waiting) (ws : List Waiter) → s.fault ≡ None
+      → has_ended (conditions_of s.conditions []) ≡ false → IsIdle (setting_of run) (state_of run s)
+      → AreWaiting (setting_of run) (state_of run s) vs → ws ≡ map waiter_of vs
+      → EndsSo (setting_of run) (state_of run s) (Some (end.Deadlock ws))
   unfolding state_of
-  ends_deadlock vs ws f d i h e = (vs, record { idle = i; goes_on = not_ended (conditions_of s.conditions []) d; quiet = f; sorted = h.sorted; only = h.only; whole = h.whole }, e)
+  ends_deadlock vs ws f d i h e = (
+    vs,
+    record {
+      idle = i;
+      goes_on = not_ended (conditions_of s.conditions []) d;
+      quiet = f;
+      sorted = h.sorted;
+      only = h.only;
+      whole = h.whole;
+    },
+    e,
+  )
 
-  ends_not : (q : Name) (own : o.Process) → s.fault ≡ None → has_ended (conditions_of s.conditions []) ≡ false → running (setting_of run) (state_of run s) q ≡ Some own → EndsSo (setting_of run) (state_of run s) None
+  ends_not : (q : Name) (own : o.Process) → s.fault ≡ None → has_ended (conditions_of s.conditions []) ≡ false
+      → running (setting_of run) (state_of run s) q ≡ Some own → EndsSo (setting_of run) (state_of run s) None
   unfolding state_of
   ends_not q own f d r end.Done x = not_ended (conditions_of s.conditions []) d x
   ends_not q own f d r (end.Deadlock ws) x = let y : None ≡ Some own = sym (x.1.idle q) ∙ r in absurd (cc y)
   ends_not q own f d r (end.Fault n g) x = let y : None ≡ Some (x.0, g) = sym f ∙ x.1 in absurd (cc y)
   ends_not q own f d r end.Memory x = absurd x
 
-  pub ends_none : (b : Bool) → b ≡ false → s.fault ≡ None → has_ended (conditions_of s.conditions []) ≡ false → Idles (setting_of run) (state_of run s) b → EndsSo (setting_of run) (state_of run s) None
+  pub ends_none : (b : Bool) → b ≡ false → s.fault ≡ None → has_ended (conditions_of s.conditions []) ≡ false
+      → Idles (setting_of run) (state_of run s) b → EndsSo (setting_of run) (state_of run s) None
   ends_none true e f d i = absurd (cc e)
   ends_none false e f d i = ends_not i.0 i.1 f d i.2

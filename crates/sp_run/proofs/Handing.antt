@@ -12,19 +12,25 @@ use Rattle.sp_run.specs.Machines.{setting_of}
 use Rattle.sp_run.specs.States.{pending_of, state_of, Changes}
 
 -- the message goes over where the types are one
-pub hands_is : (g : o.Setting) (s : StateOf g) (p z : Name) (f w : m.Offer o.Process o.Held o.Address) (v : o.Address × o.Held) (x : Option (o.Address × o.Held))
-    → Some v ≡ x → f.kind ≡ w.kind → hands {L = superpascal g} s p f z w x ≡ Advances (meeting {L = superpascal g} s p f z w v)
+pub hands_is : (g : o.Setting) (s : StateOf g) (p z : Name) (f w : m.Offer o.Process o.Held o.Address)
+    (v : o.Address × o.Held) (x : Option (o.Address × o.Held))
+    → Some v ≡ x → f.kind ≡ w.kind → hands {L = superpascal g} s p f z w x
+    ≡ Advances (meeting {L = superpascal g} s p f z w v)
 hands_is g s p z f w v x e k = rw (← e) (rw (eq-eqb f.kind w.kind k) refl)
 
 module _ (run : set.Setting) where
-  pub offered_some : (s t : State) (p z : Name) (f : m.Offer o.Process o.Held o.Address) → pending_of s.pending f.channel ≡ Some z
+  pub offered_some : (s t : State) (p z : Name) (f : m.Offer o.Process o.Held o.Address)
+      → pending_of s.pending f.channel ≡ Some z
       → state_of run t ≡ result_of (state_of run s) p (meets (state_of run s) p f z ((state_of run s).condition z))
       → state_of run t ≡ result_of (state_of run s) p (acts (state_of run s) p (Offering f))
   unfolding state_of
-  offered_some s t p z f n e = e ∙ sym (ap (λ x. result_of {L = superpascal (setting_of run)} (state_of run s) p (offered (state_of run s) p f x)) n)
+  offered_some s t p z f n e = e ∙ sym (ap (λ x. result_of {L = superpascal (setting_of run)} (state_of run s) p
+      (offered (state_of run s) p f x)) n)
 
-  pub offered_none : (s t : State) (p : Name) (f : m.Offer o.Process o.Held o.Address) → pending_of s.pending f.channel ≡ None
+  pub offered_none : (s t : State) (p : Name) (f : m.Offer o.Process o.Held o.Address)
+      → pending_of s.pending f.channel ≡ None
       → Changes run s (waiting (state_of run s) p f) t
       → state_of run t ≡ result_of (state_of run s) p (acts (state_of run s) p (Offering f))
   unfolding state_of
-  offered_none s t p f n e = e ∙ sym (ap (λ x. result_of {L = superpascal (setting_of run)} (state_of run s) p (offered (state_of run s) p f x)) n)
+  offered_none s t p f n e = e ∙ sym (ap (λ x. result_of {L = superpascal (setting_of run)} (state_of run s) p
+      (offered (state_of run s) p f x)) n)

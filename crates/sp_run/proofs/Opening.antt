@@ -17,18 +17,39 @@ use Rattle.sp_meaning.specs.Runs.{StateOf, start}
 use Rattle.sp_run.specs.Machines.{setting_of}
 use Rattle.sp_run.specs.States.{Standing, plain_process, conditions_of, state_of}
 
-conditions_first : (root : Process) (q : Name) → conditions_of (record { name = []; condition = condition.Works root } ∷ []) q ≡ first_condition (plain_process root) q
+conditions_first : (root : Process) (q : Name)
+    → conditions_of (record { name = []; condition = condition.Works root } ∷ []) q
+    ≡ first_condition (plain_process root) q
 conditions_first root [] = refl
 conditions_first root (x ∷ q) = refl
 
 opening_is : (run : set.Setting) (p : Process) → plain_process p ≡ root (setting_of run)
-    → state_of run (record { conditions = record { name = []; condition = condition.Works p } ∷ []; forks = []; log = []; pending = []; totals = record { processes = 1; channels = 0; entries = 0 }; fault = None }) ≡ start (setting_of run)
+    → state_of run (record {
+      conditions = record { name = []; condition = condition.Works p } ∷ [];
+      forks = [];
+      log = [];
+      pending = [];
+      totals = record { processes = 1; channels = 0; entries = 0 };
+      fault = None;
+    })
+    ≡ start (setting_of run)
 unfolding state_of
 opening_is run p e =
-    let first : (λ (q : Name). conditions_of (record { name = []; condition = condition.Works p } ∷ []) q) ≡ (λ (q : Name). first_condition (plain_process p) q) = λ i q. conditions_first p q i in
+    let first : (λ (q : Name). conditions_of (record { name = []; condition = condition.Works p } ∷ []) q)
+    ≡ (λ (q : Name). first_condition (plain_process p) q) = λ i q. conditions_first p q i in
     let s : StateOf (setting_of run) = start (setting_of run) in
-    ap (λ (c : Name → Standing). record s { condition = c }) first ∙ ap (λ (r : o.Process). record s { condition = first_condition r }) e
+    ap (λ (c : Name → Standing). record s { condition = c }) first
+    ∙ ap (λ (r : o.Process). record s { condition = first_condition r }) e
 
-pub opening_of : (run : set.Setting) (p : Process) (cs : List Became) (fs : List Forks) (ws : List Write) (ps : List Pends) → cs ≡ record { name = []; condition = condition.Works p } ∷ [] → fs ≡ [] → ws ≡ [] → ps ≡ [] → plain_process p ≡ root (setting_of run)
-    → state_of run (record { conditions = cs; forks = fs; log = ws; pending = ps; totals = record { processes = 1; channels = 0; entries = 0 }; fault = None }) ≡ start (setting_of run)
+pub opening_of : (run : set.Setting) (p : Process) (cs : List Became) (fs : List Forks) (ws : List Write)
+    (ps : List Pends) → cs ≡ record { name = []; condition = condition.Works p } ∷ [] → fs ≡ [] → ws ≡ [] → ps ≡ []
+    → plain_process p ≡ root (setting_of run)
+    → state_of run (record {
+      conditions = cs;
+      forks = fs;
+      log = ws;
+      pending = ps;
+      totals = record { processes = 1; channels = 0; entries = 0 };
+      fault = None;
+    }) ≡ start (setting_of run)
 opening_of run p cs fs ws ps a b c d e = rw (a, b, c, d) (opening_is run p e)

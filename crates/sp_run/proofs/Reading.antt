@@ -1,12 +1,14 @@
 -- Bytes read one after another: how far blanks, digits and a line go, and the number that digits spell.
-use Rattle.std.proofs.Common.{◌≡◌, ℕ, zero, suc, ◌+◌, ◌-◌, ◌*◌, ◌==◌, ◌<◌, ◌≤◌, Bool, true, false, List, [], ◌∷◌, drop, length, get_or, refl, ap, ◌∙◌, sym, arith, if◌then◌else◌}
+use Rattle.std.proofs.Common.{◌≡◌, ℕ, zero, suc, ◌+◌, ◌-◌, ◌*◌, ◌==◌, ◌<◌, ◌≤◌, Bool, true, false, List, [], ◌∷◌, drop}
+use Rattle.std.proofs.Common.{length, get_or, refl, ap, ◌∙◌, sym, arith, if◌then◌else◌}
 use Rattle.std.specs.Prelude.{ℤ, ◌^◌}
 use Rattle.sp_tree.specs.Characters.{is_blank, is_digit}
 use Rattle.sp_tree.specs.Items.{blanks, digits, number_from, line_length}
 use Rattle.sp_tree.specs.Operators.{same_ordinal}
 use Rattle.sp_meaning.specs.Deeds.{has}
 
-pub blanks_on : (bs : List ℕ) (i : ℕ) → i < length bs → is_blank (get_or bs i 0) ≡ true → blanks (drop i bs) ≡ suc (blanks (drop (suc i) bs))
+pub blanks_on : (bs : List ℕ) (i : ℕ) → i < length bs → is_blank (get_or bs i 0) ≡ true
+    → blanks (drop i bs) ≡ suc (blanks (drop (suc i) bs))
 blanks_on [] i h e = absurd (omega arith)
 blanks_on (b ∷ bs) zero h e = rw e refl
 blanks_on (b ∷ bs) (suc i) h e = blanks_on bs i (omega arith) e
@@ -22,7 +24,8 @@ blanks_end [] (suc i) h = refl
 blanks_end (b ∷ bs) zero h = absurd (omega arith)
 blanks_end (b ∷ bs) (suc i) h = blanks_end bs i (omega arith)
 
-pub digits_on : (bs : List ℕ) (i : ℕ) → i < length bs → is_digit (get_or bs i 0) ≡ true → digits (drop i bs) ≡ suc (digits (drop (suc i) bs))
+pub digits_on : (bs : List ℕ) (i : ℕ) → i < length bs → is_digit (get_or bs i 0) ≡ true
+    → digits (drop i bs) ≡ suc (digits (drop (suc i) bs))
 digits_on [] i h e = absurd (omega arith)
 digits_on (b ∷ bs) zero h e = rw e refl
 digits_on (b ∷ bs) (suc i) h e = digits_on bs i (omega arith) e
@@ -38,7 +41,8 @@ digits_end [] (suc i) h = refl
 digits_end (b ∷ bs) zero h = absurd (omega arith)
 digits_end (b ∷ bs) (suc i) h = digits_end bs i (omega arith)
 
-pub line_on : (bs : List ℕ) (i : ℕ) → i < length bs → (get_or bs i 0 == 10) ≡ false → line_length (drop i bs) ≡ suc (line_length (drop (suc i) bs))
+pub line_on : (bs : List ℕ) (i : ℕ) → i < length bs → (get_or bs i 0 == 10) ≡ false
+    → line_length (drop i bs) ≡ suc (line_length (drop (suc i) bs))
 line_on [] i h e = absurd (omega arith)
 line_on (b ∷ bs) zero h e = rw e refl
 line_on (b ∷ bs) (suc i) h e = line_on bs i (omega arith) e
@@ -54,7 +58,8 @@ line_end [] (suc i) h = refl
 line_end (b ∷ bs) zero h = absurd (omega arith)
 line_end (b ∷ bs) (suc i) h = line_end bs i (omega arith)
 
-pub number_on : (n : ℕ) (bs : List ℕ) (i : ℕ) → i < length bs → number_from n (drop i bs) ≡ number_from (n * 10 + (get_or bs i 0 - 48)) (drop (suc i) bs)
+pub number_on : (n : ℕ) (bs : List ℕ) (i : ℕ) → i < length bs
+    → number_from n (drop i bs) ≡ number_from (n * 10 + (get_or bs i 0 - 48)) (drop (suc i) bs)
 number_on n [] i h = absurd (omega arith)
 number_on n (b ∷ bs) zero h = refl
 number_on n (b ∷ bs) (suc i) h = number_on n bs i (omega arith)
@@ -69,12 +74,14 @@ pub number_grows : (n : ℕ) (ds : List ℕ) → n ≤ number_from n ds
 number_grows n [] = omega arith
 number_grows n (d ∷ ds) = let h = number_grows (n * 10 + (d - 48)) ds in omega (arith, h)
 
-pub has_on : (n : ℤ) (ms : List ℤ) (i : ℕ) (m : ℤ) → i < length ms → m ≡ get_or ms i m → same_ordinal n m ≡ false → has n (drop i ms) ≡ has n (drop (suc i) ms)
+pub has_on : (n : ℤ) (ms : List ℤ) (i : ℕ) (m : ℤ) → i < length ms → m ≡ get_or ms i m → same_ordinal n m ≡ false
+    → has n (drop i ms) ≡ has n (drop (suc i) ms)
 has_on n [] i m h q e = absurd (omega arith)
 has_on n (k ∷ ms) zero m h q e = rw (sym q) (rw e refl)
 has_on n (k ∷ ms) (suc i) m h q e = has_on n ms i m (omega arith) q e
 
-pub has_stop : (n : ℤ) (ms : List ℤ) (i : ℕ) (m : ℤ) → i < length ms → m ≡ get_or ms i m → same_ordinal n m ≡ true → has n (drop i ms) ≡ true
+pub has_stop : (n : ℤ) (ms : List ℤ) (i : ℕ) (m : ℤ) → i < length ms → m ≡ get_or ms i m → same_ordinal n m ≡ true
+    → has n (drop i ms) ≡ true
 has_stop n [] i m h q e = absurd (omega arith)
 has_stop n (k ∷ ms) zero m h q e = rw (sym q) (rw e refl)
 has_stop n (k ∷ ms) (suc i) m h q e = has_stop n ms i m (omega arith) q e

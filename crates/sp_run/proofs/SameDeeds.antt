@@ -1,23 +1,32 @@
 -- Passing the store along is the meaning: statements and steps.
-use Rattle.std.proofs.Common.{◌≡◌, ℕ, zero, suc, ◌+◌, Bool, true, false, List, [], ◌∷◌, ◌++◌, Option, Some, None, length, refl, if◌then◌else◌}
+use Rattle.std.proofs.Common.{◌≡◌, ℕ, zero, suc, ◌+◌, Bool, true, false, List, [], ◌∷◌, ◌++◌, Option, Some, None}
+use Rattle.std.proofs.Common.{length, refl, if◌then◌else◌}
 use Rattle.std.specs.Prelude.{ℤ, pos, ◌+ℤ◌, ◌-ℤ◌, nat_abs, slice_get, nat_lt, int_le, int_lt, take}
 use Rattle.sp_base.specs.declared.fault.Fault.TheVariants as fault
-use Rattle.sp_tree.specs.Plain.{Expr, Typed, Variable, Block, Stmt, Empty, Assign, Call, Sequence, If, IfElse, While, Repeat, For, Case, Parallel, Forall, Assume, ReadValue, ReadLine, WriteValue, WriteText, WriteLine, Open, Send, Receive, Stmts, No, And, On, Arms, NoArm, Or}
+use Rattle.sp_tree.specs.Plain.{Expr, Typed, Variable, Block, Stmt, Empty, Assign, Call, Sequence, If, IfElse, While}
+use Rattle.sp_tree.specs.Plain.{Repeat, For, Case, Parallel, Forall, Assume, ReadValue, ReadLine, WriteValue, WriteText}
+use Rattle.sp_tree.specs.Plain.{WriteLine, Open, Send, Receive, Stmts, No, And, On, Arms, NoArm, Or}
 use Rattle.sp_tree.specs.Cells.{variables_of}
 use Rattle.sp_meaning.specs.Values.{Value, Ordinal, Chan, initials}
-use Rattle.sp_meaning.specs.Own.{Setting, Loc, Cell, Input, Output, Held, Tree, Position, Written, Address, Frame, Own, Who, Item, Do, First, Again, Test, Leave, Break, is_block, bytes_in, position_in}
+use Rattle.sp_meaning.specs.Own.{Setting, Loc, Cell, Input, Output, Held, Tree, Position, Written, Address, Frame, Own}
+use Rattle.sp_meaning.specs.Own.{Who, Item, Do, First, Again, Test, Leave, Break, is_block, bytes_in, position_in}
 use Rattle.sp_meaning.specs.Own as n
 use Rattle.sp_meaning.specs.Texts.{Taken, Takes as Took, Fails as Stops, padded, line_length}
 use Rattle.sp_meaning.specs.Eval.{Given, ValueOf, PlaceOf}
 use Rattle.sp_meaning.specs.Eval as v
-use Rattle.sp_meaning.specs.Deeds.{Birth, Deed, Stepped, Ticked, Opened, Forked, Offered, Ended, push, push_all, arm_for, is_range, goes_on, next_value, begins, pushed_frame, without_frame, children, indexed_children, size_of_frame, references, taken_by, shown}
+use Rattle.sp_meaning.specs.Deeds.{Birth, Deed, Stepped, Ticked, Opened, Forked, Offered, Ended, push, push_all}
+use Rattle.sp_meaning.specs.Deeds.{arm_for, is_range, goes_on, next_value, begins, pushed_frame, without_frame}
+use Rattle.sp_meaning.specs.Deeds.{children, indexed_children, size_of_frame, references, taken_by, shown}
 use Rattle.sp_meaning.specs.Deeds as m
 use Rattle.sp_meaning.specs.Run.{run}
 use Rattle.sp_run.specs.Direct as e
 use Rattle.sp_run.specs.DirectEval as x
 use Rattle.sp_run.specs.DirectDeeds as d
 use Rattle.sp_run.specs.Agree.{Same, closed}
-use Rattle.sp_run.proofs.SameEval.{chain, give_same, fail_same, lost_same, mine_same, who_same, become_same, look_same, put_same, or_lost_same, if_same, fetch_same, assign_same, reach_same, ordinal_same, channel_same, kind_same, read_same, address_of_same, place_of_same, left_same, value_same, actuals_same, address_same, ordinal_of_same}
+use Rattle.sp_run.proofs.SameEval.{chain, give_same, fail_same, lost_same, mine_same, who_same, become_same, look_same}
+use Rattle.sp_run.proofs.SameEval.{put_same, or_lost_same, if_same, fetch_same, assign_same, reach_same, ordinal_same}
+use Rattle.sp_run.proofs.SameEval.{channel_same, kind_same, read_same, address_of_same, place_of_same, left_same}
+use Rattle.sp_run.proofs.SameEval.{value_same, actuals_same, address_same, ordinal_of_same}
 use Rattle.sp_run.specs.Agree.{SameCalls}
 
 long_same : {A : Type 0} → Same {A = A} n.long e.long
@@ -31,21 +40,30 @@ module _ (g : Setting) where
   tick_same : Same (n.tick g.limits) (e.tick g.limits)
   tick_same = record { by = λ w o s. go w o s (nat_lt o.ticks g.limits.ticks) }
     where
-      go : (w : Who) (o : Own) (s : e.Store) (b : Bool) → closed (run {A = Unit {0}} (λ w o. if b then n.become (record o { ticks = o.ticks + 1 }) w o else n.fail fault.F10 w o) w o s) ≡ (if b then e.become (record o { ticks = o.ticks + 1 }) w o else e.fail fault.F10 w o) s
+      go : (w : Who) (o : Own) (s : e.Store) (b : Bool)
+          → closed (run {A = Unit {0}} (λ w o. if b then n.become (record o { ticks = o.ticks + 1 }) w o else
+          n.fail fault.F10 w o) w o s) ≡ (if b then e.become (record o { ticks = o.ticks + 1 }) w o else
+          e.fail fault.F10 w o) s
       go w o s true = refl
       go w o s false = refl
 
   deepen_same : Same (n.deepen g.limits) (e.deepen g.limits)
   deepen_same = record { by = λ w o s. go w o s (nat_lt o.depth g.limits.depth) }
     where
-      go : (w : Who) (o : Own) (s : e.Store) (b : Bool) → closed (run {A = Unit {0}} (λ w o. if b then n.become (record o { depth = o.depth + 1 }) w o else n.fail fault.F11 w o) w o s) ≡ (if b then e.become (record o { depth = o.depth + 1 }) w o else e.fail fault.F11 w o) s
+      go : (w : Who) (o : Own) (s : e.Store) (b : Bool)
+          → closed (run {A = Unit {0}} (λ w o. if b then n.become (record o { depth = o.depth + 1 }) w o else
+          n.fail fault.F11 w o) w o s) ≡ (if b then e.become (record o { depth = o.depth + 1 }) w o else
+          e.fail fault.F11 w o) s
       go w o s true = refl
       go w o s false = refl
 
   widen_same : (k : ℕ) → Same (n.widen g.limits k) (e.widen g.limits k)
   widen_same k = record { by = λ w o s. go w o s (nat_lt g.limits.cells (o.cells + k)) }
     where
-      go : (w : Who) (o : Own) (s : e.Store) (b : Bool) → closed (run {A = Unit {0}} (λ w o. if b then n.fail fault.F12 w o else n.become (record o { cells = o.cells + k }) w o) w o s) ≡ (if b then e.fail fault.F12 w o else e.become (record o { cells = o.cells + k }) w o) s
+      go : (w : Who) (o : Own) (s : e.Store) (b : Bool)
+          → closed (run {A = Unit {0}} (λ w o. if b then n.fail fault.F12 w o else
+          n.become (record o { cells = o.cells + k }) w o) w o s)
+          ≡ (if b then e.fail fault.F12 w o else e.become (record o { cells = o.cells + k }) w o) s
       go w o s true = refl
       go w o s false = refl
 
@@ -64,20 +82,28 @@ module _ (g : Setting) where
   copy_same : (k : ℕ) (xs : List ℕ) (gs : List Given) → Same (m.copy_in g k xs gs) (d.copy_in g k xs gs)
   copy_same k [] gs = give_same tt
   copy_same k (x ∷ xs) [] = give_same tt
-  copy_same k (x ∷ xs) (ValueOf v ∷ gs) = chain _ _ _ _ who_same (λ w. chain _ _ _ _ (put_same _ _) (λ u. copy_same k xs gs))
+  copy_same k (x ∷ xs) (ValueOf v ∷ gs) = chain _ _ _ _ who_same
+      (λ w. chain _ _ _ _ (put_same _ _) (λ u. copy_same k xs gs))
   copy_same k (x ∷ xs) (PlaceOf a ∷ gs) = copy_same k xs gs
 
   enter_same : (f : ℕ) (gs : List Given) → Same (m.enter g f gs) (d.enter g f gs)
   enter_same f gs =
-      chain _ _ _ _ (or_lost_same (slice_get g.program.blocks f)) (λ b. chain _ _ _ _ tick_same (λ u. chain _ _ _ _ deepen_same (λ u. chain _ _ _ _ (widen_same (size_of_frame g f)) (λ u.
-      chain _ _ _ _ (enclosing_same b.parent) (λ link. chain _ _ _ _ mine_same (λ o. chain _ _ _ _ who_same (λ w. chain _ _ _ _ (become_same (pushed_frame g f link (references b.formals gs) w o)) (λ u.
-      chain _ _ _ _ (lay_same (length o.frames) (variables_of f 0 g.program.variables)) (λ u. chain _ _ _ _ (copy_same (length o.frames) b.formals gs) (λ u. give_same b))))))))))
+      chain _ _ _ _ (or_lost_same (slice_get g.program.blocks f))
+      (λ b. chain _ _ _ _ tick_same (λ u. chain _ _ _ _ deepen_same
+      (λ u. chain _ _ _ _ (widen_same (size_of_frame g f)) (λ u.
+      chain _ _ _ _ (enclosing_same b.parent)
+      (λ link. chain _ _ _ _ mine_same (λ o. chain _ _ _ _ who_same
+      (λ w. chain _ _ _ _ (become_same (pushed_frame g f link (references b.formals gs) w o)) (λ u.
+      chain _ _ _ _ (lay_same (length o.frames) (variables_of f 0 g.program.variables))
+      (λ u. chain _ _ _ _ (copy_same (length o.frames) b.formals gs) (λ u. give_same b))))))))))
 
   leave_same : Same (m.leave g) (d.leave g)
   leave_same = chain _ _ _ _ mine_same (λ o. become_same _)
 
   write_same : (bs : List ℕ) → Same (m.write g bs) (d.write g bs)
-  write_same bs = chain _ _ _ _ (look_same Output) (λ h. if_same (nat_lt g.limits.output (length (bytes_in h) + length bs)) _ _ _ _ (fail_same fault.F16) (put_same _ _))
+  write_same bs = chain _ _ _ _ (look_same Output)
+      (λ h. if_same (nat_lt g.limits.output (length (bytes_in h) + length bs)) _ _ _ _ (fail_same fault.F16)
+      (put_same _ _))
 
   advance_same : (k : ℕ) → Same (m.advance g k) (d.advance g k)
   advance_same k = chain _ _ _ _ (look_same Input) (λ h. put_same _ _)
@@ -86,57 +112,94 @@ module _ (g : Setting) where
   take_same a (Took k bytes) = chain _ _ _ _ (advance_same bytes) (λ u. assign_same a (Ordinal k))
   take_same a (Stops f) = fail_same f
 
-  width_same : (call : v.Calls) (direct : x.Calls) → SameCalls call direct → (w : Option Expr) → Same (m.width g call w) (d.width g direct w)
+  width_same : (call : v.Calls) (direct : x.Calls) → SameCalls call direct → (w : Option Expr)
+      → Same (m.width g call w) (d.width g direct w)
   width_same call direct ok None = give_same None
   width_same call direct ok (Some e) = chain _ _ _ _ (ordinal_of_same g call direct ok e) (λ k. give_same (Some k))
 
   peek_same : (y : ℕ) → Same (m.peek g y) (d.peek g y)
   peek_same y = chain _ _ _ _ (place_of_same g y) (λ q. chain _ _ _ _ (address_of_same g q) (λ a. fetch_same a))
 
-  turn_same : (y : ℕ) (k limit : ℤ) (down : Bool) (s : Stmt) (todo : List Item) → Same (m.turn_of g y k limit down s todo) (d.turn_of g y k limit down s todo)
+  turn_same : (y : ℕ) (k limit : ℤ) (down : Bool) (s : Stmt) (todo : List Item)
+      → Same (m.turn_of g y k limit down s todo) (d.turn_of g y k limit down s todo)
   turn_same y k limit down s todo =
-      chain _ _ _ _ (place_of_same g y) (λ q. chain _ _ _ _ (address_of_same g q) (λ a. chain _ _ _ _ (assign_same a (Ordinal k)) (λ u. chain _ _ _ _ tick_same (λ u. give_same (Ticked (push s (Again y limit down s ∷ todo)))))))
+      chain _ _ _ _ (place_of_same g y) (λ q. chain _ _ _ _ (address_of_same g q)
+      (λ a. chain _ _ _ _ (assign_same a (Ordinal k))
+      (λ u. chain _ _ _ _ tick_same (λ u. give_same (Ticked (push s (Again y limit down s ∷ todo)))))))
 
   fork_same : (bs : List Birth) (todo : List Item) → Same (m.fork g bs todo) (d.fork g bs todo)
-  fork_same bs todo = chain _ _ _ _ mine_same (λ o. if_same (nat_lt o.depth g.limits.depth) _ _ _ _ (give_same _) (fail_same fault.F11))
+  fork_same bs todo = chain _ _ _ _ mine_same
+      (λ o. if_same (nat_lt o.depth g.limits.depth) _ _ _ _ (give_same _) (fail_same fault.F11))
 
   chosen_same : (s : Option Stmt) (todo : List Item) → Same (m.chosen g s todo) (d.chosen g s todo)
   chosen_same None todo = fail_same fault.F9
   chosen_same (Some s) todo = give_same _
 
-  start_same : (call : v.Calls) (direct : x.Calls) → SameCalls call direct → (s : Stmt) (todo : List Item) → Same (m.start g call s todo) (d.start g direct s todo)
+  start_same : (call : v.Calls) (direct : x.Calls) → SameCalls call direct → (s : Stmt) (todo : List Item)
+      → Same (m.start g call s todo) (d.start g direct s todo)
   start_same call direct ok Empty todo = give_same _
-  start_same call direct ok (Assign y e) todo = chain _ _ _ _ (address_same g call direct ok y) (λ a. chain _ _ _ _ (value_same g call direct ok e) (λ w. chain _ _ _ _ (assign_same a w) (λ u. give_same (Stepped todo))))
-  start_same call direct ok (Call f args) todo = chain _ _ _ _ (actuals_same g call direct ok args) (λ gs. chain _ _ _ _ (enter_same f gs) (λ b. give_same (Ticked (push b.body (Leave ∷ todo)))))
+  start_same call direct ok (Assign y e) todo =
+      chain _ _ _ _ (address_same g call direct ok y)
+      (λ a. chain _ _ _ _ (value_same g call direct ok e)
+      (λ w. chain _ _ _ _ (assign_same a w) (λ u. give_same (Stepped todo))))
+  start_same call direct ok (Call f args) todo =
+      chain _ _ _ _ (actuals_same g call direct ok args)
+      (λ gs. chain _ _ _ _ (enter_same f gs) (λ b. give_same (Ticked (push b.body (Leave ∷ todo)))))
   start_same call direct ok (Sequence ss) todo = give_same _
   start_same call direct ok (If e a) todo = chain _ _ _ _ (ordinal_of_same g call direct ok e) (λ k. give_same _)
   start_same call direct ok (IfElse e a b) todo = chain _ _ _ _ (ordinal_of_same g call direct ok e) (λ k. give_same _)
-  start_same call direct ok (While e s) todo = chain _ _ _ _ (ordinal_of_same g call direct ok e) (λ k. if_same (int_le k (pos 0)) _ _ _ _ (give_same _) (chain _ _ _ _ tick_same (λ u. give_same _)))
+  start_same call direct ok (While e s) todo =
+      chain _ _ _ _ (ordinal_of_same g call direct ok e)
+      (λ k. if_same (int_le k (pos 0)) _ _ _ _ (give_same _) (chain _ _ _ _ tick_same (λ u. give_same _)))
   start_same call direct ok (Repeat s e) todo = chain _ _ _ _ tick_same (λ u. give_same _)
-  start_same call direct ok (For y from down to s) todo = chain _ _ _ _ (ordinal_of_same g call direct ok from) (λ j. chain _ _ _ _ (ordinal_of_same g call direct ok to) (λ k. give_same _))
-  start_same call direct ok (Case e arms) todo = chain _ _ _ _ (ordinal_of_same g call direct ok e) (λ k. chosen_same (arm_for k arms) todo)
+  start_same call direct ok (For y from down to s) todo =
+      chain _ _ _ _ (ordinal_of_same g call direct ok from)
+      (λ j. chain _ _ _ _ (ordinal_of_same g call direct ok to) (λ k. give_same _))
+  start_same call direct ok (Case e arms) todo =
+      chain _ _ _ _ (ordinal_of_same g call direct ok e) (λ k. chosen_same (arm_for k arms) todo)
   start_same call direct ok (Parallel ss) todo = fork_same (children ss) todo
   start_same call direct ok (Forall y from to s) todo =
-      chain _ _ _ _ (ordinal_of_same g call direct ok from) (λ j. chain _ _ _ _ (ordinal_of_same g call direct ok to) (λ k. if_same (int_lt k j) _ _ _ _ (give_same _) (fork_same (indexed_children y s j (nat_abs ((k -ℤ j) +ℤ pos 1))) todo)))
-  start_same call direct ok (Assume e) todo = chain _ _ _ _ (ordinal_of_same g call direct ok e) (λ k. if_same (int_le k (pos 0)) _ _ _ _ (fail_same fault.F8) (give_same _))
+      chain _ _ _ _ (ordinal_of_same g call direct ok from)
+      (λ j. chain _ _ _ _ (ordinal_of_same g call direct ok to)
+      (λ k. if_same (int_lt k j) _ _ _ _ (give_same _)
+      (fork_same (indexed_children y s j (nat_abs ((k -ℤ j) +ℤ pos 1))) todo)))
+  start_same call direct ok (Assume e) todo =
+      chain _ _ _ _ (ordinal_of_same g call direct ok e)
+      (λ k. if_same (int_le k (pos 0)) _ _ _ _ (fail_same fault.F8) (give_same _))
   start_same call direct ok (ReadValue y) todo =
-      chain _ _ _ _ (address_same g call direct ok y) (λ a. chain _ _ _ _ (kind_same g a.kind) (λ k. chain _ _ _ _ (left_same g) (λ bs. chain _ _ _ _ (or_lost_same (taken_by k bs)) (λ t. chain _ _ _ _ (take_same a t) (λ u. give_same (Stepped todo))))))
-  start_same call direct ok ReadLine todo = chain _ _ _ _ (left_same g) (λ bs. chain _ _ _ _ (advance_same (line_length bs)) (λ u. give_same (Stepped todo)))
+      chain _ _ _ _ (address_same g call direct ok y)
+      (λ a. chain _ _ _ _ (kind_same g a.kind)
+      (λ k. chain _ _ _ _ (left_same g) (λ bs. chain _ _ _ _ (or_lost_same (taken_by k bs))
+      (λ t. chain _ _ _ _ (take_same a t) (λ u. give_same (Stepped todo))))))
+  start_same call direct ok ReadLine todo = chain _ _ _ _ (left_same g)
+      (λ bs. chain _ _ _ _ (advance_same (line_length bs)) (λ u. give_same (Stepped todo)))
   start_same call direct ok (WriteValue (Typed k form) w) todo =
-      chain _ _ _ _ (ordinal_of_same g call direct ok (Typed k form)) (λ j. chain _ _ _ _ (width_same call direct ok w) (λ i. chain _ _ _ _ (kind_same g k) (λ t.
-      chain _ _ _ _ (in_width_same (shown t j).0 (shown t j).1 i) (λ bs. chain _ _ _ _ (write_same bs) (λ u. give_same _)))))
-  start_same call direct ok (WriteText t w) todo = chain _ _ _ _ (width_same call direct ok w) (λ i. chain _ _ _ _ (in_width_same true t i) (λ bs. chain _ _ _ _ (write_same bs) (λ u. give_same _)))
+      chain _ _ _ _ (ordinal_of_same g call direct ok (Typed k form))
+      (λ j. chain _ _ _ _ (width_same call direct ok w) (λ i. chain _ _ _ _ (kind_same g k) (λ t.
+      chain _ _ _ _ (in_width_same (shown t j).0 (shown t j).1 i)
+      (λ bs. chain _ _ _ _ (write_same bs) (λ u. give_same _)))))
+  start_same call direct ok (WriteText t w) todo =
+      chain _ _ _ _ (width_same call direct ok w)
+      (λ i. chain _ _ _ _ (in_width_same true t i) (λ bs. chain _ _ _ _ (write_same bs) (λ u. give_same _)))
   start_same call direct ok WriteLine todo = chain _ _ _ _ (write_same (10 ∷ [])) (λ u. give_same _)
-  start_same call direct ok (Open y) todo = chain _ _ _ _ (address_same g call direct ok y) (λ a. chain _ _ _ _ who_same (λ w. chain _ _ _ _ (assign_same a _) (λ u. give_same (Opened todo))))
+  start_same call direct ok (Open y) todo = chain _ _ _ _ (address_same g call direct ok y)
+      (λ a. chain _ _ _ _ who_same (λ w. chain _ _ _ _ (assign_same a _) (λ u. give_same (Opened todo))))
   start_same call direct ok (Send c (Typed k form)) todo =
-      chain _ _ _ _ (value_same g call direct ok c) (λ y. chain _ _ _ _ (channel_same y) (λ to. chain _ _ _ _ (value_same g call direct ok (Typed k form)) (λ w. give_same _)))
+      chain _ _ _ _ (value_same g call direct ok c)
+      (λ y. chain _ _ _ _ (channel_same y)
+      (λ to. chain _ _ _ _ (value_same g call direct ok (Typed k form)) (λ w. give_same _)))
   start_same call direct ok (Receive c y) todo =
-      chain _ _ _ _ (value_same g call direct ok c) (λ z. chain _ _ _ _ (channel_same z) (λ from. chain _ _ _ _ (address_same g call direct ok y) (λ a. give_same _)))
+      chain _ _ _ _ (value_same g call direct ok c)
+      (λ z. chain _ _ _ _ (channel_same z)
+      (λ from. chain _ _ _ _ (address_same g call direct ok y) (λ a. give_same _)))
 
-  act_same : (call : v.Calls) (direct : x.Calls) → SameCalls call direct → (i : Item) (todo : List Item) → Same (m.act g call i todo) (d.act g direct i todo)
+  act_same : (call : v.Calls) (direct : x.Calls) → SameCalls call direct → (i : Item) (todo : List Item)
+      → Same (m.act g call i todo) (d.act g direct i todo)
   act_same call direct ok (Do s) todo = start_same call direct ok s todo
   act_same call direct ok (First y j k down s) todo = turn_same y j k down s todo
-  act_same call direct ok (Again y k down s) todo = chain _ _ _ _ (place_of_same g y) (λ q. chain _ _ _ _ (read_same g q) (λ z. chain _ _ _ _ (ordinal_same z) (λ j. turn_same y (next_value down j) k down s todo)))
+  act_same call direct ok (Again y k down s) todo =
+      chain _ _ _ _ (place_of_same g y) (λ q. chain _ _ _ _ (read_same g q)
+      (λ z. chain _ _ _ _ (ordinal_same z) (λ j. turn_same y (next_value down j) k down s todo)))
   act_same call direct ok (Test s e) todo = chain _ _ _ _ (ordinal_of_same g call direct ok e) (λ k. give_same _)
   act_same call direct ok Leave todo = chain _ _ _ _ leave_same (λ u. give_same (Stepped todo))
   act_same call direct ok (Break f) todo = fail_same f
@@ -145,7 +208,8 @@ module _ (g : Setting) where
   settle_same [] = give_same _
   settle_same (Do s ∷ todo) = give_same _
   settle_same (First y j k down s ∷ todo) = give_same _
-  settle_same (Again y k down s ∷ todo) = chain _ _ _ _ (peek_same y) (λ z. if_same (goes_on down k z) _ _ _ _ (give_same _) (settle_same todo))
+  settle_same (Again y k down s ∷ todo) = chain _ _ _ _ (peek_same y)
+      (λ z. if_same (goes_on down k z) _ _ _ _ (give_same _) (settle_same todo))
   settle_same (Test s e ∷ todo) = give_same _
   settle_same (Leave ∷ todo) = give_same _
   settle_same (Break f ∷ todo) = give_same _
@@ -162,12 +226,20 @@ module _ (g : Setting) where
   answer_same None = lost_same
   answer_same (Some y) = chain _ _ _ _ (place_of_same g y) (λ q. read_same g q)
 
-  calls_same : (go : List Item → n.Work (List Item)) (on : List Item → e.Work (List Item)) → ((todo : List Item) → Same (go todo) (on todo)) → SameCalls (m.call_by g go) (d.call_by g on)
-  calls_same go on p = record { by = λ f gs. chain _ _ _ _ (enter_same f gs) (λ b. chain _ _ _ _ (p (push b.body [])) (λ rest. chain _ _ _ _ (answer_same b.answer) (λ z. chain _ _ _ _ leave_same (λ u. give_same z)))) }
+  calls_same : (go : List Item → n.Work (List Item)) (on : List Item → e.Work (List Item))
+      → ((todo : List Item) → Same (go todo) (on todo)) → SameCalls (m.call_by g go) (d.call_by g on)
+  calls_same go on p = record {
+    by = λ f gs. chain _ _ _ _ (enter_same f gs)
+        (λ b. chain _ _ _ _ (p (push b.body []))
+        (λ rest. chain _ _ _ _ (answer_same b.answer) (λ z. chain _ _ _ _ leave_same (λ u. give_same z))));
+  }
 
-  rest_same : (go : List Item → n.Work (List Item)) (on : List Item → e.Work (List Item)) → ((todo : List Item) → Same (go todo) (on todo)) → (todo : List Item) → Same (m.rest_by g go todo) (d.rest_by g on todo)
+  rest_same : (go : List Item → n.Work (List Item)) (on : List Item → e.Work (List Item))
+      → ((todo : List Item) → Same (go todo) (on todo)) → (todo : List Item)
+      → Same (m.rest_by g go todo) (d.rest_by g on todo)
   rest_same go on p [] = give_same []
-  rest_same go on p (i ∷ todo) = chain _ _ _ _ (act_same (m.call_by g go) (d.call_by g on) (calls_same go on p) i todo) (λ a. chain _ _ _ _ (left_by_same a) p)
+  rest_same go on p (i ∷ todo) = chain _ _ _ _ (act_same (m.call_by g go) (d.call_by g on) (calls_same go on p) i todo)
+      (λ a. chain _ _ _ _ (left_by_same a) p)
 
   all_same : (k : ℕ) (todo : List Item) → Same (m.all g k todo) (d.all g k todo)
   all_same zero todo = long_same
@@ -175,7 +247,8 @@ module _ (g : Setting) where
 
   deed_by_same : (k : ℕ) (todo : List Item) → Same (m.deed_by g (m.all g k) todo) (d.deed_by g (d.all g k) todo)
   deed_by_same k [] = give_same Ended
-  deed_by_same k (i ∷ todo) = act_same (m.call_by g (m.all g k)) (d.call_by g (d.all g k)) (calls_same (m.all g k) (d.all g k) (all_same k)) i todo
+  deed_by_same k (i ∷ todo) = act_same (m.call_by g (m.all g k)) (d.call_by g (d.all g k))
+      (calls_same (m.all g k) (d.all g k) (all_same k)) i todo
 
   pub deed_same : (k : ℕ) (todo : List Item) → Same (m.deed g k todo) (d.deed g k todo)
   deed_same k todo = chain _ _ _ _ (settle_same todo) (λ rest. deed_by_same k rest)

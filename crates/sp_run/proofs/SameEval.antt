@@ -1,5 +1,6 @@
 -- Passing the store along is the meaning: expressions.
-use Rattle.std.proofs.Common.{◌≡◌, ℕ, Bool, true, false, List, [], ◌∷◌, Option, Some, None, length, refl, sym, ap, ◌∙◌, if◌then◌else◌}
+use Rattle.std.proofs.Common.{◌≡◌, ℕ, Bool, true, false, List, [], ◌∷◌, Option, Some, None, length, refl, sym, ap, ◌∙◌}
+use Rattle.std.proofs.Common.{if◌then◌else◌}
 use Rattle.std.specs.Prelude.{ℤ, pos, ◌-ℤ◌, nat_abs, slice_get, int_le, ◌&&◌, ◌++◌}
 use Rattle.sp_base.specs.declared.fault.Fault.{Fault}
 use Rattle.sp_base.specs.declared.fault.Fault.TheVariants as fault
@@ -11,13 +12,17 @@ use Rattle.sp_tree.specs.declared.operators.BinaryOp.{BinaryOp}
 use Rattle.sp_tree.specs.declared.operators.BinaryOp.TheVariants as binary
 use Rattle.sp_tree.specs.declared.operators.StandardFn.{StandardFn}
 use Rattle.sp_tree.specs.declared.operators.StandardFn.TheVariants as standard
-use Rattle.sp_tree.specs.Plain.{Expr, Typed, ExprForm, Number, Read, Unary, Binary, Apply, Standard, AtInput, Var, Entire, Index, Field, Selectors, Whole, Select, ByValue, ByReference, Actuals, Nothing, Pass, Variable}
+use Rattle.sp_tree.specs.Plain.{Expr, Typed, ExprForm, Number, Read, Unary, Binary, Apply, Standard, AtInput, Var}
+use Rattle.sp_tree.specs.Plain.{Entire, Index, Field, Selectors, Whole, Select, ByValue, ByReference, Actuals, Nothing}
+use Rattle.sp_tree.specs.Plain.{Pass, Variable}
 use Rattle.sp_meaning.specs.Model.{Channel}
 use Rattle.sp_meaning.specs.Values.{Value, Undefined, Ordinal, Chan, Parts}
-use Rattle.sp_meaning.specs.Operators.{Worked, Yields, Faults, ranged, successor, predecessor, absolute, square, is_odd, unary_op, binary_op, least, greatest}
+use Rattle.sp_meaning.specs.Operators.{Worked, Yields, Faults, ranged, successor, predecessor, absolute, square, is_odd}
+use Rattle.sp_meaning.specs.Operators.{unary_op, binary_op, least, greatest}
 use Rattle.sp_meaning.specs.Maps.{at_key}
 use Rattle.sp_meaning.specs.Asking.{Asking, Done, Loads, Puts, and_then, answer}
-use Rattle.sp_meaning.specs.Own.{Loc, Held, Address, Home, OfBlock, OfIndex, Frame, Setting, Own, Who, same_loc, seen, seek, is_block, is_index, referred}
+use Rattle.sp_meaning.specs.Own.{Loc, Held, Address, Home, OfBlock, OfIndex, Frame, Setting, Own, Who, same_loc, seen}
+use Rattle.sp_meaning.specs.Own.{seek, is_block, is_index, referred}
 use Rattle.sp_meaning.specs.Own as n
 use Rattle.sp_meaning.specs.Run.{run}
 use Rattle.sp_meaning.specs.Eval.{Place, At, Fixed, Given, field_kind}
@@ -26,13 +31,18 @@ use Rattle.sp_run.specs.Direct as e
 use Rattle.sp_run.specs.DirectEval as d
 use Rattle.sp_run.specs.Agree.{Same, SameCalls, closed}
 
-answer_then : {A B : Type 0} (t : Asking Loc Held A) (f : A → Asking Loc Held B) (s : e.Store) → answer same_loc (and_then t f) s ≡ answer same_loc (f (answer same_loc t s).0) (answer same_loc t s).1
+answer_then : {A B : Type 0} (t : Asking Loc Held A) (f : A → Asking Loc Held B) (s : e.Store)
+    → answer same_loc (and_then t f) s ≡ answer same_loc (f (answer same_loc t s).0) (answer same_loc t s).1
 answer_then (Done a) f s = refl
 answer_then (Loads l more) f s = answer_then (more (s l)) f s
 answer_then (Puts l v more) f s = answer_then more f (at_key same_loc l v s)
 
-pub chain : {A B : Type 0} (h : n.Work A) (k : A → n.Work B) (c : e.Work A) (l : A → e.Work B) → Same h c → ((a : A) → Same (k a) (l a)) → Same (n.bind h k) (e.bind c l)
-chain {A} {B} h k c l p q = record { by = λ w o s. ap closed (answer_then (h w o) (λ r. n.go_on k w r) s) ∙ (go w (run h w o s) ∙ ap (e.go_on l w) (p.by w o s)) }
+pub chain : {A B : Type 0} (h : n.Work A) (k : A → n.Work B) (c : e.Work A) (l : A → e.Work B) → Same h c
+    → ((a : A) → Same (k a) (l a)) → Same (n.bind h k) (e.bind c l)
+chain {A} {B} h k c l p q = record {
+  by = λ w o s. ap closed (answer_then (h w o) (λ r. n.go_on k w r) s)
+      ∙ (go w (run h w o s) ∙ ap (e.go_on l w) (p.by w o s));
+}
   where
     go : (w : Who) (r : n.Came A × e.Store) → closed (answer same_loc (n.go_on k w r.0) r.1) ≡ e.go_on l w (closed r)
     go w (n.Got a o1, s1) = (q a).by w o1 s1
@@ -68,7 +78,8 @@ pub or_lost_same : {A : Type 0} (x : Option A) → Same (n.or_lost x) (e.or_lost
 or_lost_same None = lost_same
 or_lost_same (Some a) = give_same a
 
-pub if_same : {A : Type 0} (b : Bool) (h k : n.Work A) (c l : e.Work A) → Same h c → Same k l → Same (if b then h else k) (if b then c else l)
+pub if_same : {A : Type 0} (b : Bool) (h k : n.Work A) (c l : e.Work A) → Same h c → Same k l
+    → Same (if b then h else k) (if b then c else l)
 if_same true h k c l x y = x
 if_same false h k c l x y = y
 
@@ -173,7 +184,8 @@ element_same a n kind.Integer = lost_same
 element_same a n kind.Boolean = lost_same
 element_same a n kind.Char = lost_same
 element_same a n (kind.Enumeration m) = lost_same
-element_same a n (kind.Array low high index element) = if_same (int_le low n && int_le n high) _ _ _ _ (give_same _) (fail_same fault.F1)
+element_same a n (kind.Array low high index element) =
+    if_same (int_le low n && int_le n high) _ _ _ _ (give_same _) (fail_same fault.F1)
 element_same a n (kind.Fields fs) = lost_same
 element_same a n (kind.Channel ks) = lost_same
 
@@ -205,7 +217,8 @@ module _ (g : Setting) where
   place_by_same x i role.Console = lost_same
   place_by_same x i role.Local = chain _ _ _ _ (visible_same _) (λ f. (give_same _))
   place_by_same x i role.Value = chain _ _ _ _ (visible_same _) (λ f. (give_same _))
-  place_by_same x i role.Reference = chain _ _ _ _ (visible_same _) (λ f. chain _ _ _ _ (or_lost_same _) (λ a. (give_same _)))
+  place_by_same x i role.Reference = chain _ _ _ _ (visible_same _)
+      (λ f. chain _ _ _ _ (or_lost_same _) (λ a. (give_same _)))
   place_by_same x i role.Index = chain _ _ _ _ (visible_same _) (λ f. index_in_same f.home)
   place_by_same x i role.Answer = chain _ _ _ _ (visible_same _) (λ f. (give_same _))
 
@@ -219,36 +232,53 @@ module _ (g : Setting) where
   as_ordinal_same h k st = chain _ _ _ _ st (λ v. ordinal_same v)
 
   mutual
-    pub value_same : (call : m.Calls) (direct : d.Calls) → SameCalls call direct → (e : Expr) → Same (m.value g call e) (d.value g direct e)
+    pub value_same : (call : m.Calls) (direct : d.Calls) → SameCalls call direct → (e : Expr)
+        → Same (m.value g call e) (d.value g direct e)
     value_same call direct ok (Typed k form) = form_same call direct ok k form
 
-    form_same : (call : m.Calls) (direct : d.Calls) → SameCalls call direct → (k : ℕ) (e : ExprForm) → Same (m.form_value g call k e) (d.form_value g direct k e)
+    form_same : (call : m.Calls) (direct : d.Calls) → SameCalls call direct → (k : ℕ) (e : ExprForm)
+        → Same (m.form_value g call k e) (d.form_value g direct k e)
     form_same call direct ok k (Number n) = (give_same _)
     form_same call direct ok k (Read v) = chain _ _ _ _ (place_same call direct ok v) (λ q. read_same q)
-    form_same call direct ok k (Unary op a) = chain _ _ _ _ (as_ordinal_same _ _ (value_same call direct ok a)) (λ n. work_same (unary_op op n))
-    form_same call direct ok k (Binary op a b) = chain _ _ _ _ (value_same call direct ok a) (λ v. chain _ _ _ _ (value_same call direct ok b) (λ w. binary_same op v w))
+    form_same call direct ok k (Unary op a) =
+        chain _ _ _ _ (as_ordinal_same _ _ (value_same call direct ok a)) (λ n. work_same (unary_op op n))
+    form_same call direct ok k (Binary op a b) =
+        chain _ _ _ _ (value_same call direct ok a)
+        (λ v. chain _ _ _ _ (value_same call direct ok b) (λ w. binary_same op v w))
     form_same call direct ok k (Apply f args) = chain _ _ _ _ (actuals_same call direct ok args) (λ gs. ok.by f gs)
     form_same call direct ok k (Standard f a) =
-        chain _ _ _ _ (as_ordinal_same _ _ (value_same call direct ok a)) (λ n. chain _ _ _ _ (kind_same k) (λ u. standard_same f u n))
+        chain _ _ _ _ (as_ordinal_same _ _ (value_same call direct ok a))
+        (λ n. chain _ _ _ _ (kind_same k) (λ u. standard_same f u n))
     form_same call direct ok k (AtInput f) = chain _ _ _ _ left_same (λ bs. input_same f bs)
 
-    pub place_same : (call : m.Calls) (direct : d.Calls) → SameCalls call direct → (v : Var) → Same (m.place g call v) (d.place g direct v)
+    pub place_same : (call : m.Calls) (direct : d.Calls) → SameCalls call direct → (v : Var)
+        → Same (m.place g call v) (d.place g direct v)
     place_same call direct ok (Entire x ss) = chain _ _ _ _ (place_of_same x) (λ q. selected_same call direct ok ss q)
 
-    selected_same : (call : m.Calls) (direct : d.Calls) → SameCalls call direct → (ss : Selectors) (q : Place) → Same (m.selected g call ss q) (d.selected g direct ss q)
+    selected_same : (call : m.Calls) (direct : d.Calls) → SameCalls call direct → (ss : Selectors) (q : Place)
+        → Same (m.selected g call ss q) (d.selected g direct ss q)
     selected_same call direct ok Whole q = give_same q
     selected_same call direct ok (Select (Index e) rest) q =
-        chain _ _ _ _ (as_ordinal_same _ _ (value_same call direct ok e)) (λ n. chain _ _ _ _ (indexed_same q n) (λ r. selected_same call direct ok rest r))
-    selected_same call direct ok (Select (Field f) rest) q = chain _ _ _ _ (fielded_same f q) (λ r. selected_same call direct ok rest r)
+        chain _ _ _ _ (as_ordinal_same _ _ (value_same call direct ok e))
+        (λ n. chain _ _ _ _ (indexed_same q n) (λ r. selected_same call direct ok rest r))
+    selected_same call direct ok (Select (Field f) rest) q =
+        chain _ _ _ _ (fielded_same f q) (λ r. selected_same call direct ok rest r)
 
-    pub actuals_same : (call : m.Calls) (direct : d.Calls) → SameCalls call direct → (args : Actuals) → Same (m.actuals g call args) (d.actuals g direct args)
+    pub actuals_same : (call : m.Calls) (direct : d.Calls) → SameCalls call direct → (args : Actuals)
+        → Same (m.actuals g call args) (d.actuals g direct args)
     actuals_same call direct ok Nothing = (give_same _)
-    actuals_same call direct ok (Pass (ByValue e) rest) = chain _ _ _ _ (value_same call direct ok e) (λ v. chain _ _ _ _ (actuals_same call direct ok rest) (λ gs. (give_same _)))
+    actuals_same call direct ok (Pass (ByValue e) rest) =
+        chain _ _ _ _ (value_same call direct ok e)
+        (λ v. chain _ _ _ _ (actuals_same call direct ok rest) (λ gs. (give_same _)))
     actuals_same call direct ok (Pass (ByReference x) rest) =
-        chain _ _ _ _ (place_same call direct ok x) (λ q. chain _ _ _ _ (address_of_same q) (λ a. chain _ _ _ _ (actuals_same call direct ok rest) (λ gs. (give_same _))))
+        chain _ _ _ _ (place_same call direct ok x)
+        (λ q. chain _ _ _ _ (address_of_same q)
+        (λ a. chain _ _ _ _ (actuals_same call direct ok rest) (λ gs. (give_same _))))
 
-  pub address_same : (call : m.Calls) (direct : d.Calls) → SameCalls call direct → (v : Var) → Same (m.address g call v) (d.address g direct v)
+  pub address_same : (call : m.Calls) (direct : d.Calls) → SameCalls call direct → (v : Var)
+      → Same (m.address g call v) (d.address g direct v)
   address_same call direct ok v = chain _ _ _ _ (place_same call direct ok v) (λ q. address_of_same q)
 
-  pub ordinal_of_same : (call : m.Calls) (direct : d.Calls) → SameCalls call direct → (e : Expr) → Same (m.ordinal_of g call e) (d.ordinal_of g direct e)
+  pub ordinal_of_same : (call : m.Calls) (direct : d.Calls) → SameCalls call direct → (e : Expr)
+      → Same (m.ordinal_of g call e) (d.ordinal_of g direct e)
   ordinal_of_same call direct ok e = as_ordinal_same _ _ (value_same call direct ok e)

@@ -1,5 +1,7 @@
 -- Waiting processes in the order of their names.
-use Rattle.std.proofs.Common.{◌≡◌, ◌⊎◌, ⊎_elim, inl, inr, ℕ, zero, suc, ◌+◌, ◌<◌, Bool, true, false, List, [], ◌∷◌, ◌++◌, map, take, drop, length, reverse, get_or, nat_lt, refl, ap, ◌∙◌, sym, subst, arith, if◌then◌else◌}
+use Rattle.std.proofs.Common.{◌≡◌, ◌⊎◌, ⊎_elim, inl, inr, ℕ, zero, suc, ◌+◌, ◌<◌, Bool, true, false, List, [], ◌∷◌}
+use Rattle.std.proofs.Common.{◌++◌, map, take, drop, length, reverse, get_or, nat_lt, refl, ap, ◌∙◌, sym, subst, arith}
+use Rattle.std.proofs.Common.{if◌then◌else◌}
 use Rattle.std.proofs.lemmas.Bool.Decides.{nat_tests}
 use Rattle.std.proofs.lemmas.List.{reverse-reverse}
 use Rattle.sp_meaning.specs.Model.{Name, same_name, Waits}
@@ -18,12 +20,15 @@ pub pairs_same : (p q : List (ℕ × ℕ)) → pairs_before p q ≡ false → pa
 pairs_same [] [] h k = refl
 pairs_same [] (b ∷ q) h k = absurd (cc h)
 pairs_same (a ∷ p) [] h k = absurd (cc k)
-pairs_same (a ∷ p) (b ∷ q) h k = go (nat_lt a.0 b.0) (nat_lt b.0 a.0) (nat_lt a.1 b.1) (nat_lt b.1 a.1) refl refl refl refl (λ u v. pairs_same p q u v) h k
+pairs_same (a ∷ p) (b ∷ q) h k = go (nat_lt a.0 b.0) (nat_lt b.0 a.0) (nat_lt a.1 b.1) (nat_lt b.1 a.1) refl refl refl
+    refl (λ u v. pairs_same p q u v) h k
   where
     go : (x y z w : Bool) → nat_lt a.0 b.0 ≡ x → nat_lt b.0 a.0 ≡ y → nat_lt a.1 b.1 ≡ z → nat_lt b.1 a.1 ≡ w
         → (pairs_before p q ≡ false → pairs_before q p ≡ false → p ≡ q)
-        → (if x then true else (if y then false else (if z then true else (if w then false else pairs_before p q)))) ≡ false
-        → (if y then true else (if x then false else (if w then true else (if z then false else pairs_before q p)))) ≡ false
+        → (if x then true else (if y then false else (if z then true else (if w then false else pairs_before p q))))
+        ≡ false
+        → (if y then true else (if x then false else (if w then true else (if z then false else pairs_before q p))))
+        ≡ false
         → a ∷ p ≡ b ∷ q
     go true y z w e f i j next h k = absurd (cc h)
     go false true z w e f i j next h k = absurd (cc k)
@@ -36,7 +41,8 @@ pairs_same (a ∷ p) (b ∷ q) h k = go (nat_lt a.0 b.0) (nat_lt b.0 a.0) (nat_l
         λ n. (u n, v n) ∷ r n
 
 pub names_same : (p q : Name) → name_before p q ≡ false → name_before q p ≡ false → p ≡ q
-names_same p q e f = let r : reverse p ≡ reverse q = pairs_same (reverse p) (reverse q) e f in sym (reverse-reverse p) ∙ (ap reverse r ∙ reverse-reverse q)
+names_same p q e f = let r : reverse p ≡ reverse q = pairs_same (reverse p) (reverse q) e f in
+    sym (reverse-reverse p) ∙ (ap reverse r ∙ reverse-reverse q)
 
 abbrev pub Heads : Waiting → List Waiting → Type 0
 Heads v [] = Unit
@@ -54,7 +60,8 @@ pub sorted_heads : (v : Waiting) (xs : List Waiting) → IsSorted (v ∷ xs) →
 sorted_heads v [] s = tt
 sorted_heads v (x ∷ xs) s = s.0
 
-heads_inserted : (v w : Waiting) (vs : List Waiting) → name_before v.who w.who ≡ true → Heads v vs → Heads v (inserted w vs)
+heads_inserted : (v w : Waiting) (vs : List Waiting) → name_before v.who w.who ≡ true → Heads v vs
+    → Heads v (inserted w vs)
 heads_inserted v w [] b h = b
 heads_inserted v w (u ∷ us) b h = go (name_before w.who u.who) (name_before u.who w.who)
   where
@@ -65,9 +72,11 @@ heads_inserted v w (u ∷ us) b h = go (name_before w.who u.who) (name_before u.
 
 pub sorted_inserted : (w : Waiting) (vs : List Waiting) → IsSorted vs → IsSorted (inserted w vs)
 sorted_inserted w [] s = tt
-sorted_inserted w (u ∷ us) s = go (name_before w.who u.who) (name_before u.who w.who) refl refl (sorted_inserted w us (sorted_rest u us s))
+sorted_inserted w (u ∷ us) s = go (name_before w.who u.who) (name_before u.who w.who) refl refl
+    (sorted_inserted w us (sorted_rest u us s))
   where
-    go : (x y : Bool) → name_before w.who u.who ≡ x → name_before u.who w.who ≡ y → IsSorted (inserted w us) → IsSorted (if x then w ∷ u ∷ us else (if y then u ∷ inserted w us else u ∷ us))
+    go : (x y : Bool) → name_before w.who u.who ≡ x → name_before u.who w.who ≡ y → IsSorted (inserted w us)
+        → IsSorted (if x then w ∷ u ∷ us else (if y then u ∷ inserted w us else u ∷ us))
     go true y e f r = (e, s)
     go false true e f r = sorted_cons u (inserted w us) (heads_inserted u w us f (sorted_heads u us s)) r
     go false false e f r = s
@@ -76,7 +85,8 @@ pub in_inserted : (x w : Waiting) (vs : List Waiting) → IsIn x (inserted w vs)
 in_inserted x w [] i = ⊎_elim (λ e. inl e) (λ n. absurd n) i
 in_inserted x w (u ∷ us) i = go (name_before w.who u.who) (name_before u.who w.who) (λ n. in_inserted x w us n) i
   where
-    go : (a b : Bool) → (IsIn x (inserted w us) → (x ≡ w) ⊎ IsIn x us) → IsIn x (if a then w ∷ u ∷ us else (if b then u ∷ inserted w us else u ∷ us)) → (x ≡ w) ⊎ IsIn x (u ∷ us)
+    go : (a b : Bool) → (IsIn x (inserted w us) → (x ≡ w) ⊎ IsIn x us)
+        → IsIn x (if a then w ∷ u ∷ us else (if b then u ∷ inserted w us else u ∷ us)) → (x ≡ w) ⊎ IsIn x (u ∷ us)
     go true b r i = i
     go false true r i = ⊎_elim (λ e. inr (inl e)) (λ n. ⊎_elim (λ e. inl e) (λ k. inr (inr k)) (r n)) i
     go false false r i = inr i
@@ -85,16 +95,20 @@ pub inserted_keeps : (x w : Waiting) (vs : List Waiting) → IsIn x vs → IsIn 
 inserted_keeps x w [] i = absurd i
 inserted_keeps x w (u ∷ us) i = go (name_before w.who u.who) (name_before u.who w.who) (λ n. inserted_keeps x w us n)
   where
-    go : (a b : Bool) → (IsIn x us → IsIn x (inserted w us)) → IsIn x (if a then w ∷ u ∷ us else (if b then u ∷ inserted w us else u ∷ us))
+    go : (a b : Bool) → (IsIn x us → IsIn x (inserted w us))
+        → IsIn x (if a then w ∷ u ∷ us else (if b then u ∷ inserted w us else u ∷ us))
     go true b r = inr i
     go false true r = ⊎_elim (λ e. inl e) (λ n. inr (r n)) i
     go false false r = i
 
-pub inserted_has : (w : Waiting) (vs : List Waiting) → ((v : Waiting) → IsIn v vs → w.who ≡ v.who → w ≡ v) → IsIn w (inserted w vs)
+pub inserted_has : (w : Waiting) (vs : List Waiting) → ((v : Waiting) → IsIn v vs → w.who ≡ v.who → w ≡ v)
+    → IsIn w (inserted w vs)
 inserted_has w [] same = inl refl
-inserted_has w (u ∷ us) same = go (name_before w.who u.who) (name_before u.who w.who) refl refl (inserted_has w us (λ v i. same v (inr i)))
+inserted_has w (u ∷ us) same = go (name_before w.who u.who) (name_before u.who w.who) refl refl
+    (inserted_has w us (λ v i. same v (inr i)))
   where
-    go : (a b : Bool) → name_before w.who u.who ≡ a → name_before u.who w.who ≡ b → IsIn w (inserted w us) → IsIn w (if a then w ∷ u ∷ us else (if b then u ∷ inserted w us else u ∷ us))
+    go : (a b : Bool) → name_before w.who u.who ≡ a → name_before u.who w.who ≡ b → IsIn w (inserted w us)
+        → IsIn w (if a then w ∷ u ∷ us else (if b then u ∷ inserted w us else u ∷ us))
     go true b e f r = inl refl
     go false true e f r = inr r
     go false false e f r = inl (same u (inl refl) (names_same w.who u.who e f))
@@ -109,14 +123,19 @@ waits_once g s w v a b e =
     λ n. record { who = e n; way = x n; channel = y n }
 
 -- what a map holds of a key is what it held at first, or the key was entered
-pub entered : {W X : Type 0} (key : W → Name) (held : W → X) (here : Name → X) (ws : List W) (q : Name) → (logged same_name key held here ws q ≡ here q) ⊎ ((k : ℕ) × (k < length ws) × (get_or (map key ws) k [] ≡ q))
+pub entered : {W X : Type 0} (key : W → Name) (held : W → X) (here : Name → X) (ws : List W) (q : Name)
+    → (logged same_name key held here ws q ≡ here q) ⊎ ((k : ℕ) × (k < length ws) × (get_or (map key ws) k [] ≡ q))
 entered key held here [] q = inl refl
 entered key held here (w ∷ ws) q = ⊎_elim
-    (λ (e : logged same_name key held (at_key same_name (key w) (held w) here) ws q ≡ at_key same_name (key w) (held w) here q). go (same_name (key w) q) refl e)
+    (λ (e : logged same_name key held (at_key same_name (key w) (held w) here) ws q
+    ≡ at_key same_name (key w) (held w) here q). go (same_name (key w) q) refl e)
     (λ (x : (k : ℕ) × (k < length ws) × (get_or (map key ws) k [] ≡ q)). inr (suc x.0, omega arith, x.2))
     (entered key held (at_key same_name (key w) (held w) here) ws q)
   where
-    go : (b : Bool) → same_name (key w) q ≡ b → logged same_name key held (at_key same_name (key w) (held w) here) ws q ≡ at_key same_name (key w) (held w) here q
-        → (logged same_name key held (at_key same_name (key w) (held w) here) ws q ≡ here q) ⊎ ((k : ℕ) × (k < suc (length ws)) × (get_or (key w ∷ map key ws) k [] ≡ q))
+    go : (b : Bool) → same_name (key w) q ≡ b
+        → logged same_name key held (at_key same_name (key w) (held w) here) ws q
+        ≡ at_key same_name (key w) (held w) here q
+        → (logged same_name key held (at_key same_name (key w) (held w) here) ws q ≡ here q)
+        ⊎ ((k : ℕ) × (k < suc (length ws)) × (get_or (key w ∷ map key ws) k [] ≡ q))
     go true t e = inr (0, omega arith, (name_test (key w) q).0 t)
     go false t e = inl (rw t at e)

@@ -21,22 +21,30 @@ use Rattle.sp_run.proofs.SameDeeds.{deed_same}
 
 module _ (g : o.Setting) where
   -- the writes of some work, made one after another, lead to the store after it
-  puts_after : {A : Type 0} (t : Asking Loc Held A) (here : d.Store) (s : StateOf g) → after {L = superpascal g} (puts {L = superpascal g} (put_by same_loc t here)) (with_store g here s) ≡ with_store g (answer same_loc t here).1 s
+  puts_after : {A : Type 0} (t : Asking Loc Held A) (here : d.Store) (s : StateOf g)
+      → after {L = superpascal g} (puts {L = superpascal g} (put_by same_loc t here)) (with_store g here s)
+      ≡ with_store g (answer same_loc t here).1 s
   puts_after (Done a) here s = refl
   puts_after (Loads l more) here s = puts_after (more (here l)) here s
   puts_after (Puts l v more) here s = puts_after more (at_key same_loc l v here) s
 
   -- what comes of a step, by what came of its own work and what it wrote
   result_is : (p : Name) (w : o.Who) (s : StateOf g) (r : o.Came Deed × d.Store) (ws : List (Loc × Held))
-      → ((u : StateOf g) → after {L = superpascal g} (puts {L = superpascal g} ws) (with_store g s.store u) ≡ with_store g r.1 u)
+      → ((u : StateOf g) → after {L = superpascal g} (puts {L = superpascal g} ws) (with_store g s.store u)
+      ≡ with_store g r.1 u)
       → result_of s p (outcome (most g) s p (act_of w r.0 ws)) ≡ stepped g p w s (closed r)
   result_is p w s (o.Got (Stepped todo) own, here) ws f = f (changed (Becomes p (m.Works (with_todo todo w own))) s)
   result_is p w s (o.Got (Ticked todo) own, here) ws f = f (changed (Becomes p (m.Works (with_todo todo w own))) s)
-  result_is p w s (o.Got (Opened todo) own, here) ws f = go (passed (most g) s.totals (Some (record { processes = 0; channels = 1; entries = 1 })))
+  result_is p w s (o.Got (Opened todo) own, here) ws f =
+      go (passed (most g) s.totals (Some (record { processes = 0; channels = 1; entries = 1 })))
     where
-      go : (x : Option Fault) → result_of s p (unless {L = superpascal g} x (Advances (Becomes p (m.Works (with_todo todo (record w { opens = w.opens + 1 }) own)) ∷ m.Adds (record { processes = 0; channels = 1; entries = 1 }) ∷ puts {L = superpascal g} ws)))
+      go : (x : Option Fault) → result_of s p
+          (unless {L = superpascal g} x (Advances
+          (Becomes p (m.Works (with_todo todo (record w { opens = w.opens + 1 }) own))
+          ∷ m.Adds (record { processes = 0; channels = 1; entries = 1 }) ∷ puts {L = superpascal g} ws)))
           ≡ opened g p (with_todo todo (record w { opens = w.opens + 1 }) own) here s x
-      go None = f (after (Becomes p (m.Works (with_todo todo (record w { opens = w.opens + 1 }) own)) ∷ m.Adds (record { processes = 0; channels = 1; entries = 1 }) ∷ []) s)
+      go None = f (after (Becomes p (m.Works (with_todo todo (record w { opens = w.opens + 1 }) own))
+          ∷ m.Adds (record { processes = 0; channels = 1; entries = 1 }) ∷ []) s)
       go (Some x) = refl
   result_is p w s (o.Got (Forked os todo) own, here) ws f = refl
   result_is p w s (o.Got (Offered c k cargo todo) own, here) ws f = refl
@@ -46,17 +54,23 @@ module _ (g : o.Setting) where
   result_is p w s (o.Long, here) ws f = refl
 
   step_is : (p : Name) (pr : o.Process) (s : StateOf g)
-      → result_of s p (outcome (most g) s p ((superpascal g).next pr s.store)) ≡ stepped g p pr.who s (deed g (enough g pr.own) pr.todo pr.who pr.own s.store)
+      → result_of s p (outcome (most g) s p ((superpascal g).next pr s.store))
+      ≡ stepped g p pr.who s (deed g (enough g pr.own) pr.todo pr.who pr.own s.store)
   step_is p pr s =
       let came = answer same_loc (deed_of g pr) s.store in
       let ws = put_by same_loc (asks g pr) s.store in
-      let e : answer same_loc (asks g pr) s.store ≡ (act_of pr.who came.0, came.1) = answer_then loc_test (deed_of g pr) (λ r. Done (act_of pr.who r)) s.store in
+      let e : answer same_loc (asks g pr) s.store ≡ (act_of pr.who came.0, came.1) =
+      answer_then loc_test (deed_of g pr) (λ r. Done (act_of pr.who r)) s.store in
       let n : (superpascal g).next pr s.store ≡ act_of pr.who came.0 ws = ap (λ x. x.0 ws) e in
-      let f : (u : StateOf g) → after {L = superpascal g} (puts {L = superpascal g} ws) (with_store g s.store u) ≡ with_store g came.1 u = λ u. puts_after (asks g pr) s.store u ∙ ap (λ x. with_store g x.1 u) e in
-      ap (λ a. result_of s p (outcome (most g) s p a)) n ∙ (result_is p pr.who s came ws f ∙ ap (stepped g p pr.who s) ((deed_same g (enough g pr.own) pr.todo).by pr.who pr.own s.store))
+      let f : (u : StateOf g) → after {L = superpascal g} (puts {L = superpascal g} ws) (with_store g s.store u)
+      ≡ with_store g came.1 u = λ u. puts_after (asks g pr) s.store u ∙ ap (λ x. with_store g x.1 u) e in
+      ap (λ a. result_of s p (outcome (most g) s p a)) n
+      ∙ (result_is p pr.who s came ws f ∙ ap (stepped g p pr.who s)
+      ((deed_same g (enough g pr.own) pr.todo).by pr.who pr.own s.store))
 
   -- where the process is running, its step comes to what its own work comes to
-  pub steps_so : (p : Name) (pr : o.Process) (s : StateOf g) → working s p ≡ Some pr → next g s p ≡ Some (stepped g p pr.who s (deed g (enough g pr.own) pr.todo pr.who pr.own s.store))
+  pub steps_so : (p : Name) (pr : o.Process) (s : StateOf g) → working s p ≡ Some pr
+      → next g s p ≡ Some (stepped g p pr.who s (deed g (enough g pr.own) pr.todo pr.who pr.own s.store))
   steps_so p pr s e = rw e (ap (λ z. Some z) (step_is p pr s))
 
   pub steps_not : (p : Name) (s : StateOf g) → working s p ≡ None → next g s p ≡ None

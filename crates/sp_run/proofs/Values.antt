@@ -1,37 +1,47 @@
 -- Parts of values that are kept in lists.
-use Rattle.std.proofs.Common.{◌≡◌, ℕ, zero, suc, ℤ, List, [], ◌∷◌, Some, None, slice_get, slice_set, map, length, ◌≤◌, refl, ap, ◌∙◌, sym, arith}
+use Rattle.std.proofs.Common.{◌≡◌, ℕ, zero, suc, ℤ, List, [], ◌∷◌, Some, None, slice_get, slice_set, map, length, ◌≤◌}
+use Rattle.std.proofs.Common.{refl, ap, ◌∙◌, sym, arith}
 use Rattle.std.specs.Option.{option_map}
 use Rattle.sp_tree.specs.Cells.{first_or}
 use Rattle.sp_journal.specs.Names.{Channel}
-use Rattle.sp_meaning.specs.Values.{Value, Undefined, Ordinal, Chan, Parts, Values, End, Then, values, item, with_item, get_at, set_at, part}
+use Rattle.sp_meaning.specs.Values.{Value, Undefined, Ordinal, Chan, Parts, Values, End, Then, values, item, with_item}
+use Rattle.sp_meaning.specs.Values.{get_at, set_at, part}
 
-pub item_values : {A : Type 0} (p : A → Value) (vs : List A) (i : ℕ) → item (values (map p vs)) i ≡ first_or Undefined (option_map p (slice_get vs i))
+pub item_values : {A : Type 0} (p : A → Value) (vs : List A) (i : ℕ)
+    → item (values (map p vs)) i ≡ first_or Undefined (option_map p (slice_get vs i))
 item_values p [] i = refl
 item_values p (v ∷ vs) zero = refl
 item_values p (v ∷ vs) (suc i) = item_values p vs i
 
-pub with_item_here : {A : Type 0} (p : A → Value) (f : Value → Value) (vs : List A) (i : ℕ) (x u : A) → slice_get vs i ≡ Some x → p u ≡ f (p x) → values (map p (slice_set vs i u)) ≡ with_item f (values (map p vs)) i
+pub with_item_here : {A : Type 0} (p : A → Value) (f : Value → Value) (vs : List A) (i : ℕ) (x u : A)
+    → slice_get vs i ≡ Some x → p u ≡ f (p x) → values (map p (slice_set vs i u)) ≡ with_item f (values (map p vs)) i
 with_item_here p f [] i x u e h = cc
 with_item_here p f (v ∷ vs) zero x u e h = let k : v ≡ x = cc in cc
 with_item_here p f (v ∷ vs) (suc i) x u e h = ap (λ ws. Then (p v) ws) (with_item_here p f vs i x u e h)
 
-pub with_item_past : {A : Type 0} (p : A → Value) (f : Value → Value) (vs : List A) (i : ℕ) → slice_get vs i ≡ None → with_item f (values (map p vs)) i ≡ values (map p vs)
+pub with_item_past : {A : Type 0} (p : A → Value) (f : Value → Value) (vs : List A) (i : ℕ) → slice_get vs i ≡ None
+    → with_item f (values (map p vs)) i ≡ values (map p vs)
 with_item_past p f [] i e = refl
 with_item_past p f (v ∷ vs) zero e = cc
 with_item_past p f (v ∷ vs) (suc i) e = ap (λ ws. Then (p v) ws) (with_item_past p f vs i e)
 
-pub with_part_here : {A : Type 0} (p : A → Value) (w : Value) (vs : List A) (i : ℕ) (path rest : List ℕ) (x u : A) → slice_get vs i ≡ Some x → path ≡ i ∷ rest → p u ≡ set_at rest w (p x) → set_at path w (Parts (values (map p vs))) ≡ Parts (values (map p (slice_set vs i u)))
+pub with_part_here : {A : Type 0} (p : A → Value) (w : Value) (vs : List A) (i : ℕ) (path rest : List ℕ) (x u : A)
+    → slice_get vs i ≡ Some x → path ≡ i ∷ rest → p u ≡ set_at rest w (p x)
+    → set_at path w (Parts (values (map p vs))) ≡ Parts (values (map p (slice_set vs i u)))
 with_part_here p w vs i path rest x u e h k = rw h (ap Parts (sym (with_item_here p (set_at rest w) vs i x u e k)))
 
-pub with_part_past : {A : Type 0} (p : A → Value) (w : Value) (vs : List A) (i : ℕ) (path rest : List ℕ) → slice_get vs i ≡ None → path ≡ i ∷ rest → set_at path w (Parts (values (map p vs))) ≡ Parts (values (map p vs))
+pub with_part_past : {A : Type 0} (p : A → Value) (w : Value) (vs : List A) (i : ℕ) (path rest : List ℕ)
+    → slice_get vs i ≡ None → path ≡ i ∷ rest → set_at path w (Parts (values (map p vs))) ≡ Parts (values (map p vs))
 with_part_past p w vs i path rest e h = rw h (ap Parts (with_item_past p (set_at rest w) vs i e))
 
-pub some_mapped : {A B : Type 0} (p : A → B) (vs : List A) (i : ℕ) (x : A) → slice_get vs i ≡ Some x → slice_get (map p vs) i ≡ Some (p x)
+pub some_mapped : {A B : Type 0} (p : A → B) (vs : List A) (i : ℕ) (x : A) → slice_get vs i ≡ Some x
+    → slice_get (map p vs) i ≡ Some (p x)
 some_mapped p [] i x e = cc
 some_mapped p (v ∷ vs) zero x e = let k : v ≡ x = cc in cc
 some_mapped p (v ∷ vs) (suc i) x e = some_mapped p vs i x e
 
-pub none_mapped : {A B : Type 0} (p : A → B) (vs : List A) (i : ℕ) → slice_get vs i ≡ None → slice_get (map p vs) i ≡ None
+pub none_mapped : {A B : Type 0} (p : A → B) (vs : List A) (i : ℕ) → slice_get vs i ≡ None
+    → slice_get (map p vs) i ≡ None
 none_mapped p [] i e = refl
 none_mapped p (v ∷ vs) zero e = cc
 none_mapped p (v ∷ vs) (suc i) e = none_mapped p vs i e

@@ -1,5 +1,6 @@
 -- The weights of statements one after another.
-use Rattle.std.proofs.Common.{◌≡◌, ℕ, zero, suc, ◌+◌, ◌<◌, ◌≤◌, List, [], ◌∷◌, map, drop, length, get_or, refl, ap, ◌∙◌, sym, arith}
+use Rattle.std.proofs.Common.{◌≡◌, ℕ, zero, suc, ◌+◌, ◌<◌, ◌≤◌, List, [], ◌∷◌, map, drop, length, get_or, refl, ap, ◌∙◌}
+use Rattle.std.proofs.Common.{sym, arith}
 use Rattle.sp_tree.specs.declared.checked.Arm.{Arm, out-Arm}
 use Rattle.sp_tree.specs.declared.checked.Block.{Block}
 use Rattle.sp_tree.specs.declared.checked.Stmt.{Stmt}
@@ -10,7 +11,8 @@ use Rattle.sp_tree.specs.PlainOf.{stmt_of, arms_of, blocks_of, sends, receives, 
 use Rattle.sp_meaning.specs.SuperPascal.{weight, weight_all, weight_arms, weight_blocks}
 use Rattle.sp_run.proofs.Arms.{arm_is}
 
-pub all_on : (ss : List Stmt) (i : ℕ) (s : Stmt) → i < length ss → s ≡ get_or ss i s → weight_all (stmts_of (drop i ss)) ≡ weight (stmt_of s) + weight_all (stmts_of (drop (suc i) ss))
+pub all_on : (ss : List Stmt) (i : ℕ) (s : Stmt) → i < length ss → s ≡ get_or ss i s
+    → weight_all (stmts_of (drop i ss)) ≡ weight (stmt_of s) + weight_all (stmts_of (drop (suc i) ss))
 all_on [] i s h e = absurd (omega arith)
 all_on (t ∷ ss) zero s h e = rw (sym e) refl
 all_on (t ∷ ss) (suc i) s h e = all_on ss i s (omega arith) e
@@ -21,7 +23,8 @@ all_end [] (suc i) h = refl
 all_end (t ∷ ss) zero h = absurd (omega arith)
 all_end (t ∷ ss) (suc i) h = all_end ss i (omega arith)
 
-pub arms_on : (bs : List Arm) (i : ℕ) (b : Arm) → i < length bs → b ≡ get_or bs i b → weight_arms (arms_of (drop i bs)) ≡ weight (stmt_of (out-Arm b).body) + weight_arms (arms_of (drop (suc i) bs))
+pub arms_on : (bs : List Arm) (i : ℕ) (b : Arm) → i < length bs → b ≡ get_or bs i b
+    → weight_arms (arms_of (drop i bs)) ≡ weight (stmt_of (out-Arm b).body) + weight_arms (arms_of (drop (suc i) bs))
 arms_on [] i b h e = absurd (omega arith)
 arms_on (c ∷ bs) zero b h e = rw (sym e) (rw (arm_is b) refl)
 arms_on (c ∷ bs) (suc i) b h e = arms_on bs i b (omega arith) e
@@ -32,7 +35,8 @@ arms_end [] (suc i) h = refl
 arms_end (c ∷ bs) zero h = absurd (omega arith)
 arms_end (c ∷ bs) (suc i) h = arms_end bs i (omega arith)
 
-pub blocks_on : (bs : List Block) (i : ℕ) (b : Block) → i < length bs → b ≡ get_or bs i b → weight_blocks (blocks_of (drop i bs)) ≡ weight (stmt_of b.body) + weight_blocks (blocks_of (drop (suc i) bs))
+pub blocks_on : (bs : List Block) (i : ℕ) (b : Block) → i < length bs → b ≡ get_or bs i b
+    → weight_blocks (blocks_of (drop i bs)) ≡ weight (stmt_of b.body) + weight_blocks (blocks_of (drop (suc i) bs))
 blocks_on [] i b h e = absurd (omega arith)
 blocks_on (c ∷ bs) zero b h e = rw (sym e) refl
 blocks_on (c ∷ bs) (suc i) b h e = blocks_on bs i b (omega arith) e

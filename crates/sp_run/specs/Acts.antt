@@ -1,3 +1,4 @@
+-- None of this belongs to what the program promises: it is for contracts between crates.
 -- What a step does once its expressions have values, and what is left of a function's body. The contracts of `acts`
 -- and `bodies` cite it: a part of a deed for each function of the interpreter.
 use Rattle.std.specs.Prelude.{ℕ, ℤ, List, [], ◌∷◌, Option, Some, None, Bool, true, false, if◌then◌else◌}
@@ -12,7 +13,8 @@ use Rattle.sp_run.specs.declared.item.Item as kept
 use Rattle.sp_run.specs.Items.{item_of}
 use Rattle.sp_run.specs.Direct.{Work, bind, give, fail, who, tick, assign, or_lost}
 use Rattle.sp_run.specs.DirectEval.{kind_at, read_at, place_of, left_of, ordinal}
-use Rattle.sp_run.specs.DirectDeeds.{in_width, enter, leave, write, advance, take_in, turn_of, act, settle, left_by, answer_of, call_by, all}
+use Rattle.sp_run.specs.DirectDeeds.{in_width, enter, leave, write, advance, take_in, turn_of, act, settle, left_by}
+use Rattle.sp_run.specs.DirectDeeds.{answer_of, call_by, all}
 
 -- a value goes to an address
 abbrev pub assigned_to : Address → Value → List Item → Work Deed
@@ -53,7 +55,8 @@ module _ (g : Setting) where
 
   -- one more turn of a while loop, if its ordinal is true
   abbrev pub looped : ℤ → Expr → Stmt → List Item → Work Deed
-  looped n e s todo = if_true n (bind (tick g.limits) (λ u. give (Ticked (push s (Do (While e s) ∷ todo))))) (give (Stepped todo))
+  looped n e s todo = if_true n (bind (tick g.limits) (λ u. give (Ticked (push s (Do (While e s) ∷ todo)))))
+      (give (Stepped todo))
 
   -- one more turn of a repeat loop
   abbrev pub repeated : Stmt → Expr → List Item → Work Deed
@@ -65,7 +68,8 @@ module _ (g : Setting) where
 
   -- the next turn of a for loop
   abbrev pub next_turn : ℕ → ℤ → Bool → Stmt → List Item → Work Deed
-  next_turn x n down s todo = bind (place_of g x) (λ q. bind (read_at g q) (λ v. bind (ordinal v) (λ m. turn_of g x (next_value down m) n down s todo)))
+  next_turn x n down s todo = bind (place_of g x)
+      (λ q. bind (read_at g q) (λ v. bind (ordinal v) (λ m. turn_of g x (next_value down m) n down s todo)))
 
   -- the end of a procedure
   abbrev pub returned : List Item → Work Deed
@@ -73,7 +77,9 @@ module _ (g : Setting) where
 
   -- the input's next item goes to an address
   abbrev pub read_value : Address → List Item → Work Deed
-  read_value a todo = bind (kind_at g a.kind) (λ k. bind (left_of g) (λ bs. bind (or_lost (taken_by k bs)) (λ t. bind (take_in g a t) (λ u. give (Stepped todo)))))
+  read_value a todo = bind (kind_at g a.kind)
+      (λ k. bind (left_of g) (λ bs. bind (or_lost (taken_by k bs))
+      (λ t. bind (take_in g a t) (λ u. give (Stepped todo)))))
 
   -- the rest of the input's line is skipped
   abbrev pub read_line : List Item → Work Deed
@@ -89,7 +95,8 @@ module _ (g : Setting) where
 
   -- an ordinal of a type is written in its width
   abbrev pub write_shown : ℕ → ℤ → Option ℤ → List Item → Work Deed
-  write_shown k n m todo = bind (kind_at g k) (λ t. bind (in_width (shown t n).0 (shown t n).1 m) (λ bs. bind (write g bs) (λ u. give (Stepped todo))))
+  write_shown k n m todo = bind (kind_at g k)
+      (λ t. bind (in_width (shown t n).0 (shown t n).1 m) (λ bs. bind (write g bs) (λ u. give (Stepped todo))))
 
   -- the end of a function: its result, and its frame goes
   abbrev pub ended : Option ℕ → Work Value

@@ -1,3 +1,4 @@
+-- None of this belongs to what the program promises: it is for contracts between crates.
 -- A computation of the meaning, and the same one with the store passed along. The law of the interpreter says that
 -- both come to the same, so that its contracts speak of the meaning.
 use Rattle.std.specs.Prelude.{◌≡◌, ℕ, List}

@@ -1,3 +1,4 @@
+-- None of this belongs to what the program promises: it is for contracts between crates.
 -- The cells of some variables with their numbers: the contract of the sum over a frame.
 use Rattle.std.specs.Prelude.{ℕ, List, map, sum}
 use Rattle.sp_tree.specs.Plain.{Variable}

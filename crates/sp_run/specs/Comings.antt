@@ -1,3 +1,4 @@
+-- None of this belongs to what the program promises: it is for contracts between crates.
 -- What a call of the interpreter gives, against the definition of what it computes (`Implements`). All contracts on
 -- its work are said in this word, with want of memory left free.
 use Rattle.std.specs.Prelude.{◌≡◌}
@@ -19,7 +20,8 @@ Comes g view done.NoMemory m c = Unit {0}
 
 -- a call that began with this machine computes this work
 abbrev pub Implements : {R A : Type 0} → Setting → Who → (R → A) → Machine → Done R → Machine → Work A → Type 0
-Implements g w view before result after h = Comes g view result after (h (plain_who w) (plain_own before.own) (store_of g before.log))
+Implements g w view before result after h = Comes g view result after
+    (h (plain_who w) (plain_own before.own) (store_of g before.log))
 
 -- a value that is plain already
 abbrev pub same : {A : Type 0} → A → A

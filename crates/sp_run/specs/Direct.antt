@@ -1,3 +1,4 @@
+-- None of this belongs to what the program promises: it is for contracts between crates.
 -- Work with the store passed along: what a computation gives in this store, and the store after it. The interpreter
 -- works so, and `Agree.antt` leads it to the meaning's trees of reads and writes.
 use Rattle.std.specs.Prelude.{ℕ, ◌+◌, ◌==◌, List, [], ◌∷◌, Option, Some, None, Bool, if◌then◌else◌, nat_lt, length}
@@ -8,7 +9,8 @@ use Rattle.sp_run.specs.declared.stop.Halted.{Halted}
 use Rattle.sp_run.specs.declared.stop.Halted.TheVariants as halted
 use Rattle.sp_meaning.specs.Maps.{at_key}
 use Rattle.sp_meaning.specs.Values.{Value, Undefined, get_at, set_at}
-use Rattle.sp_meaning.specs.Own.{Loc, Held, Tree, Address, Home, Frame, Own, Who, value_in, assigned, same_loc, seek, seen}
+use Rattle.sp_meaning.specs.Own.{Loc, Held, Tree, Address, Home, Frame, Own, Who, value_in, assigned, same_loc, seek}
+use Rattle.sp_meaning.specs.Own.{seen}
 
 -- what stands at each location
 abbrev pub Store : Type 0
@@ -93,4 +95,5 @@ deepen lim w o = if nat_lt o.depth lim.depth then become (record o { depth = o.d
 
 -- so many cells more, or F12
 abbrev pub widen : Limits → ℕ → Work (Unit {0})
-widen lim n w o = if nat_lt lim.cells (o.cells + n) then fail fault.F12 w o else become (record o { cells = o.cells + n }) w o
+widen lim n w o = if nat_lt lim.cells (o.cells + n) then fail fault.F12 w o else
+    become (record o { cells = o.cells + n }) w o

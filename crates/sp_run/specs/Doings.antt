@@ -1,3 +1,4 @@
+-- None of this belongs to what the program promises: it is for contracts between crates.
 -- Arguments, deeds and calls, as they are kept in memory. The contracts of the interpreter speak of the meaning's ones
 -- by it.
 use Rattle.std.specs.Prelude.{ℕ, List, [], map}

@@ -1,3 +1,4 @@
+-- None of this belongs to what the program promises: it is for contracts between crates.
 -- The parts of where a variable stands: the contracts of `frames`, a part for each function.
 use Rattle.std.specs.Prelude.{ℕ, [], ◌∷◌, ◌++◌}
 use Rattle.sp_meaning.specs.Own.{Setting, Cell, Address, is_block, is_index, referred}
@@ -7,7 +8,8 @@ use Rattle.sp_run.specs.DirectEval as e
 
 -- a variable of this kind and block in the visible frame of its block
 abbrev pub in_visible : Setting → ℕ → ℕ → ℕ → Work Place
-in_visible g x kind block = bind (visible (is_block block)) (λ f. give (At (record { spot = Cell f.owner f.number x; path = []; kind = kind })))
+in_visible g x kind block = bind (visible (is_block block))
+    (λ f. give (At (record { spot = Cell f.owner f.number x; path = []; kind = kind })))
 
 abbrev pub referred_in : ℕ → ℕ → Work Place
 referred_in x block = bind (visible (is_block block)) (λ f. bind (or_lost (referred x f.references)) (λ a. give (At a)))

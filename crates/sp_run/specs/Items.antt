@@ -1,3 +1,4 @@
+-- None of this belongs to what the program promises: it is for contracts between crates.
 -- What is left to do, as it is kept in memory: the interpreter lends statements of the tree and copies none. Its
 -- contracts speak of the meaning's items by it.
 use Rattle.std.specs.Prelude.{List, map}

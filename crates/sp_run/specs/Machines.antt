@@ -1,3 +1,4 @@
+-- None of this belongs to what the program promises: it is for contracts between crates.
 -- The own part and the store of a process, as they are kept in memory. The store is a log, read from its end, so that
 -- a step writes in constant time.
 use Rattle.std.specs.Prelude.{ℕ, List, [], ◌∷◌, Option, map}
@@ -40,7 +41,13 @@ abbrev pub address_in : Option Reference → Option m.Address
 address_in r = option_map (λ x. plain_address x.stands) r
 
 abbrev pub plain_frame : Frame → m.Frame
-plain_frame f = record { owner = f.owner; number = f.number; home = plain_home f.home; link = f.link; references = plain_references f.references }
+plain_frame f = record {
+  owner = f.owner;
+  number = f.number;
+  home = plain_home f.home;
+  link = f.link;
+  references = plain_references f.references;
+}
 
 abbrev pub plain_frames : List Frame → List m.Frame
 plain_frames fs = map plain_frame fs

@@ -1,6 +1,8 @@
+-- None of this belongs to what the program promises: it is for contracts between crates.
 -- What a schedule means (`Means`): the longest lawful front of it, what it writes, and how it ends. The contract of
 -- `meaning_run` promises it, in the words of `sp_meaning` alone.
-use Rattle.std.specs.Prelude.{◌≡◌, ℕ, ◌<◌, Bool, true, false, List, [], ◌∷◌, ◌++◌, take, drop, length, map, reverse, Option, Some, None, if◌then◌else◌}
+use Rattle.std.specs.Prelude.{◌≡◌, ℕ, ◌<◌, Bool, true, false, List, [], ◌∷◌, ◌++◌, take, drop, length, map, reverse}
+use Rattle.std.specs.Prelude.{Option, Some, None, if◌then◌else◌}
 use Rattle.sp_base.specs.declared.name.Pair.{Pair}
 use Rattle.sp_base.specs.declared.name.ProcName.{ProcName}
 use Rattle.sp_run.specs.declared.run.Meant.{Meant}
@@ -40,7 +42,8 @@ Idles g s false = (q : Name) × (own : Process) × (running g s q ≡ Some own)
 -- a waiting process in its place by the order of names, once
 abbrev pub inserted : Waiting → List Waiting → List Waiting
 inserted w [] = w ∷ []
-inserted w (v ∷ vs) = if name_before w.who v.who then w ∷ v ∷ vs else (if name_before v.who w.who then v ∷ inserted w vs else v ∷ vs)
+inserted w (v ∷ vs) = if name_before w.who v.who then w ∷ v ∷ vs else
+    (if name_before v.who w.who then v ∷ inserted w vs else v ∷ vs)
 
 -- those that wait with one process more, if it has an offer
 abbrev pub with_offer : Name → Option (Offer Process Held Address) → List Waiting → List Waiting

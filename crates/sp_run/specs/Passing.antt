@@ -1,3 +1,4 @@
+-- None of this belongs to what the program promises: it is for contracts between crates.
 -- What goes over a channel, as it is kept in memory: where it is put, and the value.
 use Rattle.sp_run.specs.declared.value.Address.{Address}
 use Rattle.sp_run.specs.declared.value.Value.{Value}

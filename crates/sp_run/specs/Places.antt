@@ -1,3 +1,4 @@
+-- None of this belongs to what the program promises: it is for contracts between crates.
 -- Places of variables, as they are kept in memory. The contracts of frames and operators speak of the meaning's places
 -- by it.
 use Rattle.std.specs.Prelude.{ℕ, Bool, ◌==◌}

@@ -1,3 +1,4 @@
+-- None of this belongs to what the program promises: it is for contracts between crates.
 -- The state of a run, as it is kept in memory: of each of its parts all that it became, the oldest first. The
 -- contracts of the steps speak of the meaning's state by it.
 use Rattle.std.specs.Prelude.{◌≡◌, ℕ, ◌+◌, Bool, true, false, List, [], ◌∷◌, Option, Some, None, if◌then◌else◌}
@@ -33,7 +34,12 @@ abbrev pub plain_process : Process → o.Process
 plain_process p = record { todo = items_of p.todo.items; who = plain_who p.who; own = plain_own p.own }
 
 abbrev pub plain_offer : Offer → m.Offer o.Process o.Held o.Address
-plain_offer f = record { channel = plain_channel f.channel; kind = f.kind; cargo = plain_cargo f.cargo; next = plain_process f.next }
+plain_offer f = record {
+  channel = plain_channel f.channel;
+  kind = f.kind;
+  cargo = plain_cargo f.cargo;
+  next = plain_process f.next;
+}
 
 abbrev pub Standing : Type 0
 Standing = m.Condition o.Process o.Held o.Address
@@ -63,7 +69,8 @@ logged same key held m [] = m
 logged same key held m (w ∷ ws) = logged same key held (at_key same (key w) (held w) m) ws
 
 abbrev pub conditions_of : List Became → Name → Standing
-conditions_of bs = logged m.same_name (λ (b : Became). b.name) (λ (b : Became). plain_condition b.condition) (λ p. m.Absent) bs
+conditions_of bs = logged m.same_name (λ (b : Became). b.name) (λ (b : Became). plain_condition b.condition)
+    (λ p. m.Absent) bs
 
 abbrev pub forks_of : List Forks → Name → ℕ
 forks_of fs = logged m.same_name (λ (f : Forks). f.name) (λ (f : Forks). f.made) (λ p. 0) fs
@@ -98,15 +105,22 @@ module _ (g : o.Setting) where
   -- a channel is opened, if its entry and the channel pass no limit
   abbrev pub opened : Name → o.Process → Store → StateOf g → Option Fault → StateOf g
   opened p own here s (Some f) = changed (Faults p f) s
-  opened p own here s None = with_store here (after (Becomes p (m.Works own) ∷ m.Adds (record { processes = 0; channels = 1; entries = 1 }) ∷ []) s)
+  opened p own here s None = with_store here
+      (after (Becomes p (m.Works own) ∷ m.Adds (record { processes = 0; channels = 1; entries = 1 }) ∷ []) s)
 
   -- the state after a step of p whose own work came to this
   abbrev pub stepped : Name → o.Who → StateOf g → Came Deed → StateOf g
   stepped p w s (Got (Stepped todo) own here) = with_store here (changed (Becomes p (m.Works (with_todo todo w own))) s)
   stepped p w s (Got (Ticked todo) own here) = with_store here (changed (Becomes p (m.Works (with_todo todo w own))) s)
-  stepped p w s (Got (Opened todo) own here) = opened p (with_todo todo (record w { opens = w.opens + 1 }) own) here s (passed (most g) s.totals (Some (record { processes = 0; channels = 1; entries = 1 })))
-  stepped p w s (Got (Forked os todo) own here) = result_of s p (outcome (most g) s p (m.Forks (with_todo todo (record w { forks = w.forks + 1 }) own) (newborns w own 0 os)))
-  stepped p w s (Got (Offered c k cargo todo) own here) = result_of s p (outcome (most g) s p (m.Offering (record { channel = c; kind = k; cargo = cargo; next = with_todo todo w own })))
+  stepped p w s (Got (Opened todo) own here) =
+      opened p (with_todo todo (record w { opens = w.opens + 1 }) own) here s
+      (passed (most g) s.totals (Some (record { processes = 0; channels = 1; entries = 1 })))
+  stepped p w s (Got (Forked os todo) own here) =
+      result_of s p (outcome (most g) s p (m.Forks (with_todo todo (record w { forks = w.forks + 1 }) own)
+      (newborns w own 0 os)))
+  stepped p w s (Got (Offered c k cargo todo) own here) =
+      result_of s p (outcome (most g) s p (m.Offering
+      (record { channel = c; kind = k; cargo = cargo; next = with_todo todo w own })))
   stepped p w s (Got Ended own here) = changed (Becomes p m.Ended) s
   stepped p w s (Not (halted.Fault f)) = changed (Faults p f) s
   stepped p w s (Not halted.Lost) = changed (Faults p fault.F8) s

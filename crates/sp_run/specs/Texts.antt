@@ -1,6 +1,8 @@
+-- None of this belongs to what the program promises: it is for contracts between crates.
 -- Items read and written, as they are kept in memory; the children of a forall; the values of a for loop. The contracts
 -- of `texts` and of the deeds cite it.
-use Rattle.std.specs.Prelude.{ℕ, ℤ, pos, ◌+ℤ◌, ◌-ℤ◌, nat_abs, int_lt, List, Bool, true, false, not, Option, if◌then◌else◌}
+use Rattle.std.specs.Prelude.{ℕ, ℤ, pos, ◌+ℤ◌, ◌-ℤ◌, nat_abs, int_lt, List, Bool, true, false, not, Option}
+use Rattle.std.specs.Prelude.{if◌then◌else◌}
 use Rattle.std.specs.Option.{option_map}
 use Rattle.sp_run.specs.declared.texts.Taken.{Taken}
 use Rattle.sp_run.specs.declared.texts.Taken.TheVariants as taken
@@ -22,7 +24,8 @@ taken_of o = option_map plain_taken o
 
 -- the children of a forall, if its range has values
 abbrev pub forall : Setting → ℕ → ℤ → ℤ → Stmt → List Item → Work Deed
-forall g x m n s todo = if int_lt n m then give (Stepped todo) else fork g (indexed_children x s m (nat_abs ((n -ℤ m) +ℤ pos 1))) todo
+forall g x m n s todo = if int_lt n m then give (Stepped todo) else
+    fork g (indexed_children x s m (nat_abs ((n -ℤ m) +ℤ pos 1))) todo
 
 -- the for variable gets a value
 abbrev pub index_set : Setting → ℕ → ℤ → Work (Unit {0})

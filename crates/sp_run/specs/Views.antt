@@ -1,3 +1,4 @@
+-- None of this belongs to what the program promises: it is for contracts between crates.
 -- What is kept in memory, as the definitions of the meaning have it: channels, values, places. The other views of this
 -- crate are made of these.
 use Rattle.std.specs.Prelude.{List, [], ◌∷◌, map, Option, Some, None}

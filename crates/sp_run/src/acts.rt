@@ -9,7 +9,9 @@ ghost use Rattle.sp_run.specs.Comings.{Implements, same};
 ghost use Rattle.sp_run.specs.Views.{plain_value, plain_address};
 ghost use Rattle.sp_run.specs.Doings.{given_of, plain_deed};
 ghost use Rattle.sp_run.specs.DirectDeeds.{chosen, turn_of};
-ghost use Rattle.sp_run.specs.Acts.{assigned_to, picked, either, ranged, tested, assumed, opened, next_channel, called, looped, repeated, index_value, next_turn, returned, read_value, read_line, write_bytes, write_text, write_shown};
+ghost use Rattle.sp_run.specs.Acts.{assigned_to, picked, either, ranged, tested, assumed, opened, next_channel, called};
+ghost use Rattle.sp_run.specs.Acts.{looped, repeated, index_value, next_turn, returned, read_value, read_line};
+ghost use Rattle.sp_run.specs.Acts.{write_bytes, write_text, write_shown};
 
 use crate::calls::{Given, enter, leave, tick};
 use crate::deeds::{Deed, advance, arm_for, take_in, turn_of, write};
@@ -166,7 +168,8 @@ pub fn assumed<'a>(
     n: i64,
     todo: &mut Vec<Item<'a>>,
 ) -> Done<Deed<'a>>
-    ensures { Implements run.now who.now (plain_deed (items_of todo.new.items)) machine.now result machine.now (assumed n (items_of todo.old.items)) }
+    ensures { Implements run.now who.now (plain_deed (items_of todo.new.items)) machine.now result machine.now
+        (assumed n (items_of todo.old.items)) }
 {
     if n <= 0 {
         return Done::Halts(Halted::Fault(Fault::F8));
@@ -280,7 +283,8 @@ fn turn_after<'a>(
     todo: &mut Vec<Item<'a>>,
 ) -> Done<Deed<'a>>
     ensures { Implements run.now who.now (plain_deed (items_of todo.new.items)) machine.old result machine.new
-        (turn_of (setting_of run.now) variable (next_value down n) limit down (stmt_of body.now) (items_of todo.old.items)) }
+        (turn_of (setting_of run.now) variable (next_value down n) limit down (stmt_of body.now)
+        (items_of todo.old.items)) }
 {
     let n = have!(next_value(down, n));
     turn_of(run, who, machine, variable, n, limit, down, body, todo)
@@ -288,7 +292,8 @@ fn turn_after<'a>(
 
 /// The value of a `for` variable.
 fn index_value(run: &Setting, who: &Who, machine: &mut Machine, variable: u32) -> Done<i64>
-    ensures { Implements run.now who.now same machine.old result machine.new (index_value (setting_of run.now) variable) }
+    ensures { Implements run.now who.now same machine.old result machine.new
+        (index_value (setting_of run.now) variable) }
 {
     let q = take!(place_of(run, who, machine, variable));
     let v = take!(read_at(run, who, machine, &q));

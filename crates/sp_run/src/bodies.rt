@@ -62,7 +62,8 @@ pub fn left_after<'a>(
 
 /// The end of a function: its result, and its frame goes.
 pub fn ended(run: &Setting, who: &Who, machine: &mut Machine, answer: Option<u32>) -> Done<Value>
-    ensures { Implements run.now who.now plain_value machine.old result machine.new (ended (setting_of run.now) answer) }
+    ensures { Implements run.now who.now plain_value machine.old result machine.new
+        (ended (setting_of run.now) answer) }
 {
     let v = take!(give_back(run, who, machine, answer));
     take!(leave(run, who, machine));

@@ -138,7 +138,8 @@ fn lay_one(
     first: Option<&Value>,
 ) -> Done<()>
     ensures { Implements run.now who.now same machine.old result machine.new
-        (lay_one (setting_of run.now) frame (x, variable_of v.now) (option_map plain_value (option_copied first.entry))) }
+        (lay_one (setting_of run.now) frame (x, variable_of v.now)
+        (option_map plain_value (option_copied first.entry))) }
 {
     match first {
         None => Done::Gives(()),
@@ -164,7 +165,8 @@ fn copy_in(
     formals: &[u32],
     given: &[Given],
 ) -> Done<()>
-    ensures { Implements run.now who.now same machine.old result machine.new (copy_in (setting_of run.now) frame formals.now (given_of given.now)) }
+    ensures { Implements run.now who.now same machine.old result machine.new
+        (copy_in (setting_of run.now) frame formals.now (given_of given.now)) }
 {
     let Some((x, xs)) = formals.split_first() else {
         return Done::Gives(());
@@ -227,7 +229,8 @@ fn laid<'a>(
     b: &'a Block,
     given: &[Given],
 ) -> Done<&'a Block>
-    ensures { Implements run.now who.now block_in machine.old result machine.new (laid (setting_of run.now) frame f (block_of b.now) (given_of given.now)) }
+    ensures { Implements run.now who.now block_in machine.old result machine.new
+        (laid (setting_of run.now) frame f (block_of b.now) (given_of given.now)) }
 {
     let known = have!(initials_of(run.alloc, run.checked.kinds.items()));
     take!(lay(
@@ -246,7 +249,8 @@ fn laid<'a>(
 
 /// A frame is the newest.
 fn push_frame(run: &Setting, machine: &mut Machine, f: Frame) -> Result<(), Memory>
-    ensures { OnOk result (machine.new ≡ record machine.old { own = record machine.old.own { frames = f ∷ machine.old.own.frames } }) }
+    ensures { OnOk result (machine.new ≡ record machine.old
+        { own = record machine.old.own { frames = f ∷ machine.old.own.frames } }) }
 {
     let frames = mem::replace(&mut machine.own.frames, List::new(run.alloc));
     machine.own.frames = first_frame(f, frames)?;
@@ -262,7 +266,8 @@ fn entered<'a>(
     b: &'a Block,
     given: &[Given],
 ) -> Done<&'a Block>
-    ensures { Implements run.now who.now block_in machine.old result machine.new (entered (setting_of run.now) f (block_of b.now) (given_of given.now)) }
+    ensures { Implements run.now who.now block_in machine.old result machine.new
+        (entered (setting_of run.now) f (block_of b.now) (given_of given.now)) }
 {
     let link = take!(enclosing(run, who, machine, b.parent));
     let references = have!(references_of(run, b.formals.items(), given));
@@ -287,7 +292,8 @@ pub fn enter<'a>(
     f: u32,
     given: &[Given],
 ) -> Done<&'a Block>
-    ensures { Implements run.now who.now block_in machine.old result machine.new (enter (setting_of run.now) f (given_of given.now)) }
+    ensures { Implements run.now who.now block_in machine.old result machine.new
+        (enter (setting_of run.now) f (given_of given.now)) }
 {
     match run.checked.blocks.get(f as usize) {
         Some(b) => {
@@ -329,7 +335,8 @@ pub fn leave(run: &Setting, who: &Who, machine: &mut Machine) -> Done<()>
 
 /// The newest frame is none.
 fn pop_frame(run: &Setting, machine: &mut Machine) -> Result<(), Memory>
-    ensures { machine.new ≡ record machine.old { own = record machine.old.own { frames = drop 1 machine.old.own.frames } } }
+    ensures { machine.new ≡ record machine.old
+        { own = record machine.old.own { frames = drop 1 machine.old.own.frames } } }
 {
     let mut frames = mem::replace(&mut machine.own.frames, List::new(run.alloc)).into_vec();
     if !frames.is_empty() {
@@ -346,7 +353,8 @@ pub fn give_back(
     machine: &mut Machine,
     answer: Option<u32>,
 ) -> Done<Value>
-    ensures { Implements run.now who.now plain_value machine.old result machine.new (answer_of (setting_of run.now) answer) }
+    ensures { Implements run.now who.now plain_value machine.old result machine.new
+        (answer_of (setting_of run.now) answer) }
 {
     match answer {
         Some(x) => {

@@ -83,7 +83,8 @@ fn goes_on(down: bool, limit: i64, v: &Value) -> bool
 
 /// The value of the `for` variable, whatever it is.
 fn peek(run: &Setting, who: &Who, machine: &mut Machine, variable: u32) -> Done<Value>
-    ensures { Implements run.now who.now plain_value machine.old result machine.new (peek (setting_of run.now) variable) }
+    ensures { Implements run.now who.now plain_value machine.old result machine.new
+        (peek (setting_of run.now) variable) }
 {
     let place = take!(place_of(run, who, machine, variable));
     let at = take!(address_of(run, who, machine, place));
@@ -92,7 +93,8 @@ fn peek(run: &Setting, who: &Who, machine: &mut Machine, variable: u32) -> Done<
 
 /// Whether it is a loop that is at its end.
 fn leaves(run: &Setting, who: &Who, machine: &mut Machine, item: &Item) -> Done<bool>
-    ensures { Implements run.now who.now same machine.old result machine.new (leaves (setting_of run.now) (item_of item.now)) }
+    ensures { Implements run.now who.now same machine.old result machine.new
+        (leaves (setting_of run.now) (item_of item.now)) }
 {
     match item {
         Item::Again {
@@ -132,7 +134,8 @@ pub fn settle<'a>(
     machine: &mut Machine,
     todo: &mut Vec<Item<'a>>,
 ) -> Done<()>
-    ensures { Implements run.now who.now (beside (items_of todo.new.items)) machine.old result machine.new (settle (setting_of run.now) (items_of todo.old.items)) }
+    ensures { Implements run.now who.now (beside (items_of todo.new.items)) machine.old result machine.new
+        (settle (setting_of run.now) (items_of todo.old.items)) }
 {
     let Some(first) = todo.first() else {
         return Done::Gives(());
@@ -148,7 +151,8 @@ pub fn settle<'a>(
 
 /// The `for` variable gets a value.
 fn set_index(run: &Setting, who: &Who, machine: &mut Machine, variable: u32, n: i64) -> Done<()>
-    ensures { Implements run.now who.now same machine.old result machine.new (index_set (setting_of run.now) variable n) }
+    ensures { Implements run.now who.now same machine.old result machine.new
+        (index_set (setting_of run.now) variable n) }
 {
     let place = take!(place_of(run, who, machine, variable));
     let at = take!(address_of(run, who, machine, place));
@@ -289,7 +293,8 @@ pub fn write(
     blanks: usize,
     text: &[u8],
 ) -> Done<()>
-    ensures { Implements run.now who.now same machine.old result machine.new (write (setting_of run.now) (replicate blanks 32 ++ text.now)) }
+    ensures { Implements run.now who.now same machine.old result machine.new
+        (write (setting_of run.now) (replicate blanks 32 ++ text.now)) }
 {
     let held = take!(look(run, who, machine, &Loc::Output));
     let bytes = bytes_of(run, held);
@@ -320,7 +325,8 @@ pub fn take_in(
     at: &Address,
     taken: Taken,
 ) -> Done<()>
-    ensures { Implements run.now who.now same machine.old result machine.new (take_in (setting_of run.now) (plain_address at.now) (plain_taken taken)) }
+    ensures { Implements run.now who.now same machine.old result machine.new
+        (take_in (setting_of run.now) (plain_address at.now) (plain_taken taken)) }
 {
     match taken {
         Taken::Takes(n, bytes) => {

@@ -96,7 +96,8 @@ pub fn reach(run: &Setting, who: &Who, machine: &Machine, wanted: Wanted) -> Don
 
 /// The variable in the frame of its block.
 fn in_visible(run: &Setting, who: &Who, machine: &Machine, x: usize, v: &Variable) -> Done<Place>
-    ensures { Implements run.now who.now plain_place machine.now result machine.now (in_visible (setting_of run.now) x v.now.kind v.now.block) }
+    ensures { Implements run.now who.now plain_place machine.now result machine.now
+        (in_visible (setting_of run.now) x v.now.kind v.now.block) }
 {
     let frames = machine.own.frames.items();
     let found = seek(Wanted::Block(v.block as usize), frames.len(), frames);
@@ -150,7 +151,8 @@ fn index_of(run: &Setting, who: &Who, machine: &Machine, x: usize) -> Done<Place
 
 /// Where a variable stands, by its role.
 fn place_by(run: &Setting, who: &Who, machine: &Machine, x: usize, v: &Variable) -> Done<Place>
-    ensures { Implements run.now who.now plain_place machine.now result machine.now (place_by (setting_of run.now) x (variable_of v.now) v.now.role) }
+    ensures { Implements run.now who.now plain_place machine.now result machine.now
+        (place_by (setting_of run.now) x (variable_of v.now) v.now.role) }
 {
     match v.role {
         Role::Console => Done::Halts(Halted::Lost),
@@ -175,7 +177,8 @@ pub fn place_of(run: &Setting, who: &Who, machine: &Machine, x: u32) -> Done<Pla
 
 /// The address of a place that has one.
 pub fn address_of(run: &Setting, who: &Who, machine: &Machine, place: Place) -> Done<Address>
-    ensures { Implements run.now who.now plain_address machine.now result machine.now (address_of (setting_of run.now) (plain_place place)) }
+    ensures { Implements run.now who.now plain_address machine.now result machine.now
+        (address_of (setting_of run.now) (plain_place place)) }
 {
     match place {
         Place::At(a) => Done::Gives(a),

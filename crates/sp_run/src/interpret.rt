@@ -3,7 +3,8 @@
 
 ghost use Rattle.std.specs.Prelude.{◌≡◌, ◌∷◌, IfOk, map};
 ghost use Rattle.sp_tree.specs.PlainOf.{expr_of, form_of, var_of, stmt_of, arms_of, width_of, selectors_of, actuals_of};
-ghost use Rattle.sp_tree.specs.Plain.{Assign, Call, If, IfElse, While, For, Case, Forall, Assume, ReadValue, WriteValue, WriteText, Open, Send, Receive};
+ghost use Rattle.sp_tree.specs.Plain.{Assign, Call, If, IfElse, While, For, Case, Forall, Assume, ReadValue};
+ghost use Rattle.sp_tree.specs.Plain.{WriteValue, WriteText, Open, Send, Receive};
 ghost use Rattle.sp_run.specs.Items.{items_of, item_of};
 ghost use Rattle.sp_run.specs.Machines.{setting_of};
 ghost use Rattle.sp_run.specs.Comings.{Implements, same};
@@ -46,7 +47,8 @@ pub fn value(
     machine: &mut Machine,
     e: &Expr,
 ) -> Done<Value>
-    ensures { Implements run.now who.now plain_value machine.old result machine.new (value (setting_of run.now) (calls_of run.now fuel) (expr_of e.now)) }
+    ensures { Implements run.now who.now plain_value machine.old result machine.new
+        (value (setting_of run.now) (calls_of run.now fuel) (expr_of e.now)) }
 {
     if levels == 0 {
         return Done::NoMemory;
@@ -110,7 +112,8 @@ fn place(
     machine: &mut Machine,
     x: &Var,
 ) -> Done<Place>
-    ensures { Implements run.now who.now plain_place machine.old result machine.new (place (setting_of run.now) (calls_of run.now fuel) (var_of x.now)) }
+    ensures { Implements run.now who.now plain_place machine.old result machine.new
+        (place (setting_of run.now) (calls_of run.now fuel) (var_of x.now)) }
 {
     let q = take!(place_of(run, who, machine, x.variable));
     selected(run, who, fuel, levels, machine, x.selectors.items(), q)
@@ -203,7 +206,8 @@ fn call(
     f: u32,
     given: List<Given>,
 ) -> Done<Value>
-    ensures { Implements run.now who.now plain_value machine.old result machine.new (calls_of run.now fuel f (given_of given)) }
+    ensures { Implements run.now who.now plain_value machine.old result machine.new
+        (calls_of run.now fuel f (given_of given)) }
 {
     if levels == 0 {
         return Done::NoMemory;
@@ -224,7 +228,8 @@ fn all<'a>(
     machine: &mut Machine,
     todo: Vec<Item<'a>>,
 ) -> Done<()>
-    ensures { Implements run.now who.now nothing_left machine.old result machine.new (all (setting_of run.now) fuel (items_of todo.entry.items)) }
+    ensures { Implements run.now who.now nothing_left machine.old result machine.new
+        (all (setting_of run.now) fuel (items_of todo.entry.items)) }
 {
     let mut todo = todo;
     let mut left = fuel;
@@ -269,7 +274,8 @@ fn ordinal_of(
     machine: &mut Machine,
     e: &Expr,
 ) -> Done<i64>
-    ensures { Implements run.now who.now same machine.old result machine.new (ordinal_of (setting_of run.now) (calls_of run.now fuel) (expr_of e.now)) }
+    ensures { Implements run.now who.now same machine.old result machine.new
+        (ordinal_of (setting_of run.now) (calls_of run.now fuel) (expr_of e.now)) }
 {
     let v = take!(value(run, who, fuel, levels, machine, e));
     ordinal(run, who, machine, &v)
@@ -285,7 +291,8 @@ fn address(
     machine: &mut Machine,
     x: &Var,
 ) -> Done<Address>
-    ensures { Implements run.now who.now plain_address machine.old result machine.new (address (setting_of run.now) (calls_of run.now fuel) (var_of x.now)) }
+    ensures { Implements run.now who.now plain_address machine.old result machine.new
+        (address (setting_of run.now) (calls_of run.now fuel) (var_of x.now)) }
 {
     let q = take!(place(run, who, fuel, levels, machine, x));
     address_of(run, who, machine, q)
@@ -301,7 +308,8 @@ fn width(
     machine: &mut Machine,
     e: &Option<Expr>,
 ) -> Done<Option<i64>>
-    ensures { Implements run.now who.now same machine.old result machine.new (width (setting_of run.now) (calls_of run.now fuel) (width_of e.now)) }
+    ensures { Implements run.now who.now same machine.old result machine.new
+        (width (setting_of run.now) (calls_of run.now fuel) (width_of e.now)) }
 {
     match e {
         Some(e) => {
@@ -366,7 +374,8 @@ fn start_assign<'a>(
     todo: &mut Vec<Item<'a>>,
 ) -> Done<Deed<'a>>
     ensures { Implements run.now who.now (plain_deed (items_of todo.new.items)) machine.old result machine.new
-        (start (setting_of run.now) (calls_of run.now fuel) (Assign (var_of x.now) (expr_of e.now)) (items_of todo.old.items)) }
+        (start (setting_of run.now) (calls_of run.now fuel) (Assign (var_of x.now) (expr_of e.now))
+        (items_of todo.old.items)) }
 {
     let at = take!(address(run, who, fuel, levels, machine, x));
     let v = take!(value(run, who, fuel, levels, machine, e));
@@ -403,7 +412,8 @@ fn start_if<'a>(
     todo: &mut Vec<Item<'a>>,
 ) -> Done<Deed<'a>>
     ensures { Implements run.now who.now (plain_deed (items_of todo.new.items)) machine.old result machine.new
-        (start (setting_of run.now) (calls_of run.now fuel) (If (expr_of e.now) (stmt_of a.now)) (items_of todo.old.items)) }
+        (start (setting_of run.now) (calls_of run.now fuel) (If (expr_of e.now) (stmt_of a.now))
+        (items_of todo.old.items)) }
 {
     let n = take!(ordinal_of(run, who, fuel, levels, machine, e));
     picked(run, who, machine, n, a, todo)
@@ -422,7 +432,8 @@ fn start_either<'a>(
     todo: &mut Vec<Item<'a>>,
 ) -> Done<Deed<'a>>
     ensures { Implements run.now who.now (plain_deed (items_of todo.new.items)) machine.old result machine.new
-        (start (setting_of run.now) (calls_of run.now fuel) (IfElse (expr_of e.now) (stmt_of a.now) (stmt_of b.now)) (items_of todo.old.items)) }
+        (start (setting_of run.now) (calls_of run.now fuel) (IfElse (expr_of e.now) (stmt_of a.now) (stmt_of b.now))
+        (items_of todo.old.items)) }
 {
     let n = take!(ordinal_of(run, who, fuel, levels, machine, e));
     either(run, who, machine, n, a, b, todo)
@@ -440,7 +451,8 @@ fn start_while<'a>(
     todo: &mut Vec<Item<'a>>,
 ) -> Done<Deed<'a>>
     ensures { Implements run.now who.now (plain_deed (items_of todo.new.items)) machine.old result machine.new
-        (start (setting_of run.now) (calls_of run.now fuel) (While (expr_of e.now) (stmt_of s.now)) (items_of todo.old.items)) }
+        (start (setting_of run.now) (calls_of run.now fuel) (While (expr_of e.now) (stmt_of s.now))
+        (items_of todo.old.items)) }
 {
     let n = take!(ordinal_of(run, who, fuel, levels, machine, e));
     looped(run, who, machine, n, e, s, todo)
@@ -481,7 +493,8 @@ fn start_case<'a>(
     todo: &mut Vec<Item<'a>>,
 ) -> Done<Deed<'a>>
     ensures { Implements run.now who.now (plain_deed (items_of todo.new.items)) machine.old result machine.new
-        (start (setting_of run.now) (calls_of run.now fuel) (Case (expr_of e.now) (arms_of arms.now)) (items_of todo.old.items)) }
+        (start (setting_of run.now) (calls_of run.now fuel) (Case (expr_of e.now) (arms_of arms.now))
+        (items_of todo.old.items)) }
 {
     let n = take!(ordinal_of(run, who, fuel, levels, machine, e));
     chosen(run, who, machine, n, arms, todo)
@@ -501,7 +514,8 @@ fn start_forall<'a>(
     todo: &mut Vec<Item<'a>>,
 ) -> Done<Deed<'a>>
     ensures { Implements run.now who.now (plain_deed (items_of todo.new.items)) machine.old result machine.new
-        (start (setting_of run.now) (calls_of run.now fuel) (Forall index (expr_of from.now) (expr_of to.now) (stmt_of body.now))
+        (start (setting_of run.now) (calls_of run.now fuel)
+        (Forall index (expr_of from.now) (expr_of to.now) (stmt_of body.now))
         (items_of todo.old.items)) }
 {
     let low = take!(ordinal_of(run, who, fuel, levels, machine, from));
@@ -555,7 +569,8 @@ fn start_write<'a>(
     todo: &mut Vec<Item<'a>>,
 ) -> Done<Deed<'a>>
     ensures { Implements run.now who.now (plain_deed (items_of todo.new.items)) machine.old result machine.new
-        (start (setting_of run.now) (calls_of run.now fuel) (WriteValue (expr_of e.now) (width_of w.now)) (items_of todo.old.items)) }
+        (start (setting_of run.now) (calls_of run.now fuel) (WriteValue (expr_of e.now) (width_of w.now))
+        (items_of todo.old.items)) }
 {
     let n = take!(ordinal_of(run, who, fuel, levels, machine, e));
     let m = take!(width(run, who, fuel, levels, machine, w));
@@ -574,7 +589,8 @@ fn start_text<'a>(
     todo: &mut Vec<Item<'a>>,
 ) -> Done<Deed<'a>>
     ensures { Implements run.now who.now (plain_deed (items_of todo.new.items)) machine.old result machine.new
-        (start (setting_of run.now) (calls_of run.now fuel) (WriteText t.now (width_of w.now)) (items_of todo.old.items)) }
+        (start (setting_of run.now) (calls_of run.now fuel) (WriteText t.now (width_of w.now))
+        (items_of todo.old.items)) }
 {
     let m = take!(width(run, who, fuel, levels, machine, w));
     write_text(run, who, machine, true, t, m, todo)
@@ -609,7 +625,8 @@ fn start_send<'a>(
     todo: &mut Vec<Item<'a>>,
 ) -> Done<Deed<'a>>
     ensures { Implements run.now who.now (plain_deed (items_of todo.new.items)) machine.old result machine.new
-        (start (setting_of run.now) (calls_of run.now fuel) (Send (expr_of c.now) (expr_of e.now)) (items_of todo.old.items)) }
+        (start (setting_of run.now) (calls_of run.now fuel) (Send (expr_of c.now) (expr_of e.now))
+        (items_of todo.old.items)) }
 {
     let v = take!(value(run, who, fuel, levels, machine, c));
     let to = take!(channel(run, who, machine, &v));
@@ -634,7 +651,8 @@ fn start_receive<'a>(
     todo: &mut Vec<Item<'a>>,
 ) -> Done<Deed<'a>>
     ensures { Implements run.now who.now (plain_deed (items_of todo.new.items)) machine.old result machine.new
-        (start (setting_of run.now) (calls_of run.now fuel) (Receive (expr_of c.now) (var_of x.now)) (items_of todo.old.items)) }
+        (start (setting_of run.now) (calls_of run.now fuel) (Receive (expr_of c.now) (var_of x.now))
+        (items_of todo.old.items)) }
 {
     let v = take!(value(run, who, fuel, levels, machine, c));
     let from = take!(channel(run, who, machine, &v));

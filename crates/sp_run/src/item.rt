@@ -59,7 +59,8 @@ pub fn push_sends<'a>(
     values: &'a [Expr],
     todo: &mut Vec<Item<'a>>,
 ) -> Result<(), Memory>
-    ensures { OnOk result (items_of todo.new.items ≡ push_all (sends (expr_of channel.now) (map expr_of values.now)) (items_of todo.old.items)) }
+    ensures { OnOk result (items_of todo.new.items
+        ≡ push_all (sends (expr_of channel.now) (map expr_of values.now)) (items_of todo.old.items)) }
 {
     let mut i = values.len();
     while i > 0 {
@@ -75,7 +76,8 @@ pub fn push_receives<'a>(
     variables: &'a [Var],
     todo: &mut Vec<Item<'a>>,
 ) -> Result<(), Memory>
-    ensures { OnOk result (items_of todo.new.items ≡ push_all (receives (expr_of channel.now) (map var_of variables.now)) (items_of todo.old.items)) }
+    ensures { OnOk result (items_of todo.new.items
+        ≡ push_all (receives (expr_of channel.now) (map var_of variables.now)) (items_of todo.old.items)) }
 {
     let mut i = variables.len();
     while i > 0 {
@@ -128,7 +130,8 @@ pub fn push_all<'a>(ss: &'a [Stmt], todo: &mut Vec<Item<'a>>) -> Result<(), Memo
 
 /// Puts a statement and then one thing before what is left.
 pub fn push_both<'a>(s: &'a Stmt, item: Item<'a>, todo: &mut Vec<Item<'a>>) -> Result<(), Memory>
-    ensures { OnOk result (items_of todo.new.items ≡ push (stmt_of s.now) (item_of item.entry ∷ items_of todo.old.items)) }
+    ensures { OnOk result (items_of todo.new.items
+        ≡ push (stmt_of s.now) (item_of item.entry ∷ items_of todo.old.items)) }
 {
     push_item(item, todo)?;
     push(s, todo)

@@ -111,7 +111,8 @@ fn cells_of(sizes: &[u64], v: &Variable) -> u64
 
 /// The cells of those of the variables that are a block's.
 fn cells_among(sizes: &[u64], block: usize, variables: &[Variable]) -> Result<u64, Memory>
-    ensures { IfOk result (λ n. (x : ℕ) → n ≡ cells_in sizes.now (variables_of block x (map variable_of variables.now))) }
+    ensures { IfOk result (λ n. (x : ℕ) → n ≡ cells_in sizes.now
+        (variables_of block x (map variable_of variables.now))) }
 {
     let Some((v, rest)) = variables.split_first() else {
         return Ok(0);
@@ -216,7 +217,8 @@ pub fn initials_of(alloc: Global, kinds: &[KindOf]) -> Result<List<Value>, Memor
 
 /// What stands at first in a variable of a frame, if it has cells of its own.
 pub fn beginning<'a>(initials: &'a [Value], v: &Variable) -> Option<&'a Value>
-    ensures { option_map plain_value (option_copied result) ≡ begins (map plain_value initials.now) v.now.role v.now.kind }
+    ensures { option_map plain_value (option_copied result)
+        ≡ begins (map plain_value initials.now) v.now.role v.now.kind }
 {
     match v.role {
         Role::Console => None,
@@ -246,7 +248,8 @@ fn value_among(
     variables: &[Variable],
 ) -> Result<Value, Memory>
     requires { map plain_value known.now ≡ initials run.now.checked.now.kinds }
-    ensures { IfOk result (λ v. plain_value v ≡ value_among (setting_of run.now) x (variables_of 0 number (map variable_of variables.now))) }
+    ensures { IfOk result (λ v. plain_value v
+        ≡ value_among (setting_of run.now) x (variables_of 0 number (map variable_of variables.now))) }
 {
     let Some((v, rest)) = variables.split_first() else {
         return Ok(Value::Undefined);

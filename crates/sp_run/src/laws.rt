@@ -16,7 +16,8 @@ ghost use Rattle.sp_run.specs.States.{stepped};
 
 /// The value of an expression by the meaning is that with the store passed along.
 pub fn values_agree()
-    ensures { (g : Setting) (call : Calls) (direct : DirectCalls) → SameCalls call direct → (e : Expr) → Same (value g call e) (direct_value g direct e) }
+    ensures { (g : Setting) (call : Calls) (direct : DirectCalls) → SameCalls call direct → (e : Expr)
+        → Same (value g call e) (direct_value g direct e) }
 {}
 
 /// A step of a process by the meaning is that with the store passed along.

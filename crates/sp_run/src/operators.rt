@@ -11,7 +11,9 @@ ghost use Rattle.sp_run.specs.Framing.{component};
 ghost use Rattle.sp_tree.specs.Items.{at_line_end};
 ghost use Rattle.sp_tree.specs.Operators.{least, greatest};
 ghost use Rattle.sp_meaning.specs.Eval.{field_kind};
-ghost use Rattle.sp_run.specs.DirectEval.{work_of, ordinal, channel, channels_op, operate, standard_op, input_op, ordinal_read, channel_read, checked, element_at, kind_at, indexed, fielded, read_at, left_of};
+ghost use Rattle.sp_run.specs.DirectEval.{work_of, ordinal, channel, channels_op, operate, standard_op, input_op};
+ghost use Rattle.sp_run.specs.DirectEval.{ordinal_read, channel_read, checked, element_at, kind_at, indexed, fielded};
+ghost use Rattle.sp_run.specs.DirectEval.{read_at, left_of};
 
 use crate::frames::Place;
 use crate::machine::{Held, Machine, Setting, Who};
@@ -68,7 +70,8 @@ fn on_channels(
     c: &Chan,
     d: &Chan,
 ) -> Done<Value>
-    ensures { Implements run.now who.now plain_value machine.now result machine.now (channels_op op (plain_channel c.now) (plain_channel d.now)) }
+    ensures { Implements run.now who.now plain_value machine.now result machine.now
+        (channels_op op (plain_channel c.now) (plain_channel d.now)) }
 {
     match op {
         BinaryOp::Eq => Done::Gives(Value::Ordinal(truth_of(is_same_channel(c, d)))),
@@ -96,7 +99,8 @@ pub fn operate(
     v: &Value,
     w: &Value,
 ) -> Done<Value>
-    ensures { Implements run.now who.now plain_value machine.now result machine.now (operate op (plain_value v.now) (plain_value w.now)) }
+    ensures { Implements run.now who.now plain_value machine.now result machine.now
+        (operate op (plain_value v.now) (plain_value w.now)) }
 {
     match v {
         Value::Undefined => Done::Halts(Halted::Lost),
@@ -261,7 +265,8 @@ fn component(
     at: usize,
     kind: u32,
 ) -> Done<Place>
-    ensures { Implements run.now who.now plain_place machine.now result machine.now (component (plain_address a) at kind) }
+    ensures { Implements run.now who.now plain_place machine.now result machine.now
+        (component (plain_address a) at kind) }
 {
     let Address {
         spot,
@@ -281,7 +286,8 @@ fn element_at(
     n: &i64,
     kind: &KindOf,
 ) -> Done<Place>
-    ensures { Implements run.now who.now plain_place machine.now result machine.now (element_at (plain_address a) n.now kind.now) }
+    ensures { Implements run.now who.now plain_place machine.now result machine.now
+        (element_at (plain_address a) n.now kind.now) }
 {
     match kind {
         KindOf::Array {
@@ -307,7 +313,8 @@ fn element_at(
 
 /// The element of a place at an index.
 pub fn indexed(run: &Setting, who: &Who, machine: &Machine, place: Place, n: &i64) -> Done<Place>
-    ensures { Implements run.now who.now plain_place machine.now result machine.now (indexed (setting_of run.now) (plain_place place) n.now) }
+    ensures { Implements run.now who.now plain_place machine.now result machine.now
+        (indexed (setting_of run.now) (plain_place place) n.now) }
 {
     match place {
         Place::At(a) => {
@@ -337,7 +344,8 @@ fn field_kind(f: u32, kind: &KindOf) -> Option<u32>
 
 /// The field of a place.
 pub fn fielded(run: &Setting, who: &Who, machine: &Machine, f: u32, place: Place) -> Done<Place>
-    ensures { Implements run.now who.now plain_place machine.now result machine.now (fielded (setting_of run.now) f (plain_place place)) }
+    ensures { Implements run.now who.now plain_place machine.now result machine.now
+        (fielded (setting_of run.now) f (plain_place place)) }
 {
     match place {
         Place::At(a) => {
@@ -353,7 +361,8 @@ pub fn fielded(run: &Setting, who: &Who, machine: &Machine, f: u32, place: Place
 
 /// What stands at a place.
 pub fn read_at(run: &Setting, who: &Who, machine: &mut Machine, place: &Place) -> Done<Value>
-    ensures { Implements run.now who.now plain_value machine.old result machine.new (read_at (setting_of run.now) (plain_place place.now)) }
+    ensures { Implements run.now who.now plain_value machine.old result machine.new
+        (read_at (setting_of run.now) (plain_place place.now)) }
 {
     match place {
         Place::At(a) => {

@@ -55,7 +55,8 @@ fn goes<'a>(
     schedule: &[ProcName],
 ) -> Result<u64, Memory>
     requires { weight ≡ weight_of (program_of run.now.checked.now) }
-    ensures { IfOk result (λ n. longest_from (setting_of run.now) (names_of schedule.now) 0 (state_of run.now s.old) ≡ (n, state_of run.now s.new)) }
+    ensures { IfOk result (λ n. longest_from (setting_of run.now) (names_of schedule.now) 0 (state_of run.now s.old)
+        ≡ (n, state_of run.now s.new)) }
 {
     let mut n = 0;
     for name in schedule {
@@ -96,7 +97,8 @@ pub fn meaning_run(
     limits: &Limits,
     schedule: &List<ProcName>,
 ) -> Result<Meant, Memory>
-    ensures { IfOk result (Means (record { program = program_of checked.now; input = input.now; limits = limits.now }) (names_of schedule.now)) }
+    ensures { IfOk result (Means (record { program = program_of checked.now; input = input.now; limits = limits.now })
+        (names_of schedule.now)) }
 {
     let alloc = schedule.alloc();
     let run = Setting {

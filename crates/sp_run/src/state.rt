@@ -12,7 +12,8 @@ ghost use Rattle.sp_meaning.specs.Own.{assigned, Tree};
 ghost use Rattle.sp_meaning.specs.Runs.{running, most, start as start_of, output_of};
 ghost use Rattle.sp_run.specs.Machines.{setting_of, store_of};
 ghost use Rattle.sp_run.specs.Views.{plain_channel, plain_loc, plain_address, plain_value};
-ghost use Rattle.sp_run.specs.States.{plain_process, plain_offer, plain_condition, plain_totals, standing, offer_in, conditions_of, forks_of, pending_of, state_of, Changes};
+ghost use Rattle.sp_run.specs.States.{plain_process, plain_offer, plain_condition, plain_totals, standing, offer_in};
+ghost use Rattle.sp_run.specs.States.{conditions_of, forks_of, pending_of, state_of, Changes};
 
 use crate::deeds::{Cargo, bytes_of};
 use crate::item::{Item, push};
@@ -312,7 +313,8 @@ pub fn running<'a>(
     s: &State<'a>,
     p: &[(u64, u64)],
 ) -> Result<Option<Process<'a>>, Memory>
-    ensures { IfOk result (λ o. option_map plain_process o ≡ running (setting_of run.now) (state_of run.now s.now) p.now) }
+    ensures { IfOk result (λ o. option_map plain_process o
+        ≡ running (setting_of run.now) (state_of run.now s.now) p.now) }
 {
     let conditions = s.conditions.items();
     match condition_of(conditions, p) {
@@ -405,7 +407,8 @@ pub fn set_pending(
 #[tactic(auto, using(crate::proofs::Stores::written_append), unfolding(crate::specs::States::state_of))]
 pub fn delivers(run: &Setting, s: &mut State, a: &Address, v: &Value) -> Result<(), Memory>
     ensures { OnOk result (Changes run.now s.old
-        (Writes (plain_loc a.now.spot) (assigned (plain_address a.now) (store_of run.now s.old.log (plain_loc a.now.spot))
+        (Writes (plain_loc a.now.spot) (assigned (plain_address a.now)
+        (store_of run.now s.old.log (plain_loc a.now.spot))
         (Tree (plain_value v.now))) ∷ []) s.new) }
 {
     let held = held_at(run, s.log.items(), &a.spot)?;
@@ -418,7 +421,8 @@ pub fn delivers(run: &Setting, s: &mut State, a: &Address, v: &Value) -> Result<
 /// So many processes and channels more, and an entry.
 #[tactic(auto, unfolding(crate::specs::States::state_of))]
 pub fn adds(run: &Setting, s: &mut State, processes: u64, channels: u64) -> Result<(), Memory>
-    ensures { OnOk result (Changes run.now s.old (Adds (record { processes = processes; channels = channels; entries = 1 }) ∷ []) s.new) }
+    ensures { OnOk result (Changes run.now s.old
+        (Adds (record { processes = processes; channels = channels; entries = 1 }) ∷ []) s.new) }
 {
     s.totals = Totals {
         processes: sum_of(s.totals.processes, processes)?,
@@ -447,7 +451,8 @@ fn passes(limit: u32, total: u64, more: u64) -> bool
 
 /// The fault of the total that would pass its limit: first F15, then F13, then F14.
 pub fn passed(run: &Setting, t: &Totals, processes: u64, channels: u64) -> Option<Fault>
-    ensures { result ≡ passed (most (setting_of run.now)) (plain_totals t.now) (Some (record { processes = processes; channels = channels; entries = 1 })) }
+    ensures { result ≡ passed (most (setting_of run.now)) (plain_totals t.now)
+        (Some (record { processes = processes; channels = channels; entries = 1 })) }
 {
     if passes(run.limits.entries, t.entries, 1) {
         return Some(Fault::F15);
@@ -464,7 +469,8 @@ pub fn passed(run: &Setting, t: &Totals, processes: u64, channels: u64) -> Optio
 /// What the root has to do: the program's statement part, or a fault where its frame is too large.
 fn main_of<'a>(run: &Setting<'a>, cells: u64) -> Result<Vec<Item<'a>>, Memory>
     requires { cells ≡ size_of_frame (setting_of run.now) 0 }
-    ensures { IfOk result (λ todo. items_of todo.items ≡ main (setting_of run.now) (setting_of run.now).program.blocks) }
+    ensures { IfOk result (λ todo. items_of todo.items
+        ≡ main (setting_of run.now) (setting_of run.now).program.blocks) }
 {
     let mut todo = Vec::new(run.alloc);
     match run.checked.blocks.items().split_first() {

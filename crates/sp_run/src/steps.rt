@@ -1,11 +1,14 @@
 //! One step of one process in a state. A step that cannot be made changes nothing, and a faulting step keeps neither
 //! its writes nor its output.
 
-ghost use Rattle.std.specs.Prelude.{◌≡◌, ◌+◌, ◌+ℤ◌, ◌∷◌, [], IfOk, OnOk, Option, Some, None, length, map, pos, replicate};
+ghost use Rattle.std.specs.Prelude.{◌≡◌, ◌+◌, ◌+ℤ◌, ◌∷◌, [], IfOk, OnOk, Option, Some, None, length, map, pos};
+ghost use Rattle.std.specs.Prelude.{replicate};
 ghost use Rattle.std.specs.Option.{option_map};
 ghost use Rattle.sp_tree.specs.PlainOf.{stmt_of, program_of, stmts_of};
-ghost use Rattle.sp_meaning.specs.Model.{Writes, Pends as PendsIn, Adds, Faults, Becomes, Works, Forks, Offering, changed};
-ghost use Rattle.sp_meaning.specs.Steps.{message, meeting, waiting, hands, meets, births as births_in, acts, result_of, outcome};
+ghost use Rattle.sp_meaning.specs.Model.{Writes, Pends as PendsIn, Adds, Faults, Becomes, Works, Forks, Offering};
+ghost use Rattle.sp_meaning.specs.Model.{changed};
+ghost use Rattle.sp_meaning.specs.Steps.{message, meeting, waiting, hands, meets, births as births_in, acts, result_of};
+ghost use Rattle.sp_meaning.specs.Steps.{outcome};
 ghost use Rattle.sp_meaning.specs.Own.{Who as WhoIn, Own as OwnIn, Tree, assigned};
 ghost use Rattle.sp_meaning.specs.SuperPascal.{weight_of, with_todo, enough};
 ghost use Rattle.sp_meaning.specs.Deeds.{push, children, indexed_children, newborn, newborns, with_index, Opened};
@@ -80,7 +83,8 @@ fn newborn<'a>(
     index: Option<(usize, i64)>,
 ) -> Result<Process<'a>, Memory>
     ensures { IfOk result (λ c. plain_process c
-        ≡ newborn (plain_who who.now) (plain_own own.now) i (record { todo = push (stmt_of body.now) []; index = index })) }
+        ≡ newborn (plain_who who.now) (plain_own own.now) i
+        (record { todo = push (stmt_of body.now) []; index = index })) }
 {
     let name = child_of(run.alloc, who.name.items(), who.forks, i)?;
     let frames = copy_frames(run.alloc, own.frames.items())?;
@@ -113,7 +117,8 @@ fn birth<'a>(
     i: u64,
     child: Process<'a>,
 ) -> Result<(), Memory>
-    ensures { OnOk result (Changes run.now s.old (Becomes ((fork, i) ∷ p.now) (Works (plain_process child.entry)) ∷ []) s.new) }
+    ensures { OnOk result (Changes run.now s.old (Becomes ((fork, i) ∷ p.now) (Works (plain_process child.entry)) ∷ [])
+        s.new) }
 {
     let name = child_of(run.alloc, p, fork, i)?;
     becomes(run, s, name.items(), Condition::Works(child))?;
@@ -195,7 +200,8 @@ fn births<'a>(
     births: Births<'a>,
 ) -> Result<(), Memory>
     ensures { OnOk result (Changes run.now s.old
-        (births_in p.now fork 0 (newborns (plain_who parent.now.who) (plain_own parent.now.own) 0 (births_of births.entry))) s.new) }
+        (births_in p.now fork 0 (newborns (plain_who parent.now.who) (plain_own parent.now.own) 0
+        (births_of births.entry))) s.new) }
 {
     match births {
         Births::Children(bodies) => births_of_each(run, s, p, fork, parent, bodies),
@@ -221,7 +227,8 @@ fn count_of<'a>(births: &Births<'a>) -> u64
 fn forked<'a>(run: &Setting, parent: &Process<'a>) -> Result<Process<'a>, Memory>
     ensures { IfOk result (λ c. plain_process c
         ≡ with_todo (items_of parent.now.todo.items)
-        (record { name = parent.now.who.name; forks = parent.now.who.forks + 1; opens = parent.now.who.opens }) (plain_own parent.now.own)) }
+        (record { name = parent.now.who.name; forks = parent.now.who.forks + 1; opens = parent.now.who.opens })
+        (plain_own parent.now.own)) }
 {
     let forks = sum_of(parent.who.forks, 1)?;
     let Process { todo, who, own } = copy_process(run.alloc, parent)?;
@@ -249,7 +256,8 @@ fn makes_children<'a>(
         (acts (state_of run.now s.old) p.now
         (Forks (with_todo (items_of parent.now.todo.items)
         (record { name = parent.now.who.name; forks = parent.now.who.forks + 1; opens = parent.now.who.opens })
-        (plain_own parent.now.own)) (newborns (plain_who parent.now.who) (plain_own parent.now.own) 0 (births_of children.entry))))) }
+        (plain_own parent.now.own)) (newborns (plain_who parent.now.who) (plain_own parent.now.own) 0
+        (births_of children.entry))))) }
 {
     let count = count_of(&children);
     let fork = forks_made(s.forks.items(), p);
@@ -270,7 +278,8 @@ fn splits<'a>(
 ) -> Result<(), Memory>
     ensures { OnOk result (state_of run.now s.new
         ≡ stepped (setting_of run.now) p.now (plain_who parent.entry.who) (state_of run.now s.old)
-        (Got (plain_deed (items_of parent.entry.todo.items) (Forked children.entry)) (plain_own parent.entry.own) (store_of run.now s.old.log))) }
+        (Got (plain_deed (items_of parent.entry.todo.items) (Forked children.entry)) (plain_own parent.entry.own)
+        (store_of run.now s.old.log))) }
 {
     let count = count_of(&children);
     if let Some(f) = passed(run, &s.totals, count, 0) {
@@ -331,7 +340,8 @@ fn meeting<'a>(
     ensures { OnOk result (Changes run.now s.old
         (Becomes p.now (Works (plain_process next.entry)) ∷ Becomes z.now (Works (plain_process other.entry)) ∷ PendsIn
         (plain_channel channel) None ∷ Writes (plain_address a.now).spot
-        (assigned (plain_address a.now) (store_of run.now s.old.log (plain_address a.now).spot) (Tree (plain_value v.now))) ∷ Adds
+        (assigned (plain_address a.now) (store_of run.now s.old.log (plain_address a.now).spot)
+        (Tree (plain_value v.now))) ∷ Adds
         (record { processes = 0; channels = 0; entries = 1 }) ∷ []) s.new) }
 {
     becomes(run, s, p, Condition::Works(next))?;
@@ -476,7 +486,8 @@ fn completes<'a>(
 ) -> Result<(), Memory>
     ensures { OnOk result (state_of run.now s.new
         ≡ stepped (setting_of run.now) p.now (plain_who next.entry.who) (state_of run.now s.old)
-        (Got (plain_deed (items_of next.entry.todo.items) deed.entry) (plain_own next.entry.own) (store_of run.now log))) }
+        (Got (plain_deed (items_of next.entry.todo.items) deed.entry) (plain_own next.entry.own)
+        (store_of run.now log))) }
 {
     match deed {
         Deed::Stepped => moves(run, s, p, next, log),
@@ -504,7 +515,8 @@ fn completes<'a>(
 
 /// A step that comes to no deed is a fault.
 fn stops(run: &Setting, s: &mut State, p: &[(u64, u64)], halted: Halted) -> Result<(), Memory>
-    ensures { (w : WhoIn) → OnOk result (state_of run.now s.new ≡ stepped (setting_of run.now) p.now w (state_of run.now s.old) (Not halted)) }
+    ensures { (w : WhoIn) → OnOk result (state_of run.now s.new
+        ≡ stepped (setting_of run.now) p.now w (state_of run.now s.old) (Not halted)) }
 {
     match halted {
         Halted::Fault(f) => fails(run, s, p, f),
@@ -576,7 +588,8 @@ fn works<'a>(
     requires { weight ≡ weight_of (program_of run.now.checked.now) }
     ensures { OnOk result (state_of run.now s.new
         ≡ stepped (setting_of run.now) p.now (plain_who process.entry.who) (state_of run.now s.old)
-        (deed (setting_of run.now) (enough (setting_of run.now) (plain_own process.entry.own)) (items_of process.entry.todo.items)
+        (deed (setting_of run.now) (enough (setting_of run.now) (plain_own process.entry.own))
+        (items_of process.entry.todo.items)
         (plain_who process.entry.who) (plain_own process.entry.own) (store_of run.now s.old.log))) }
 {
     let (fuel, log) = match means_of(run, weight, &process.own, s.log.items()) {

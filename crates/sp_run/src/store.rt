@@ -110,7 +110,8 @@ fn value_of(held: Held) -> Value
 
 /// What is held after a value was put to an address.
 pub fn with_value(run: &Setting, a: &Address, held: Held, v: &Value) -> Result<Held, Memory>
-    ensures { IfOk result (λ h. plain_held h ≡ assigned (plain_address a.now) (plain_held held) (Tree (plain_value v.now))) }
+    ensures { IfOk result (λ h. plain_held h
+        ≡ assigned (plain_address a.now) (plain_held held) (Tree (plain_value v.now))) }
 {
     let old = value_of(held);
     let new = with_at(run.alloc, a.path.items(), v, &old)?;
@@ -119,7 +120,8 @@ pub fn with_value(run: &Setting, a: &Address, held: Held, v: &Value) -> Result<H
 
 /// Puts a value to an address.
 pub fn assign(run: &Setting, who: &Who, machine: &mut Machine, a: &Address, v: &Value) -> Done<()>
-    ensures { Implements run.now who.now same machine.old result machine.new (assign (plain_address a.now) (plain_value v.now)) }
+    ensures { Implements run.now who.now same machine.old result machine.new
+        (assign (plain_address a.now) (plain_value v.now)) }
 {
     let held = have!(held_at(run, machine.log.items(), &a.spot));
     let new = have!(with_value(run, a, held, v));

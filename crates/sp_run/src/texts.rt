@@ -1,9 +1,11 @@
 //! Items read from the input and written to the output.
 
-ghost use Rattle.std.specs.Prelude.{◌≡◌, ◌+◌, ◌<◌, ◌≤◌, ◌^◌, ◌++◌, ◌∷◌, [], IfOk, MatchOption, replicate, take, length, codes, if◌then◌else◌, pos};
+ghost use Rattle.std.specs.Prelude.{◌≡◌, ◌+◌, ◌<◌, ◌≤◌, ◌^◌, ◌++◌, ◌∷◌, [], IfOk, MatchOption, replicate, take, length};
+ghost use Rattle.std.specs.Prelude.{codes, if◌then◌else◌, pos};
 ghost use Rattle.std.specs.Fmt.{signed_decimal};
 ghost use Rattle.sp_tree.specs.Characters.{is_blank, is_digit};
-ghost use Rattle.sp_tree.specs.Items.{blanks, digits, number_from, signed, number_in, number_after, digits_after, char_in, line_length, truth_text, byte};
+ghost use Rattle.sp_tree.specs.Items.{blanks, digits, number_from, signed, number_in, number_after, digits_after};
+ghost use Rattle.sp_tree.specs.Items.{char_in, line_length, truth_text, byte};
 ghost use Rattle.sp_meaning.specs.Deeds.{shown, taken_by};
 ghost use Rattle.sp_run.specs.Texts.{plain_taken, taken_of};
 
@@ -65,7 +67,8 @@ fn digits(bytes: &[u8]) -> usize
 /// The number that digits spell, or none where it is above the integers.
 #[tactic(auto, using(crate::proofs::Reading::number_on, crate::proofs::Reading::number_end, crate::proofs::Reading::number_grows))]
 fn number_of(digits: &[u8]) -> Option<u64>
-    ensures { MatchOption result (2 ^ 63 ≤ number_from 0 digits.now) (λ n. (n < 2 ^ 63) × (n ≡ number_from 0 digits.now)) }
+    ensures { MatchOption result (2 ^ 63 ≤ number_from 0 digits.now)
+        (λ n. (n < 2 ^ 63) × (n ≡ number_from 0 digits.now)) }
 {
     let mut n = 0u64;
     for b in digits {

@@ -1,8 +1,10 @@
 //! The bound on the work of one step: how much it may evaluate.
 
 ghost use Rattle.std.specs.Prelude.{◌≡◌, IfOk, map};
-ghost use Rattle.sp_tree.specs.PlainOf.{expr_of, var_of, sends, receives, stmt_of, arms_of, blocks_of, program_of, stmts_of};
-ghost use Rattle.sp_meaning.specs.SuperPascal.{weight, weight_all, weight_arms, weight_of as weight_in, weight_blocks, enough};
+ghost use Rattle.sp_tree.specs.PlainOf.{expr_of, var_of, sends, receives, stmt_of, arms_of, blocks_of, program_of};
+ghost use Rattle.sp_tree.specs.PlainOf.{stmts_of};
+ghost use Rattle.sp_meaning.specs.SuperPascal.{weight, weight_all, weight_arms, weight_of as weight_in, weight_blocks};
+ghost use Rattle.sp_meaning.specs.SuperPascal.{enough};
 ghost use Rattle.sp_run.specs.Machines.{setting_of, plain_own};
 
 use crate::kinds::sum_of;

@@ -1,3 +1,4 @@
+-- All of this belongs to what the program promises (docs/promise.txt).
 -- How the system of all processes ends, and what it leaves: the end and the output of a run in the words of the
 -- machine's system. The runner's contract cites it, and sp_link leads it to the meaning.
 use Rattle.std.specs.Prelude.{◌≡◌, ◌≢◌, ℕ, List, [], ◌∷◌, ◌++◌, Option, Some, None, false}

@@ -1,3 +1,4 @@
+-- None of this belongs to what the program promises: it is for contracts between crates.
 -- What a worker's loop keeps, and what is left once all workers have left. The contracts of `worker` and `runner` cite
 -- it; a worker knows its own notes and what it has seen, and nothing of the others.
 use Rattle.std.specs.Prelude.{◌≡◌, ◌⊎◌, ◌<◌, ◌≤◌, ℕ, List, [], ◌∷◌, Option, None, false}

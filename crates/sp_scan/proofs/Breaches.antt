@@ -1,5 +1,6 @@
 -- The first rule of characters that is broken at a place.
-use Rattle.std.proofs.Common.{◌≡◌, ◌≢◌, ℕ, ◌-◌, ◌<◌, ◌≤◌, Bool, true, false, ◌||◌, ◌==◌, List, [], ◌∷◌, ◌++◌, length, Some, ◌⊎◌, inl, inr, refl, sym, ap, ◌∙◌, subst, arith}
+use Rattle.std.proofs.Common.{◌≡◌, ◌≢◌, ℕ, ◌-◌, ◌<◌, ◌≤◌, Bool, true, false, ◌||◌, ◌==◌, List, [], ◌∷◌, ◌++◌, length}
+use Rattle.std.proofs.Common.{Some, ◌⊎◌, inl, inr, refl, sym, ap, ◌∙◌, subst, arith}
 use Rattle.std.specs.Prelude.{slice_get}
 use Rattle.std.proofs.lemmas.Bool.Decides.{nat_tests}
 use Rattle.sp_base.specs.declared.rule.Rule.{Rule}
@@ -9,8 +10,10 @@ use Rattle.sp_tree.specs.declared.token.Kind.TheVariants as kind
 use Rattle.sp_tree.specs.Characters.{is_blank, is_letter, is_digit}
 use Rattle.sp_tree.specs.Spelling.{digits_value}
 use Rattle.sp_tree.specs.First.{row}
-use Rattle.sp_tree.specs.Lexemes.{signs, refused_words, Comment, brace_comment, star_comment, opens_comment, lowered, Lexeme, name, word, number, text, sign, Longest}
-use Rattle.sp_tree.specs.Scans.{NoToken, goes_on_real, OpenComment, OpenText, open_text, LargeNumber, LongName, RefusedWord, Byte, first, second, RealNumber, StrayByte, stray, BreaksHere}
+use Rattle.sp_tree.specs.Lexemes.{signs, refused_words, Comment, brace_comment, star_comment, opens_comment, lowered}
+use Rattle.sp_tree.specs.Lexemes.{Lexeme, name, word, number, text, sign, Longest}
+use Rattle.sp_tree.specs.Scans.{NoToken, goes_on_real, OpenComment, OpenText, open_text, LargeNumber, LongName}
+use Rattle.sp_tree.specs.Scans.{RefusedWord, Byte, first, second, RealNumber, StrayByte, stray, BreaksHere}
 use Rattle.sp_grammar.proofs.Rising.{Each, each_at}
 use Rattle.sp_grammar.proofs.OneList.{not_blank, one_kind, same_rest, blank_opens, opens, differ}
 use Rattle.sp_scan.specs.Finds.{FirstHere, IsGap, blank_gap, comment_gap}
@@ -25,7 +28,40 @@ Even [] = ⊥
 Even (c ∷ s) = is_odd c ≡ false
 
 signs_even : Each Even signs
-signs_even = (refl, (refl, (refl, (refl, (refl, (refl, (refl, (refl, (refl, (refl, (refl, (refl, (refl, (refl, (refl, (refl, (refl, (refl, (refl, (refl, tt))))))))))))))))))))
+signs_even = (
+  refl,
+  (
+    refl,
+    (
+      refl,
+      (
+        refl,
+        (
+          refl,
+          (
+            refl,
+            (
+              refl,
+              (
+                refl,
+                (
+                  refl,
+                  (
+                    refl,
+                    (
+                      refl,
+                      (refl, (refl, (refl, (refl, (refl, (refl, (refl, (refl, (refl, tt))))))))),
+                    ),
+                  ),
+                ),
+              ),
+            ),
+          ),
+        ),
+      ),
+    ),
+  ),
+)
 
 even_by : (b : ℕ) (bs s u : List ℕ) → Even s → b ∷ bs ≡ s ++ u → is_odd b ≡ false
 even_by b bs [] u h e = absurd h
@@ -100,8 +136,10 @@ no_open_comment e o = differ o.opens e
 no_open_text : {k : Kind} {bs r : List ℕ} → Lexeme k bs r → OpenText bs → ⊥
 no_open_text {k} {r = r} l (open_text {bs = bs} q e f) = no_text_at q bs r k e f l
 
-no_number : {k : Kind} {bs r : List ℕ} → Longest k bs r → k ≢ kind.Number → {rest : List ℕ} → Longest kind.Number bs rest → ⊥
-no_number {bs = bs} l n m = n (one_kind l.spelled (subst (λ u. Lexeme kind.Number bs u) (sym (same_rest bs l m)) m.spelled))
+no_number : {k : Kind} {bs r : List ℕ} → Longest k bs r → k ≢ kind.Number → {rest : List ℕ}
+    → Longest kind.Number bs rest → ⊥
+no_number {bs = bs} l n m = n (one_kind l.spelled
+    (subst (λ u. Lexeme kind.Number bs u) (sym (same_rest bs l m)) m.spelled))
 
 no_name : {k : Kind} {bs r : List ℕ} → Longest k bs r → k ≢ kind.Name → {rest : List ℕ} → Longest kind.Name bs rest → ⊥
 no_name {bs = bs} l n m = n (one_kind l.spelled (subst (λ u. Lexeme kind.Name bs u) (sym (same_rest bs l m)) m.spelled))
@@ -143,7 +181,8 @@ module _ {bs r : List ℕ} (closed : opens_comment bs ≡ false) where
     number_u1 (inr b) = no_byte 94 64 refl refl l.spelled b
 
     large_by : (digits_value 0 (lowered bs r) ≤ 9223372036854775807) → LargeNumber bs → ⊥
-    large_by h b = let e : digits_value 0 (lowered bs r) ≡ digits_value 0 (lowered bs b.rest) = ap (λ u. digits_value 0 (lowered bs u)) (same_number b.number) in let g = b.above in omega arith
+    large_by h b = let e : digits_value 0 (lowered bs r) ≡ digits_value 0 (lowered bs b.rest) =
+        ap (λ u. digits_value 0 (lowered bs u)) (same_number b.number) in let g = b.above in omega arith
 
     real_by : goes_on_real r ≡ false → RealNumber bs ⊎ Byte 47 47 bs → ⊥
     real_by h (inl b) = differ (ap goes_on_real (same_number b.number) ∙ b.real) h
@@ -152,17 +191,42 @@ module _ {bs r : List ℕ} (closed : opens_comment bs ≡ false) where
     pub large_number : 9223372036854775807 < digits_value 0 (lowered bs r) → FirstHere rule.S4 bs
     large_number h = record {
       broken = record { rest = r; number = l; above = h };
-      first = rows_free 4 bs (record { s1 = inr (no_stray l.spelled); s2 = inr (no_open_comment closed); s3 = inr (no_open_text l.spelled); s4 = inl (omega arith); s5 = inl (omega arith); u1 = inl (omega arith); u2 = inl (omega arith) });
+      first = rows_free 4 bs (record {
+        s1 = inr (no_stray l.spelled);
+        s2 = inr (no_open_comment closed);
+        s3 = inr (no_open_text l.spelled);
+        s4 = inl (omega arith);
+        s5 = inl (omega arith);
+        u1 = inl (omega arith);
+        u2 = inl (omega arith);
+      });
     }
 
     pub real_number : digits_value 0 (lowered bs r) ≤ 9223372036854775807 → goes_on_real r ≡ true → FirstHere rule.U2 bs
     real_number h g = record {
       broken = inl (record { rest = r; number = l; real = g });
-      first = rows_free 7 bs (record { s1 = inr (no_stray l.spelled); s2 = inr (no_open_comment closed); s3 = inr (no_open_text l.spelled); s4 = inr (large_by h); s5 = inr (λ b. name_clash b.name); u1 = inr number_u1; u2 = inl (omega arith) });
+      first = rows_free 7 bs (record {
+        s1 = inr (no_stray l.spelled);
+        s2 = inr (no_open_comment closed);
+        s3 = inr (no_open_text l.spelled);
+        s4 = inr (large_by h);
+        s5 = inr (λ b. name_clash b.name);
+        u1 = inr number_u1;
+        u2 = inl (omega arith);
+      });
     }
 
-    pub fine_number : digits_value 0 (lowered bs r) ≤ 9223372036854775807 → goes_on_real r ≡ false → (s : Rule) → BreaksHere s bs → ⊥
-    fine_number h g = none_by bs (record { s1 = inr (no_stray l.spelled); s2 = inr (no_open_comment closed); s3 = inr (no_open_text l.spelled); s4 = inr (large_by h); s5 = inr (λ b. name_clash b.name); u1 = inr number_u1; u2 = inr (real_by g) })
+    pub fine_number : digits_value 0 (lowered bs r) ≤ 9223372036854775807 → goes_on_real r ≡ false → (s : Rule)
+        → BreaksHere s bs → ⊥
+    fine_number h g = none_by bs (record {
+      s1 = inr (no_stray l.spelled);
+      s2 = inr (no_open_comment closed);
+      s3 = inr (no_open_text l.spelled);
+      s4 = inr (large_by h);
+      s5 = inr (λ b. name_clash b.name);
+      u1 = inr number_u1;
+      u2 = inr (real_by g);
+    })
 
   -- names
   module _ (l : Longest kind.Name bs r) where
@@ -177,7 +241,8 @@ module _ {bs r : List ℕ} (closed : opens_comment bs ≡ false) where
     name_u2 (inr b) = no_byte 47 47 refl refl l.spelled b
 
     long_by : length bs - length r ≤ 127 → LongName bs → ⊥
-    long_by h b = let e : length bs - length r ≡ length bs - length b.rest = ap (λ u. length bs - length u) (same_name b.name) in let g = b.above in omega arith
+    long_by h b = let e : length bs - length r ≡ length bs - length b.rest =
+        ap (λ u. length bs - length u) (same_name b.name) in let g = b.above in omega arith
 
     refused_by : ((n : ℕ) → slice_get refused_words n ≢ Some (lowered bs r)) → RefusedWord bs ⊎ Byte 94 64 bs → ⊥
     refused_by h (inl b) = h b.number (b.refused ∙ ap (λ u. Some (lowered bs u)) (sym (same_name b.name)))
@@ -186,17 +251,43 @@ module _ {bs r : List ℕ} (closed : opens_comment bs ≡ false) where
     pub long_name : 127 < length bs - length r → FirstHere rule.S5 bs
     long_name h = record {
       broken = record { rest = r; name = l; above = h };
-      first = rows_free 5 bs (record { s1 = inr (no_stray l.spelled); s2 = inr (no_open_comment closed); s3 = inr (no_open_text l.spelled); s4 = inr (λ b. number_clash b.number); s5 = inl (omega arith); u1 = inl (omega arith); u2 = inl (omega arith) });
+      first = rows_free 5 bs (record {
+        s1 = inr (no_stray l.spelled);
+        s2 = inr (no_open_comment closed);
+        s3 = inr (no_open_text l.spelled);
+        s4 = inr (λ b. number_clash b.number);
+        s5 = inl (omega arith);
+        u1 = inl (omega arith);
+        u2 = inl (omega arith);
+      });
     }
 
-    pub refused_word : length bs - length r ≤ 127 → (n : ℕ) → slice_get refused_words n ≡ Some (lowered bs r) → FirstHere rule.U1 bs
+    pub refused_word : length bs - length r ≤ 127 → (n : ℕ) → slice_get refused_words n ≡ Some (lowered bs r)
+        → FirstHere rule.U1 bs
     refused_word h n e = record {
       broken = inl (record { rest = r; name = l; number = n; refused = e });
-      first = rows_free 6 bs (record { s1 = inr (no_stray l.spelled); s2 = inr (no_open_comment closed); s3 = inr (no_open_text l.spelled); s4 = inr (λ b. number_clash b.number); s5 = inr (long_by h); u1 = inl (omega arith); u2 = inl (omega arith) });
+      first = rows_free 6 bs (record {
+        s1 = inr (no_stray l.spelled);
+        s2 = inr (no_open_comment closed);
+        s3 = inr (no_open_text l.spelled);
+        s4 = inr (λ b. number_clash b.number);
+        s5 = inr (long_by h);
+        u1 = inl (omega arith);
+        u2 = inl (omega arith);
+      });
     }
 
-    pub fine_name : length bs - length r ≤ 127 → ((n : ℕ) → slice_get refused_words n ≢ Some (lowered bs r)) → (s : Rule) → BreaksHere s bs → ⊥
-    fine_name h f = none_by bs (record { s1 = inr (no_stray l.spelled); s2 = inr (no_open_comment closed); s3 = inr (no_open_text l.spelled); s4 = inr (λ b. number_clash b.number); s5 = inr (long_by h); u1 = inr (refused_by f); u2 = inr name_u2 })
+    pub fine_name : length bs - length r ≤ 127 → ((n : ℕ) → slice_get refused_words n ≢ Some (lowered bs r))
+        → (s : Rule) → BreaksHere s bs → ⊥
+    fine_name h f = none_by bs (record {
+      s1 = inr (no_stray l.spelled);
+      s2 = inr (no_open_comment closed);
+      s3 = inr (no_open_text l.spelled);
+      s4 = inr (λ b. number_clash b.number);
+      s5 = inr (long_by h);
+      u1 = inr (refused_by f);
+      u2 = inr name_u2;
+    })
 
 letter_opens : (b : ℕ) → (b ≡ 123) ⊎ (b ≡ 40) → is_letter b ≡ true → ⊥
 letter_opens b (inl e) h = grind (arith, nat_tests)
@@ -240,7 +331,8 @@ fine_blank b bs h = none_by (b ∷ bs) (record {
     u2_by (inr (first x e)) = blank_odd b h (odd_is b 47 e refl)
     u2_by (inr (second x e)) = blank_odd b h (odd_is b 47 e refl)
 
-no_lexeme_at : {k : Kind} {r : List ℕ} (b : ℕ) (bs : List ℕ) → (b ≡ 123) ⊎ (b ≡ 40) → Lexeme k (b ∷ bs) r → k ≢ kind.Text → (k ≡ kind.Number) ⊎ (k ≡ kind.Name) → ⊥
+no_lexeme_at : {k : Kind} {r : List ℕ} (b : ℕ) (bs : List ℕ) → (b ≡ 123) ⊎ (b ≡ 40) → Lexeme k (b ∷ bs) r
+    → k ≢ kind.Text → (k ≡ kind.Number) ⊎ (k ≡ kind.Name) → ⊥
 no_lexeme_at b bs h (name c e x n) t o = letter_opens b h e
 no_lexeme_at b bs h (word n c e x w) t (inl o) = cc
 no_lexeme_at b bs h (word n c e x w) t (inr o) = cc
@@ -296,10 +388,19 @@ module _ {bs r : List ℕ} (c : Comment bs r) where
   comment_u2 (inr o) = comment_byte 47 47 (λ e. omega arith) (λ e. omega arith) (λ e. omega arith) (λ e. omega arith) o
 
   pub fine_comment : (s : Rule) → BreaksHere s bs → ⊥
-  fine_comment = none_by bs (record { s1 = inr comment_stray; s2 = inr (λ o. o.open_end r c); s3 = inr comment_text; s4 = inr (λ o. comment_number o.number); s5 = inr (λ o. comment_name o.name); u1 = inr comment_u1; u2 = inr comment_u2 })
+  fine_comment = none_by bs (record {
+    s1 = inr comment_stray;
+    s2 = inr (λ o. o.open_end r c);
+    s3 = inr comment_text;
+    s4 = inr (λ o. comment_number o.number);
+    s5 = inr (λ o. comment_name o.name);
+    u1 = inr comment_u1;
+    u2 = inr comment_u2;
+  })
 
 -- where no token begins
-module _ (b : ℕ) (bs : List ℕ) (blank : is_blank b ≡ false) (closed : opens_comment (b ∷ bs) ≡ false) (none : NoToken (b ∷ bs)) where
+module _ (b : ℕ) (bs : List ℕ) (blank : is_blank b ≡ false) (closed : opens_comment (b ∷ bs) ≡ false)
+    (none : NoToken (b ∷ bs)) where
   no_stray_odd : (n : ℕ) → b ≡ n → (n ≡ 39) ⊎ (is_odd n ≡ true) → StrayByte (b ∷ bs) → ⊥
   no_stray_odd n e (inl g) (stray c h o q d f k m) = q (e ∙ g)
   no_stray_odd n e (inr g) (stray c h o q d f k m) = odd_none b (odd_is b n e g) d f k
@@ -310,13 +411,29 @@ module _ (b : ℕ) (bs : List ℕ) (blank : is_blank b ≡ false) (closed : open
   pub stray_quote : b ≡ 39 → FirstHere rule.S3 (b ∷ bs)
   stray_quote e = record {
     broken = open_text b e (λ r x. none kind.Text r (text b e x));
-    first = rows_free 3 (b ∷ bs) (record { s1 = inr (no_stray_odd 39 e (inl refl)); s2 = inr (no_open_comment closed); s3 = inl (omega arith); s4 = inl (omega arith); s5 = inl (omega arith); u1 = inl (omega arith); u2 = inl (omega arith) });
+    first = rows_free 3 (b ∷ bs) (record {
+      s1 = inr (no_stray_odd 39 e (inl refl));
+      s2 = inr (no_open_comment closed);
+      s3 = inl (omega arith);
+      s4 = inl (omega arith);
+      s5 = inl (omega arith);
+      u1 = inl (omega arith);
+      u2 = inl (omega arith);
+    });
   }
 
   odd_first : (n : ℕ) → b ≡ n → is_odd n ≡ true → Byte 94 64 (b ∷ bs) → FirstHere rule.U1 (b ∷ bs)
   odd_first n e g x = record {
     broken = inr x;
-    first = rows_free 6 (b ∷ bs) (record { s1 = inr (no_stray_odd n e (inr g)); s2 = inr (no_open_comment closed); s3 = inr (no_quote_odd n e g); s4 = inr (λ o. none _ _ o.number.spelled); s5 = inr (λ o. none _ _ o.name.spelled); u1 = inl (omega arith); u2 = inl (omega arith) });
+    first = rows_free 6 (b ∷ bs) (record {
+      s1 = inr (no_stray_odd n e (inr g));
+      s2 = inr (no_open_comment closed);
+      s3 = inr (no_quote_odd n e g);
+      s4 = inr (λ o. none _ _ o.number.spelled);
+      s5 = inr (λ o. none _ _ o.name.spelled);
+      u1 = inl (omega arith);
+      u2 = inl (omega arith);
+    });
   }
 
   pub stray_caret : b ≡ 94 → FirstHere rule.U1 (b ∷ bs)
@@ -333,21 +450,41 @@ module _ (b : ℕ) (bs : List ℕ) (blank : is_blank b ≡ false) (closed : open
   pub stray_slash : b ≡ 47 → FirstHere rule.U2 (b ∷ bs)
   stray_slash e = record {
     broken = inr (first b e);
-    first = rows_free 7 (b ∷ bs) (record { s1 = inr (no_stray_odd 47 e (inr refl)); s2 = inr (no_open_comment closed); s3 = inr (no_quote_odd 47 e refl); s4 = inr (λ o. none _ _ o.number.spelled); s5 = inr (λ o. none _ _ o.name.spelled); u1 = inr (slash_u1 e); u2 = inl (omega arith) });
+    first = rows_free 7 (b ∷ bs) (record {
+      s1 = inr (no_stray_odd 47 e (inr refl));
+      s2 = inr (no_open_comment closed);
+      s3 = inr (no_quote_odd 47 e refl);
+      s4 = inr (λ o. none _ _ o.number.spelled);
+      s5 = inr (λ o. none _ _ o.name.spelled);
+      u1 = inr (slash_u1 e);
+      u2 = inl (omega arith);
+    });
   }
 
   pub stray_other : b ≢ 39 → b ≢ 94 → b ≢ 64 → b ≢ 47 → FirstHere rule.S1 (b ∷ bs)
   stray_other q d f g = record {
     broken = stray b blank closed q d f g none;
-    first = rows_free 1 (b ∷ bs) (record { s1 = inl (omega arith); s2 = inl (omega arith); s3 = inl (omega arith); s4 = inl (omega arith); s5 = inl (omega arith); u1 = inl (omega arith); u2 = inl (omega arith) });
+    first = rows_free 1 (b ∷ bs) (record {
+      s1 = inl (omega arith);
+      s2 = inl (omega arith);
+      s3 = inl (omega arith);
+      s4 = inl (omega arith);
+      s5 = inl (omega arith);
+      u1 = inl (omega arith);
+      u2 = inl (omega arith);
+    });
   }
 
 -- the same of bytes that are cut
-pub at_cut : (r : Rule) (bytes rest : List ℕ) (b : ℕ) → bytes ≡ b ∷ rest → opens_comment bytes ≡ false → NoToken bytes → (opens_comment (b ∷ rest) ≡ false → NoToken (b ∷ rest) → FirstHere r (b ∷ rest)) → FirstHere r bytes
-at_cut r bytes rest b e o n f = subst (FirstHere r) (sym e) (f (subst (λ l. opens_comment l ≡ false) e o) (subst NoToken e n))
+pub at_cut : (r : Rule) (bytes rest : List ℕ) (b : ℕ) → bytes ≡ b ∷ rest → opens_comment bytes ≡ false → NoToken bytes
+    → (opens_comment (b ∷ rest) ≡ false → NoToken (b ∷ rest) → FirstHere r (b ∷ rest)) → FirstHere r bytes
+at_cut r bytes rest b e o n f = subst (FirstHere r) (sym e)
+    (f (subst (λ l. opens_comment l ≡ false) e o) (subst NoToken e n))
 
-pub blank_item : (bytes rest : List ℕ) (b : ℕ) → bytes ≡ b ∷ rest → is_blank b ≡ true → IsGap bytes rest × ((s : Rule) → BreaksHere s bytes → ⊥)
-blank_item bytes rest b e h = subst (λ l. IsGap l rest × ((s : Rule) → BreaksHere s l → ⊥)) (sym e) (blank_gap b h, fine_blank b rest h)
+pub blank_item : (bytes rest : List ℕ) (b : ℕ) → bytes ≡ b ∷ rest → is_blank b ≡ true → IsGap bytes rest
+    × ((s : Rule) → BreaksHere s bytes → ⊥)
+blank_item bytes rest b e h = subst (λ l. IsGap l rest × ((s : Rule) → BreaksHere s l → ⊥)) (sym e)
+    (blank_gap b h, fine_blank b rest h)
 
 pub comment_item : (bytes rest : List ℕ) → Comment bytes rest → IsGap bytes rest × ((s : Rule) → BreaksHere s bytes → ⊥)
 comment_item bytes rest c = (comment_gap c, fine_comment c)

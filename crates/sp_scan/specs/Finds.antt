@@ -1,6 +1,8 @@
+-- None of this belongs to what the program promises: it is for contracts between crates.
 -- What the parts of the scanner answer: cuts, runs, comments and tokens, each as the longest one that begins here. The
 -- contracts of the scanner's files cite it, and the formatter's, which scans with comments.
-use Rattle.std.specs.Prelude.{◌≡◌, ◌≢◌, ℕ, ◌<◌, ◌≤◌, Bool, true, false, List, [], ◌∷◌, ◌++◌, length, Option, Some, None, Result, Ok, Err, slice_get}
+use Rattle.std.specs.Prelude.{◌≡◌, ◌≢◌, ℕ, ◌<◌, ◌≤◌, Bool, true, false, List, [], ◌∷◌, ◌++◌, length, Option, Some, None}
+use Rattle.std.specs.Prelude.{Result, Ok, Err, slice_get}
 use Rattle.std.specs.Borrow.{Bor}
 use Rattle.sp_tree.specs.declared.token.Kind.{Kind}
 use Rattle.sp_tree.specs.declared.token.Kind.TheVariants as kind
@@ -54,7 +56,8 @@ pub record HasSign (bs : List ℕ) (n : ℕ) (r : List ℕ) : Type 0 where
 -- the longest of the first k signs that stands first
 abbrev pub FindsSign : ℕ → List ℕ → Option (ℕ × Bor (List ℕ)) → Type 0
 FindsSign k bs None = (n : ℕ) (r : List ℕ) → n < k → HasSign bs n r → ⊥
-FindsSign k bs (Some x) = HasSign bs x.0 x.1.now × ((n : ℕ) (r : List ℕ) → n < k → HasSign bs n r → length x.1.now ≤ length r)
+FindsSign k bs (Some x) = HasSign bs x.0 x.1.now
+    × ((n : ℕ) (r : List ℕ) → n < k → HasSign bs n r → length x.1.now ≤ length r)
 
 -- the longest token at the front, or none
 abbrev pub Finds : List ℕ → Option (Kind × Bor (List ℕ)) → Type 0

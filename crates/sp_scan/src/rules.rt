@@ -5,7 +5,8 @@ ghost use Rattle.sp_tree.specs.declared.token.Kind.TheVariants.{Number, Name};
 ghost use Rattle.sp_tree.specs.Characters.{lower, is_blank as is_a_blank};
 ghost use Rattle.sp_tree.specs.Spelling.{digits_value};
 ghost use Rattle.sp_tree.specs.Lexemes.{Longest, opens_comment as opens};
-ghost use Rattle.sp_tree.specs.Scans.{NoToken, begins_digit as is_digit_first, begins_signed as is_signed_first, goes_on_real as is_real};
+ghost use Rattle.sp_tree.specs.Scans.{NoToken, begins_digit as is_digit_first, begins_signed as is_signed_first};
+ghost use Rattle.sp_tree.specs.Scans.{goes_on_real as is_real};
 ghost use Rattle.sp_scan.specs.Finds.{IsRefusedWord, IsBreach, FirstHere, ItemAt};
 
 use crate::bytes::{cut, is_blank, is_digit, is_spelled};

@@ -85,8 +85,8 @@ pub fn scan(alloc: Global, text: &[u8]) -> Result<List<Token>, Halt>
     Ok(tokens)
 }
 
-/// The first rule of its characters that a text breaks, if it breaks one. It takes no memory: so each text has tokens or
-/// a first broken rule.
+/// The first rule of its characters that a text breaks, if it breaks one. It takes no memory: so each text has tokens
+/// or a first broken rule.
 pub fn first_breach(text: &[u8]) -> Option<Refusal>
     ensures { Passed text.now result }
 {

@@ -17,7 +17,8 @@ use Rattle.sp_tree.specs.declared.found.Walked.{Walked}
 use Rattle.sp_scope.specs.declared.walked.BlockParts.{BlockParts}
 use Rattle.sp_scope.specs.declared.walked.Heading.{Heading}
 use Rattle.sp_scope.specs.Walks.{Walks, seen_block, heading_named, declared_by, standard_tables, own_tables}
-use Rattle.sp_scope.specs.Firsts.{files_first, block_first, expression_first, title_first, part_first, opened_first, opened_named}
+use Rattle.sp_scope.specs.Firsts.{files_first, block_first, expression_first, title_first, part_first, opened_first}
+use Rattle.sp_scope.specs.Firsts.{opened_named}
 
 abbrev unwrap : {A : Type 0} → A → Result A Refusal → A
 unwrap d (Ok x) = x
@@ -27,43 +28,74 @@ inner : {A : Type 0} (x y : A) → ◌≡◌ {A = Result A Refusal} (Ok x) (Ok y
 inner x y e = ap (unwrap x) e
 
 -- a repeat statement, from its statements and its condition behind them
-pub repeat_found : (ns ts : List n.Statement) (nf sf ef : Found) (env env' : Env) (e : p.Expression) (et : n.Expression) (r : n.Form)
+pub repeat_found : (ns ts : List n.Statement) (nf sf ef : Found) (env env' : Env) (e : p.Expression) (et : n.Expression)
+    (r : n.Form)
     → ◌≡◌ {A = Result (List n.Statement × Found) Refusal} (Ok (ns, nf)) (Ok (ts, sf))
     → env ≡ env'
-    → ◌≡◌ {A = Result (n.Expression × Found) Refusal} (Ok (named_expression env e, expression_first env e sf)) (Ok (et, ef))
+    → ◌≡◌ {A = Result (n.Expression × Found) Refusal} (Ok (named_expression env e, expression_first env e sf))
+    (Ok (et, ef))
     → r ≡ n.Repeat (named.statements ts) et
-    → ◌≡◌ {A = Result (n.Form × Found) Refusal} (Ok (n.Repeat (named.statements ns) (named_expression env' e), expression_first env' e nf)) (Ok (r, ef))
+    → ◌≡◌ {A = Result (n.Form × Found) Refusal}
+    (Ok (n.Repeat (named.statements ns) (named_expression env' e), expression_first env' e nf)) (Ok (r, ef))
 repeat_found ns ts nf sf ef env env' e et r a b c d =
-    ap (λ (z : List n.Statement × Found). Ok (n.Repeat (named.statements z.0) (named_expression env' e), expression_first env' e z.1)) (inner (ns, nf) (ts, sf) a)
+    ap (λ (z : List n.Statement × Found). Ok
+    (n.Repeat (named.statements z.0) (named_expression env' e), expression_first env' e z.1))
+    (inner (ns, nf) (ts, sf) a)
     ∙ ap (λ v. Ok (n.Repeat (named.statements ts) (named_expression v e), expression_first v e sf)) (sym b)
-    ∙ ap (λ (z : n.Expression × Found). Ok (n.Repeat (named.statements ts) z.0, z.1)) (inner (named_expression env e, expression_first env e sf) (et, ef) c)
+    ∙ ap (λ (z : n.Expression × Found). Ok (n.Repeat (named.statements ts) z.0, z.1))
+    (inner (named_expression env e, expression_first env e sf) (et, ef) c)
     ∙ ap (λ f. Ok (f, ef)) (sym d)
 
 -- a procedure, from its heading
-pub titled_found : (r : Result (Walked Named) Halt) (around : List Scope) (l : Local) (x : Name) (fs : List SynFormal) (answer : Option Name) (parts : p.Parts) (body : p.Statement) (h : Heading) (first f : Found)
-    → ◌≡◌ {A = Result (Heading × Found) Refusal} (Ok (heading_named (inside around l) x fs answer, title_first (inside around l) x fs answer first)) (Ok (h, f))
-    → Walks named.program_of r (declared_by h x answer (opened_named h.block around (title_local l x fs answer) fs answer parts body)) (opened_first h.block around (title_local l x fs answer) fs answer parts body f)
-    → Walks named.program_of r (part_named around l (p.Proc x fs answer parts body)) (part_first around l (p.Proc x fs answer parts body) first)
+pub titled_found : (r : Result (Walked Named) Halt) (around : List Scope) (l : Local) (x : Name) (fs : List SynFormal)
+    (answer : Option Name) (parts : p.Parts) (body : p.Statement) (h : Heading) (first f : Found)
+    → ◌≡◌ {A = Result (Heading × Found) Refusal}
+    (Ok (heading_named (inside around l) x fs answer, title_first (inside around l) x fs answer first)) (Ok (h, f))
+    → Walks named.program_of r (declared_by h x answer
+    (opened_named h.block around (title_local l x fs answer) fs answer parts body))
+    (opened_first h.block around (title_local l x fs answer) fs answer parts body f)
+    → Walks named.program_of r (part_named around l (p.Proc x fs answer parts body))
+    (part_first around l (p.Proc x fs answer parts body) first)
 titled_found r around l x fs answer parts body h first f e w =
-    subst (λ (z : Heading × Found). Walks named.program_of r (declared_by z.0 x answer (opened_named z.0.block around (title_local l x fs answer) fs answer parts body)) (opened_first z.0.block around (title_local l x fs answer) fs answer parts body z.1))
-    (sym (inner (heading_named (inside around l) x fs answer, title_first (inside around l) x fs answer first) (h, f) e)) w
+    subst (λ (z : Heading × Found). Walks named.program_of r
+    (declared_by z.0 x answer (opened_named z.0.block around (title_local l x fs answer) fs answer parts body))
+    (opened_first z.0.block around (title_local l x fs answer) fs answer parts body z.1))
+    (sym (inner (heading_named (inside around l) x fs answer, title_first (inside around l) x fs answer first) (h, f)
+    e)) w
 
 -- a part, from the plain part that it stands for
 pub part_found : (r : Result (Walked Named) Halt) (around : List Scope) (l : Local) (first : Found) (q plain : p.Part)
     → Walks named.program_of r (part_named around l plain) (part_first around l plain first)
     → q ≡ plain
     → Walks named.program_of r (part_named around l q) (part_first around l q first)
-part_found r around l first q plain w e = subst (λ z. Walks named.program_of r (part_named around l z) (part_first around l z first)) (sym e) w
+part_found r around l first q plain w e = subst
+    (λ z. Walks named.program_of r (part_named around l z) (part_first around l z first)) (sym e) w
 
 -- a procedure behind its heading, from its block
-pub block_found : (h : Heading) (x : Name) (fs : List SynFormal) (answer : Option Name) (parts : p.Parts) (body : p.Statement) (first : Found) (s s' : Env) (i : Inside) (f : Found) (t : n.Program)
+pub block_found : (h : Heading) (x : Name) (fs : List SynFormal) (answer : Option Name) (parts : p.Parts)
+    (body : p.Statement) (first : Found) (s s' : Env) (i : Inside) (f : Found) (t : n.Program)
     → s ≡ s'
-    → ◌≡◌ {A = Result (Inside × Found) Refusal} (Ok (opened_named h.block s.around s.local fs answer parts body, opened_first h.block s.around s.local fs answer parts body first)) (Ok (i, f))
+    → ◌≡◌ {A = Result (Inside × Found) Refusal}
+    (Ok (
+      opened_named h.block s.around s.local fs answer parts body,
+      opened_first h.block s.around s.local fs answer parts body first,
+    )) (Ok (i, f))
     → ◌≡◌ {A = Result n.Program Refusal} (Ok (declared_by h x answer i)) (Ok t)
-    → ◌≡◌ {A = Result (n.Program × Found) Refusal} (Ok (declared_by h x answer (opened_named h.block s'.around s'.local fs answer parts body), opened_first h.block s'.around s'.local fs answer parts body first)) (Ok (t, f))
+    → ◌≡◌ {A = Result (n.Program × Found) Refusal}
+    (Ok (
+      declared_by h x answer (opened_named h.block s'.around s'.local fs answer parts body),
+      opened_first h.block s'.around s'.local fs answer parts body first,
+    )) (Ok (t, f))
 block_found h x fs answer parts body first s s' i f t a b c =
-    ap (λ (v : Env). Ok (declared_by h x answer (opened_named h.block v.around v.local fs answer parts body), opened_first h.block v.around v.local fs answer parts body first)) (sym a)
-    ∙ ap (λ (z : Inside × Found). Ok (declared_by h x answer z.0, z.1)) (inner (opened_named h.block s.around s.local fs answer parts body, opened_first h.block s.around s.local fs answer parts body first) (i, f) b)
+    ap (λ (v : Env). Ok (
+      declared_by h x answer (opened_named h.block v.around v.local fs answer parts body),
+      opened_first h.block v.around v.local fs answer parts body first,
+    )) (sym a)
+    ∙ ap (λ (z : Inside × Found). Ok (declared_by h x answer z.0, z.1))
+    (inner (
+      opened_named h.block s.around s.local fs answer parts body,
+      opened_first h.block s.around s.local fs answer parts body first,
+    ) (i, f) b)
     ∙ ap (λ q. Ok (q, f)) (inner (declared_by h x answer i) t c)
 
 -- a program, from the standard declarations in front of its own
@@ -80,24 +112,42 @@ tables_found r x i s o a b w =
 pub program_found : (r : Result (Walked BlockParts) Halt) (b b' : p.Block) (first : Found) (s : Env)
     → b' ≡ b
     → ◌≡◌ {A = Result Env Refusal} (Ok (inside (standard ∷ []) empty)) (Ok s)
-    → Walks seen_block r (inside_named s.around s.local b'.parts b'.body) (block_first s.around s.local b'.parts b'.body first)
-    → Walks seen_block r (inside_named (standard ∷ []) empty b.parts b.body) (block_first (standard ∷ []) empty b.parts b.body first)
+    → Walks seen_block r (inside_named s.around s.local b'.parts b'.body)
+    (block_first s.around s.local b'.parts b'.body first)
+    → Walks seen_block r (inside_named (standard ∷ []) empty b.parts b.body)
+    (block_first (standard ∷ []) empty b.parts b.body first)
 program_found r b b' first s e a w =
-    subst (λ (v : Env). Walks seen_block r (inside_named v.around v.local b.parts b.body) (block_first v.around v.local b.parts b.body first)) (sym (inner (inside (standard ∷ []) empty) s a))
-    (subst (λ (v : p.Block). Walks seen_block r (inside_named s.around s.local v.parts v.body) (block_first s.around s.local v.parts v.body first)) e w)
+    subst (λ (v : Env). Walks seen_block r (inside_named v.around v.local b.parts b.body)
+    (block_first v.around v.local b.parts b.body first)) (sym (inner (inside (standard ∷ []) empty) s a))
+    (subst (λ (v : p.Block). Walks seen_block r (inside_named s.around s.local v.parts v.body)
+    (block_first s.around s.local v.parts v.body first)) e w)
 
 -- a program that breaks no rule of names, from its heading and its block
 pub resolved_found : (r : Result Named Halt) (q : p.Program) (f0 : Found) (i : Inside) (f : Found)
     → f0 ≡ files_first [] q.heading None
-    → ◌≡◌ {A = Result (Inside × Found) Refusal} (Ok (inside_named (standard ∷ []) empty q.block.parts q.block.body, block_first (standard ∷ []) empty q.block.parts q.block.body f0)) (Ok (i, f))
+    → ◌≡◌ {A = Result (Inside × Found) Refusal}
+    (Ok (
+      inside_named (standard ∷ []) empty q.block.parts q.block.body,
+      block_first (standard ∷ []) empty q.block.parts q.block.body f0,
+    )) (Ok (i, f))
     → f ≡ None
     → AnswersAs named.program_of r (Ok (program_tables q.name i))
     → AnswersAs named.program_of r (resolved q)
 resolved_found r q f0 i f b c d w =
-    subst (λ (z : Inside × Found). AnswersAs named.program_of r (outcome z.1 (program_tables q.name z.0))) (sym both_are)
+    subst (λ (z : Inside × Found). AnswersAs named.program_of r (outcome z.1 (program_tables q.name z.0)))
+    (sym both_are)
     (subst (λ g. AnswersAs named.program_of r (outcome g (program_tables q.name i))) (sym d) w)
   where
-    both_are : ◌≡◌ {A = Inside × Found} (inside_named (standard ∷ []) empty q.block.parts q.block.body, block_first (standard ∷ []) empty q.block.parts q.block.body (files_first [] q.heading None)) (i, f)
+    both_are : ◌≡◌ {A = Inside × Found} (
+      inside_named (standard ∷ []) empty q.block.parts q.block.body,
+      block_first (standard ∷ []) empty q.block.parts q.block.body (files_first [] q.heading None),
+    ) (i, f)
     both_are =
-        ap {B = Inside × Found} (λ g. (inside_named (standard ∷ []) empty q.block.parts q.block.body, block_first (standard ∷ []) empty q.block.parts q.block.body g)) (sym b)
-        ∙ inner (inside_named (standard ∷ []) empty q.block.parts q.block.body, block_first (standard ∷ []) empty q.block.parts q.block.body f0) (i, f) c
+        ap {B = Inside × Found} (λ g. (
+          inside_named (standard ∷ []) empty q.block.parts q.block.body,
+          block_first (standard ∷ []) empty q.block.parts q.block.body g,
+        )) (sym b)
+        ∙ inner (
+          inside_named (standard ∷ []) empty q.block.parts q.block.body,
+          block_first (standard ∷ []) empty q.block.parts q.block.body f0,
+        ) (i, f) c

@@ -1,5 +1,6 @@
 -- The names in a program's heading are checked with two marks as with the list of those before.
-use Rattle.std.proofs.Common.{◌≡◌, refl, ap, sym, ◌∙◌, subst, T, ℕ, List, [], ◌∷◌, Bool, true, false, ◌||◌, if◌then◌else◌, codes}
+use Rattle.std.proofs.Common.{◌≡◌, refl, ap, sym, ◌∙◌, subst, T, ℕ, List, [], ◌∷◌, Bool, true, false, ◌||◌}
+use Rattle.std.proofs.Common.{if◌then◌else◌, codes}
 use Rattle.std.specs.Str.{bytes_eq}
 use Rattle.std.proofs.lemmas.Slice.Eq.{bytes_eq-Decides}
 use Rattle.sp_base.specs.declared.rule.Rule.TheVariants as rule
@@ -25,22 +26,35 @@ differ x y e = by (bytes_eq y x) refl
     by false f = f
     by true f = absurd (subst T (sym ((bytes_eq-Decides x y).1 (sym (same y x f))) ∙ e) tt)
 
-files_agree : (xs : List Name) (before : List (List ℕ)) (i o : Bool) → among input before ≡ i → among output before ≡ o → (given : Found) → files_flagged i o xs given ≡ files_first before xs given
+files_agree : (xs : List Name) (before : List (List ℕ)) (i o : Bool) → among input before ≡ i → among output before ≡ o
+    → (given : Found) → files_flagged i o xs given ≡ files_first before xs given
 files_agree [] before i o p q given = refl
-files_agree (x ∷ xs) before i o p q given = by (λ a b r s g. files_agree xs (x.text ∷ before) a b r s g) (bytes_eq x.text input) refl (bytes_eq x.text output) refl
+files_agree (x ∷ xs) before i o p q given = by (λ a b r s g. files_agree xs (x.text ∷ before) a b r s g)
+    (bytes_eq x.text input) refl (bytes_eq x.text output) refl
   where
-    by : ((a b : Bool) → among input (x.text ∷ before) ≡ a → among output (x.text ∷ before) ≡ b → (g : Found) → files_flagged a b xs g ≡ files_first (x.text ∷ before) xs g)
+    by : ((a b : Bool) → among input (x.text ∷ before) ≡ a → among output (x.text ∷ before) ≡ b → (g : Found)
+        → files_flagged a b xs g ≡ files_first (x.text ∷ before) xs g)
         → (a : Bool) → bytes_eq x.text input ≡ a → (b : Bool) → bytes_eq x.text output ≡ b
-        → (if a then files_flagged true o xs (lesser given (breaks_if rule.N2 x.at i)) else if b then files_flagged i true xs (lesser given (breaks_if rule.N2 x.at o)) else files_flagged i o xs (lesser given (breaks rule.N1 x.at)))
-        ≡ files_first (x.text ∷ before) xs (lesser given (if a || b then breaks_if rule.N2 x.at (among x.text before) else breaks rule.N1 x.at))
+        → (if a then files_flagged true o xs (lesser given (breaks_if rule.N2 x.at i)) else if b then
+        files_flagged i true xs (lesser given (breaks_if rule.N2 x.at o)) else
+        files_flagged i o xs (lesser given (breaks rule.N1 x.at)))
+        ≡ files_first (x.text ∷ before) xs (lesser given
+        (if a || b then breaks_if rule.N2 x.at (among x.text before) else breaks rule.N1 x.at))
     by again true e b f =
-        ap (λ c. files_flagged true o xs (lesser given (breaks_if rule.N2 x.at c))) (sym p ∙ ap (λ t. among t before) (sym (same x.text input e)))
-        ∙ again true o (ap (λ t. bytes_eq input t || among input before) (same x.text input e)) (ap (λ t. bytes_eq output t || among output before) (same x.text input e) ∙ q) (lesser given (breaks_if rule.N2 x.at (among x.text before)))
+        ap (λ c. files_flagged true o xs (lesser given (breaks_if rule.N2 x.at c)))
+        (sym p ∙ ap (λ t. among t before) (sym (same x.text input e)))
+        ∙ again true o (ap (λ t. bytes_eq input t || among input before) (same x.text input e))
+        (ap (λ t. bytes_eq output t || among output before) (same x.text input e) ∙ q)
+        (lesser given (breaks_if rule.N2 x.at (among x.text before)))
     by again false e true f =
-        ap (λ c. files_flagged i true xs (lesser given (breaks_if rule.N2 x.at c))) (sym q ∙ ap (λ t. among t before) (sym (same x.text output f)))
-        ∙ again i true (ap (λ t. bytes_eq input t || among input before) (same x.text output f) ∙ p) (ap (λ t. bytes_eq output t || among output before) (same x.text output f)) (lesser given (breaks_if rule.N2 x.at (among x.text before)))
+        ap (λ c. files_flagged i true xs (lesser given (breaks_if rule.N2 x.at c)))
+        (sym q ∙ ap (λ t. among t before) (sym (same x.text output f)))
+        ∙ again i true (ap (λ t. bytes_eq input t || among input before) (same x.text output f) ∙ p)
+        (ap (λ t. bytes_eq output t || among output before) (same x.text output f))
+        (lesser given (breaks_if rule.N2 x.at (among x.text before)))
     by again false e false f =
-        again i o (ap (λ b. b || among input before) (differ x.text input e) ∙ p) (ap (λ b. b || among output before) (differ x.text output f) ∙ q) (lesser given (breaks rule.N1 x.at))
+        again i o (ap (λ b. b || among input before) (differ x.text input e) ∙ p)
+        (ap (λ b. b || among output before) (differ x.text output f) ∙ q) (lesser given (breaks rule.N1 x.at))
 
 pub files_are : (xs : List Name) (given : Found) → files_flagged false false xs given ≡ files_first [] xs given
 files_are xs given = files_agree xs [] false false refl refl given

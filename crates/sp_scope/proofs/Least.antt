@@ -1,5 +1,6 @@
 -- The first of a list of broken rules: it stands in the list, and none of the list is before it.
-use Rattle.std.proofs.Common.{◌≡◌, ◌⊎◌, inl, inr, refl, ap, sym, ◌∙◌, subst, List, [], ◌∷◌, if◌then◌else◌, Option, Some, None, Bool, true, false}
+use Rattle.std.proofs.Common.{◌≡◌, ◌⊎◌, inl, inr, refl, ap, sym, ◌∙◌, subst, List, [], ◌∷◌, if◌then◌else◌, Option, Some}
+use Rattle.std.proofs.Common.{None, Bool, true, false}
 use Rattle.std.specs.declared.cmp.Ordering.{Ordering}
 use Rattle.std.specs.declared.cmp.Ordering.TheVariants.{Less, Equal, Greater}
 use Rattle.std.specs.Ordering.{nat_cmp, on, then_cmp, is_lt, is_gt, ordering_reverse}
@@ -10,7 +11,8 @@ use Rattle.sp_tree.specs.Found.{Found, lesser, taken}
 use Rattle.sp_scope.specs.Laws.{Among, IsFirstOf}
 
 refusal_total : IsTotalOrder refusal_cmp
-refusal_total = then_total (on_total (λ r. r.at.line) nat_cmp_total) (then_total (on_total (λ r. r.at.column) nat_cmp_total) (on_total (λ r. row r.rule) nat_cmp_total))
+refusal_total = then_total (on_total (λ r. r.at.line) nat_cmp_total)
+    (then_total (on_total (λ r. r.at.column) nat_cmp_total) (on_total (λ r. row r.rule) nat_cmp_total))
 
 -- x stands no later than y
 abbrev UpTo : Refusal → Refusal → Type 0
@@ -76,7 +78,8 @@ of_all r (s ∷ rs) u other (inl e) = ap (λ o. before o r) e ∙ not_before r s
 of_all r (s ∷ rs) u other (inr m) = of_all r rs u.1 other m
 
 first_from : (r : Refusal) (rs : List Refusal) → Kept r rs → IsFirstOf (r ∷ rs) (taken rs (Some r))
-first_from r rs k = subst (IsFirstOf (r ∷ rs)) (sym k.is) (record { breaks = k.among; first = of_all k.it (r ∷ rs) k.least })
+first_from r rs k = subst (IsFirstOf (r ∷ rs)) (sym k.is)
+    (record { breaks = k.among; first = of_all k.it (r ∷ rs) k.least })
 
 -- what is taken from a list is its first
 pub taken_first : (rs : List Refusal) → IsFirstOf rs (taken rs None)

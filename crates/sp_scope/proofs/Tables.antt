@@ -10,14 +10,45 @@ behind_behind (x ∷ xs) ys zs = ap (λ l. x ∷ l) (behind_behind xs ys zs)
 
 pub beside_nothing : (a : n.Program) → beside a nothing_named ≡ a
 beside_nothing a =
-    ap (λ l. record { constants = l; kinds = a.kinds ++ []; variables = a.variables ++ []; blocks = a.blocks ++ [] }) (append-nil a.constants)
-    ∙ ap (λ l. record { constants = a.constants; kinds = l; variables = a.variables ++ []; blocks = a.blocks ++ [] }) (append-nil a.kinds)
-    ∙ ap (λ l. record { constants = a.constants; kinds = a.kinds; variables = l; blocks = a.blocks ++ [] }) (append-nil a.variables)
-    ∙ ap (λ l. record { constants = a.constants; kinds = a.kinds; variables = a.variables; blocks = l }) (append-nil a.blocks)
+    ap (λ l. record { constants = l; kinds = a.kinds ++ []; variables = a.variables ++ []; blocks = a.blocks ++ [] })
+    (append-nil a.constants)
+    ∙ ap (λ l. record { constants = a.constants; kinds = l; variables = a.variables ++ []; blocks = a.blocks ++ [] })
+    (append-nil a.kinds)
+    ∙ ap (λ l. record { constants = a.constants; kinds = a.kinds; variables = l; blocks = a.blocks ++ [] })
+    (append-nil a.variables)
+    ∙ ap (λ l. record { constants = a.constants; kinds = a.kinds; variables = a.variables; blocks = l })
+    (append-nil a.blocks)
 
 pub beside_beside : (a b c : n.Program) → beside (beside a b) c ≡ beside a (beside b c)
 beside_beside a b c =
-    ap (λ l. record { constants = l; kinds = (a.kinds ++ b.kinds) ++ c.kinds; variables = (a.variables ++ b.variables) ++ c.variables; blocks = (a.blocks ++ b.blocks) ++ c.blocks }) (behind_behind a.constants b.constants c.constants)
-    ∙ ap (λ l. record { constants = a.constants ++ (b.constants ++ c.constants); kinds = l; variables = (a.variables ++ b.variables) ++ c.variables; blocks = (a.blocks ++ b.blocks) ++ c.blocks }) (behind_behind a.kinds b.kinds c.kinds)
-    ∙ ap (λ l. record { constants = a.constants ++ (b.constants ++ c.constants); kinds = a.kinds ++ (b.kinds ++ c.kinds); variables = l; blocks = (a.blocks ++ b.blocks) ++ c.blocks }) (behind_behind a.variables b.variables c.variables)
-    ∙ ap (λ l. record { constants = a.constants ++ (b.constants ++ c.constants); kinds = a.kinds ++ (b.kinds ++ c.kinds); variables = a.variables ++ (b.variables ++ c.variables); blocks = l }) (behind_behind a.blocks b.blocks c.blocks)
+    ap (λ l. record {
+      constants = l;
+      kinds = (a.kinds ++ b.kinds) ++ c.kinds;
+      variables = (a.variables ++ b.variables)
+          ++ c.variables;
+      blocks = (a.blocks ++ b.blocks) ++ c.blocks;
+    })
+    (behind_behind a.constants b.constants c.constants)
+    ∙ ap (λ l. record {
+      constants = a.constants ++ (b.constants ++ c.constants);
+      kinds = l;
+      variables = (a.variables ++ b.variables) ++ c.variables;
+      blocks = (a.blocks ++ b.blocks) ++ c.blocks;
+    })
+    (behind_behind a.kinds b.kinds c.kinds)
+    ∙ ap (λ l. record {
+      constants = a.constants ++ (b.constants ++ c.constants);
+      kinds = a.kinds
+          ++ (b.kinds ++ c.kinds);
+      variables = l;
+      blocks = (a.blocks ++ b.blocks) ++ c.blocks;
+    })
+    (behind_behind a.variables b.variables c.variables)
+    ∙ ap (λ l. record {
+      constants = a.constants ++ (b.constants ++ c.constants);
+      kinds = a.kinds
+          ++ (b.kinds ++ c.kinds);
+      variables = a.variables ++ (b.variables ++ c.variables);
+      blocks = l;
+    })
+    (behind_behind a.blocks b.blocks c.blocks)

@@ -1,3 +1,4 @@
+-- None of this belongs to what the program promises: it is for contracts between crates.
 -- The fields of a record, with the names before them in their order. The contracts of `kinds` cite it: a set of names
 -- in order stands for the list that the rule speaks of, so that many fields stay quick.
 use Rattle.std.specs.Prelude.{ℕ, List, [], ◌∷◌, Bool}
@@ -26,10 +27,12 @@ held_behind names (x ∷ xs) = held_behind (insert_key (slice_cmp nat_cmp) names
 -- N2 at each of these names, where the name stands before it
 abbrev pub fields_held : List (List ℕ) → List Name → Onward
 fields_held names [] given = given
-fields_held names (x ∷ xs) given = fields_held (insert_key (slice_cmp nat_cmp) names x.text) xs (lesser given (breaks_if rule.N2 x.at (held names x.text)))
+fields_held names (x ∷ xs) given = fields_held (insert_key (slice_cmp nat_cmp) names x.text) xs
+    (lesser given (breaks_if rule.N2 x.at (held names x.text)))
 
 -- N2 at each name of the fields, and what is broken at their types
 abbrev pub groups_held : Env → Name → List (List ℕ) → List SynGroup → Onward
 groups_held env own names [] given = given
 groups_held env own names (g ∷ gs) given =
-    groups_held env own (held_behind names g.names) gs (lesser (fields_held names g.names given) (broken env (UsesIn own g.kind AsKind)))
+    groups_held env own (held_behind names g.names) gs
+    (lesser (fields_held names g.names given) (broken env (UsesIn own g.kind AsKind)))

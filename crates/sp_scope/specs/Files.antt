@@ -1,3 +1,4 @@
+-- None of this belongs to what the program promises: it is for contracts between crates.
 -- The names in a program's heading, with what stood before. The contract of the heading's loop cites it; two flags
 -- stand for the names, since only `input` and `output` may be there.
 use Rattle.std.specs.Prelude.{List, [], ◌∷◌, Bool, true, codes, if◌then◌else◌}
@@ -12,5 +13,6 @@ abbrev pub files_flagged : Bool → Bool → List Name → Onward
 files_flagged input output [] given = given
 files_flagged input output (x ∷ xs) given =
     if bytes_eq x.text (codes "input") then files_flagged true output xs (lesser given (breaks_if rule.N2 x.at input))
-    else if bytes_eq x.text (codes "output") then files_flagged input true xs (lesser given (breaks_if rule.N2 x.at output))
+    else if bytes_eq x.text (codes "output") then
+    files_flagged input true xs (lesser given (breaks_if rule.N2 x.at output))
     else files_flagged input output xs (lesser given (breaks rule.N1 x.at))

@@ -1,3 +1,4 @@
+-- None of this belongs to what the program promises: it is for contracts between crates.
 -- The first broken rule in each part of a tree, from what was found before it: the walk of sp_tree's NameWalk, with
 -- `lesser` at each site. The contracts of all walks of this crate cite these, one for each part.
 use Rattle.std.specs.Prelude.{◌≡◌, ℕ, List, [], ◌∷◌, ◌++◌, Option, Some, None, Bool}
@@ -83,7 +84,8 @@ branches_first = w.branches_sites none_more both at_site
 
 -- the index of a forall and its element statement, in the block of the index
 abbrev pub indexed_first : List Scope → Local → Name → p.Statement → Onward
-indexed_first around l x s given = statement_first around (w.index_local l x) s (at_site (inside around l) (Declares x sort.Variable) given)
+indexed_first around l x s given = statement_first around (w.index_local l x) s
+    (at_site (inside around l) (Declares x sort.Variable) given)
 
 -- the same from the block around it
 abbrev pub element_first : List Scope → Local → Name → p.Statement → Onward
@@ -92,7 +94,8 @@ element_first around l x s = indexed_first (w.deeper around l) (opened l.block l
 -- from a block that was opened back to the one around it, which is that of a procedure and has a result
 abbrev pub Leaves : ℕ → ℕ → Env → Env → Type 0
 Leaves block answer old new =
-    (rest : List Scope) (b : Scope) → old.around ≡ rest ++ (b ∷ []) → new ≡ inside rest (record { here = b; block = block; answer = answer; counts = old.local.counts })
+    (rest : List Scope) (b : Scope) → old.around ≡ rest ++ (b ∷ [])
+    → new ≡ inside rest (record { here = b; block = block; answer = answer; counts = old.local.counts })
 
 abbrev pub bound_first : Env → Name → SynValue → Onward
 bound_first = w.bound_sites none_more both at_site
@@ -141,27 +144,32 @@ files_first = w.files_sites none_more both at_site
 
 -- a block's parts and statement part
 abbrev pub block_first : List Scope → Local → p.Parts → p.Statement → Onward
-block_first around l parts body given = statement_first around (w.parts_local l parts) body (parts_first around l parts given)
+block_first around l parts body given = statement_first around (w.parts_local l parts) body
+    (parts_first around l parts given)
 
 abbrev pub block_local : Local → p.Parts → p.Statement → Local
 block_local l parts body = w.statement_local (w.parts_local l parts) body
 
 -- a procedure's parameters and block, in its own block
 abbrev pub inner_first : List Scope → Local → List SynFormal → Option Name → p.Parts → p.Statement → Onward
-inner_first around l fs answer parts body given = block_first around (w.answer_local (w.formals_local l fs) answer) parts body (formals_first around l fs given)
+inner_first around l fs answer parts body given =
+    block_first around (w.answer_local (w.formals_local l fs) answer) parts body (formals_first around l fs given)
 
 abbrev pub inner_local : Local → List SynFormal → Option Name → p.Parts → p.Statement → Local
 inner_local l fs answer parts body = block_local (w.answer_local (w.formals_local l fs) answer) parts body
 
 -- the same from the block around it, in which its name is declared
 abbrev pub opened_first : ℕ → List Scope → Local → List SynFormal → Option Name → p.Parts → p.Statement → Onward
-opened_first block around l fs answer parts body = inner_first (w.deeper around l) (opened block 0 l) fs answer parts body
+opened_first block around l fs answer parts body =
+    inner_first (w.deeper around l) (opened block 0 l) fs answer parts body
 
 abbrev pub opened_local : ℕ → Local → List SynFormal → Option Name → p.Parts → p.Statement → Local
 opened_local block l fs answer parts body = closed l (inner_local (opened block 0 l) fs answer parts body)
 
 abbrev pub inner_named : List Scope → Local → List SynFormal → Option Name → p.Parts → p.Statement → Inside
-inner_named around l fs answer parts body = inside_named around (w.answer_local (w.formals_local l fs) answer) parts body
+inner_named around l fs answer parts body = inside_named around (w.answer_local (w.formals_local l fs) answer) parts
+    body
 
 abbrev pub opened_named : ℕ → List Scope → Local → List SynFormal → Option Name → p.Parts → p.Statement → Inside
-opened_named block around l fs answer parts body = inner_named (w.deeper around l) (opened block 0 l) fs answer parts body
+opened_named block around l fs answer parts body =
+    inner_named (w.deeper around l) (opened block 0 l) fs answer parts body

@@ -1,3 +1,4 @@
+-- None of this belongs to what the program promises: it is for contracts between crates.
 -- For each parameter, whether it is a variable parameter: what a call of the block is checked by. The contract of
 -- `headings` cites it.
 use Rattle.std.specs.Prelude.{List, [], ◌∷◌, ◌++◌, Bool}

@@ -1,3 +1,4 @@
+-- None of this belongs to what the program promises: it is for contracts between crates.
 -- What a part of the walk answers: its tree as the plain one, with the first broken rule up to its end. The contracts
 -- of all walks of this crate cite it.
 use Rattle.std.specs.Prelude.{List, [], ◌∷◌, ◌++◌, Option, Some}
@@ -10,7 +11,8 @@ use Rattle.sp_tree.specs.PlainNamed as n
 use Rattle.sp_base.specs.declared.place.Place.{Place}
 use Rattle.sp_tree.specs.declared.named.NamedExpr.{NamedExpr}
 use Rattle.sp_tree.specs.NamedOf.{expression_of, statement_of, program_of, width}
-use Rattle.sp_tree.specs.NamedTree.{Inside, program_block, formals_named, answer_named, numbers, answer_of, standard_constants, standard_kinds, consoles}
+use Rattle.sp_tree.specs.NamedTree.{Inside, program_block, formals_named, answer_named, numbers, answer_of}
+use Rattle.sp_tree.specs.NamedTree.{standard_constants, standard_kinds, consoles}
 use Rattle.sp_tree.specs.Scopes.{Env, next_block, next_variable}
 use Rattle.sp_scope.specs.declared.walked.BlockParts.{BlockParts}
 use Rattle.sp_scope.specs.declared.walked.Heading.{Heading}
@@ -47,12 +49,24 @@ declared_by h x answer i = record {
   constants = i.parts.constants;
   kinds = i.parts.kinds;
   variables = h.formals ++ (h.results ++ (i.parts.variables ++ i.indices));
-  blocks = record { name = x.text; parent = Some h.parent; formals = h.numbers; answer = answer_of i.answer answer; body = i.body; at = x.at } ∷ i.parts.blocks;
+  blocks = record {
+    name = x.text;
+    parent = Some h.parent;
+    formals = h.numbers;
+    answer = answer_of i.answer answer;
+    body = i.body;
+    at = x.at;
+  } ∷ i.parts.blocks;
 }
 
 -- the standard declarations, as tables of their own
 abbrev pub standard_tables : Place → n.Program
-standard_tables at = record { constants = standard_constants at; kinds = standard_kinds at; variables = consoles at; blocks = [] }
+standard_tables at = record {
+  constants = standard_constants at;
+  kinds = standard_kinds at;
+  variables = consoles at;
+  blocks = [];
+}
 
 -- what a program declares itself, and its own block
 abbrev pub own_tables : Name → Inside → n.Program

@@ -9,7 +9,8 @@ ghost use Rattle.sp_tree.specs.NamedOf as named;
 ghost use Rattle.sp_tree.specs.PlainSyntax.{Proc};
 ghost use Rattle.sp_tree.specs.SyntaxOf.{block_of, part_of, parts};
 ghost use Rattle.sp_scope.specs.Walks.{Walks, seen_block, declared_by};
-ghost use Rattle.sp_scope.specs.Firsts.{parts_first, part_first, block_first, block_local, inner_first, inner_local, opened_first, opened_local, opened_named, inner_named};
+ghost use Rattle.sp_scope.specs.Firsts.{parts_first, part_first, block_first, block_local, inner_first, inner_local};
+ghost use Rattle.sp_scope.specs.Firsts.{opened_first, opened_local, opened_named, inner_named};
 
 use crate::headings::{declare_title, name_heading, procedure_part};
 use crate::indices::indices;
@@ -101,7 +102,14 @@ pub fn block_in_front(
     blocks: List<NamedBlock>,
 ) -> Result<List<NamedBlock>, Halt>
     ensures { Answers result
-        (Ok (record { name = x.now.text; parent = parent; formals = formals; answer = answer; body = body; at = x.now.at } ∷ blocks)) }
+        (Ok (record {
+          name = x.now.text;
+          parent = parent;
+          formals = formals;
+          answer = answer;
+          body = body;
+          at = x.now.at;
+        } ∷ blocks)) }
 {
     let name = x.text.duplicate(alloc)?;
     let own = NamedBlock {
@@ -123,9 +131,11 @@ pub fn name_block(
     scopes: &mut Scopes,
     first: Found,
 ) -> Result<Walked<BlockParts>, Halt>
-    ensures found { Walks seen_block result (inside_named scopes.old.around scopes.old.local (block_of b).parts (block_of b).body)
+    ensures found { Walks seen_block result (inside_named scopes.old.around scopes.old.local (block_of b).parts
+        (block_of b).body)
         (block_first scopes.old.around scopes.old.local (block_of b).parts (block_of b).body first) }
-    ensures after { OnOk result (scopes.new ≡ inside scopes.old.around (block_local scopes.old.local (block_of b).parts (block_of b).body)) }
+    ensures after { OnOk result (scopes.new ≡ inside scopes.old.around
+        (block_local scopes.old.local (block_of b).parts (block_of b).body)) }
 {
     let SynBlock { parts, body } = b;
     let body = Boxed::new(alloc, body)?;
@@ -152,9 +162,11 @@ fn name_parts(
     scopes: &mut Scopes,
     first: Found,
 ) -> Result<Walked<Named>, Halt>
-    ensures found { Walks named.program_of result (parts_named scopes.old.around scopes.old.local (parts (map part_of ps)))
+    ensures found { Walks named.program_of result
+        (parts_named scopes.old.around scopes.old.local (parts (map part_of ps)))
         (parts_first scopes.old.around scopes.old.local (parts (map part_of ps)) first) }
-    ensures after { OnOk result (scopes.new ≡ inside scopes.old.around (parts_local scopes.old.local (parts (map part_of ps)))) }
+    ensures after { OnOk result (scopes.new ≡ inside scopes.old.around
+        (parts_local scopes.old.local (parts (map part_of ps)))) }
 {
     let mut out = nothing(alloc);
     let mut first = first;
@@ -209,10 +221,13 @@ fn name_procedure(
     first: Found,
 ) -> Result<Walked<Named>, Halt>
     ensures found { Walks named.program_of result
-        (part_named scopes.old.around scopes.old.local (Proc x.now fs.now answer.now (block_of b).parts (block_of b).body))
-        (part_first scopes.old.around scopes.old.local (Proc x.now fs.now answer.now (block_of b).parts (block_of b).body) first) }
+        (part_named scopes.old.around scopes.old.local
+        (Proc x.now fs.now answer.now (block_of b).parts (block_of b).body))
+        (part_first scopes.old.around scopes.old.local
+        (Proc x.now fs.now answer.now (block_of b).parts (block_of b).body) first) }
     ensures after { OnOk result (scopes.new
-        ≡ inside scopes.old.around (part_local scopes.old.local (Proc x.now fs.now answer.now (block_of b).parts (block_of b).body))) }
+        ≡ inside scopes.old.around (part_local scopes.old.local
+        (Proc x.now fs.now answer.now (block_of b).parts (block_of b).body))) }
 {
     let heading = name_heading(alloc, scopes, x, fs, answer, first)?;
     name_titled(b, alloc, scopes, heading.tree, x, fs, answer, heading.first)
@@ -237,7 +252,8 @@ fn name_titled(
         (opened_first h.block scopes.old.around (title_local scopes.old.local x.now fs.now answer.now) fs.now answer.now
         (block_of b).parts (block_of b).body first) }
     ensures after { OnOk result (scopes.new
-        ≡ inside scopes.old.around (opened_local h.block (title_local scopes.old.local x.now fs.now answer.now) fs.now answer.now
+        ≡ inside scopes.old.around (opened_local h.block (title_local scopes.old.local x.now fs.now answer.now) fs.now
+        answer.now
         (block_of b).parts (block_of b).body)) }
 {
     declare_title(alloc, scopes, x, fs, answer)?;
@@ -262,9 +278,11 @@ fn name_opened(
 ) -> Result<Walked<BlockParts>, Halt>
     ensures found { Walks seen_block result
         (opened_named block scopes.old.around scopes.old.local fs.now answer.now (block_of b).parts (block_of b).body)
-        (opened_first block scopes.old.around scopes.old.local fs.now answer.now (block_of b).parts (block_of b).body first) }
+        (opened_first block scopes.old.around scopes.old.local fs.now answer.now (block_of b).parts (block_of b).body
+        first) }
     ensures after { OnOk result (scopes.new
-        ≡ inside scopes.old.around (opened_local block scopes.old.local fs.now answer.now (block_of b).parts (block_of b).body)) }
+        ≡ inside scopes.old.around (opened_local block scopes.old.local fs.now answer.now (block_of b).parts
+        (block_of b).body)) }
 {
     let outer = scopes.block();
     let outer_answer = scopes.answer();
@@ -287,7 +305,8 @@ fn name_inner(
     ensures found { Walks seen_block result
         (inner_named scopes.old.around scopes.old.local fs.now answer.now (block_of b).parts (block_of b).body)
         (inner_first scopes.old.around scopes.old.local fs.now answer.now (block_of b).parts (block_of b).body first) }
-    ensures after { OnOk result (scopes.new ≡ inside scopes.old.around (inner_local scopes.old.local fs.now answer.now (block_of b).parts (block_of b).body)) }
+    ensures after { OnOk result (scopes.new ≡ inside scopes.old.around
+        (inner_local scopes.old.local fs.now answer.now (block_of b).parts (block_of b).body)) }
 {
     let first = declare_formals(alloc, scopes, fs, first)?;
     scopes.number_answer(answer)?;

@@ -7,11 +7,15 @@ ghost use Rattle.sp_tree.specs.Found.{lesser};
 ghost use Rattle.sp_tree.specs.NameRules.{broken, Operand};
 ghost use Rattle.sp_tree.specs.Scopes.{find};
 ghost use Rattle.sp_tree.specs.NameWalk.{is_whole};
-ghost use Rattle.sp_tree.specs.NamedTree.{named_expression, named_form, named_operand, named_selectors, named_selector, named_arguments, named_argument, named_width, operand_named, function_named, variable_number, variable_read};
+ghost use Rattle.sp_tree.specs.NamedTree.{named_expression, named_form, named_operand, named_selectors, named_selector};
+ghost use Rattle.sp_tree.specs.NamedTree.{named_arguments, named_argument, named_width, operand_named, function_named};
+ghost use Rattle.sp_tree.specs.NamedTree.{variable_number, variable_read};
 ghost use Rattle.sp_tree.specs.NamedOf as named;
 ghost use Rattle.sp_tree.specs.PlainNamed as n;
-ghost use Rattle.sp_tree.specs.SyntaxOf.{expression_of, expression_form_of, variable_of, selector_of, selectors, argument_of, arguments, width};
-ghost use Rattle.sp_scope.specs.Firsts.{expression_first, form_first, operand_first, selector_first, selectors_first, arguments_first, argument_first, passed_first, passed_name_first, width_first};
+ghost use Rattle.sp_tree.specs.SyntaxOf.{expression_of, expression_form_of, variable_of, selector_of, selectors};
+ghost use Rattle.sp_tree.specs.SyntaxOf.{argument_of, arguments, width};
+ghost use Rattle.sp_scope.specs.Firsts.{expression_first, form_first, operand_first, selector_first, selectors_first};
+ghost use Rattle.sp_scope.specs.Firsts.{arguments_first, argument_first, passed_first, passed_name_first, width_first};
 ghost use Rattle.std.specs.Prelude.{option_map, Some};
 ghost use Rattle.sp_tree.specs.PlainSyntax.{At, Read, Apply, Unary};
 ghost use Rattle.sp_tree.specs.declared.syntax.Name.{Name};
@@ -35,7 +39,8 @@ pub fn name_expression(
     e: SynExpr,
     first: Found,
 ) -> Result<Walked<NamedExpr>, Halt>
-    ensures { Walks named.expression_of result (named_expression scopes.now (expression_of e)) (expression_first scopes.now (expression_of e) first) }
+    ensures { Walks named.expression_of result (named_expression scopes.now (expression_of e))
+        (expression_first scopes.now (expression_of e) first) }
 {
     let (at, form) = e.parts();
     let Walked { tree, first } = name_form(alloc, scopes, form, first)?;
@@ -52,7 +57,8 @@ fn name_boxed(
     e: Boxed<SynExpr>,
     first: Found,
 ) -> Result<Walked<Boxed<NamedExpr>>, Halt>
-    ensures { Walks named.expression_of result (named_expression scopes.now (expression_of e)) (expression_first scopes.now (expression_of e) first) }
+    ensures { Walks named.expression_of result (named_expression scopes.now (expression_of e))
+        (expression_first scopes.now (expression_of e) first) }
 {
     let Walked { tree, first } = name_expression(alloc, scopes, e.into_inner(), first)?;
     let tree = Boxed::new(alloc, tree)?;
@@ -66,7 +72,8 @@ fn name_form(
     form: SynExprForm,
     first: Found,
 ) -> Result<Walked<NamedExprForm>, Halt>
-    ensures { Walks named.expression_form_of result (named_form scopes.now (expression_form_of form)) (form_first scopes.now (expression_form_of form) first) }
+    ensures { Walks named.expression_form_of result (named_form scopes.now (expression_form_of form))
+        (form_first scopes.now (expression_form_of form) first) }
 {
     match form {
         SynExprForm::Number(n) => Ok(Walked {
@@ -116,7 +123,8 @@ fn name_right(
     first: Found,
 ) -> Result<Walked<NamedExprForm>, Halt>
     ensures { Walks named.expression_form_of result
-        (n.Binary op (named.expression_of a) (named_expression scopes.now (expression_of b))) (expression_first scopes.now (expression_of b) first) }
+        (n.Binary op (named.expression_of a) (named_expression scopes.now (expression_of b)))
+        (expression_first scopes.now (expression_of b) first) }
 {
     let Walked { tree, first } = name_boxed(alloc, scopes, b, first)?;
     Ok(Walked {
@@ -132,7 +140,8 @@ fn name_operand(
     v: SynVar,
     first: Found,
 ) -> Result<Walked<NamedExprForm>, Halt>
-    ensures { Walks named.expression_form_of result (named_operand scopes.now (variable_of v)) (operand_first scopes.now (variable_of v) first) }
+    ensures { Walks named.expression_form_of result (named_operand scopes.now (variable_of v))
+        (operand_first scopes.now (variable_of v) first) }
 {
     let SynVar { name, selectors } = v;
     let whole = is_whole(selectors.items());
@@ -182,7 +191,8 @@ fn operand_form(
     x: &Name,
     xs: List<NamedSelector>,
 ) -> NamedExprForm
-    ensures { named.expression_form_of result ≡ operand_named (option_copied m.entry) x.now (named.selectors (map named.selector_of xs)) }
+    ensures { named.expression_form_of result
+        ≡ operand_named (option_copied m.entry) x.now (named.selectors (map named.selector_of xs)) }
 {
     match m {
         Some(Meaning::Constant(k)) => NamedExprForm::Constant(*k),
@@ -195,7 +205,8 @@ fn operand_form(
 }
 
 fn variable_read(number: u32, x: &Name, xs: List<NamedSelector>) -> NamedExprForm
-    ensures { named.expression_form_of result ≡ variable_read number x.now (named.selectors (map named.selector_of xs)) }
+    ensures { named.expression_form_of result
+        ≡ variable_read number x.now (named.selectors (map named.selector_of xs)) }
 {
     NamedExprForm::Read(NamedVar {
         variable: number,
@@ -282,7 +293,8 @@ fn name_argument(
     p: Passing,
     first: Found,
 ) -> Result<Walked<NamedArg>, Halt>
-    ensures { Walks named.argument_of result (named_argument scopes.now (argument_of a)) (argument_first scopes.now p (argument_of a) first) }
+    ensures { Walks named.argument_of result (named_argument scopes.now (argument_of a))
+        (argument_first scopes.now p (argument_of a) first) }
 {
     let SynArg { value, width } = a;
     let at = value.at;
@@ -307,7 +319,8 @@ fn name_width(
     first: Found,
 ) -> Result<Walked<Option<NamedExpr>>, Halt>
     ensures { Walks width_of result
-        (named_width scopes.now (width (option_map expression_of w))) (width_first scopes.now p at (width (option_map expression_of w)) first) }
+        (named_width scopes.now (width (option_map expression_of w)))
+        (width_first scopes.now p at (width (option_map expression_of w)) first) }
 {
     match w {
         None => Ok(Walked { tree: None, first }),
@@ -330,7 +343,8 @@ fn name_passed(
     p: Passing,
     first: Found,
 ) -> Result<Walked<NamedExpr>, Halt>
-    ensures { Walks named.expression_of result (named_expression scopes.now (expression_of e)) (passed_first scopes.now p (expression_of e) first) }
+    ensures { Walks named.expression_of result (named_expression scopes.now (expression_of e))
+        (passed_first scopes.now p (expression_of e) first) }
 {
     let (at, form) = e.parts();
     let Walked { tree, first } = name_passed_form(alloc, scopes, form, at, p, first)?;
@@ -418,7 +432,8 @@ fn name_selector(
     s: SynSelector,
     first: Found,
 ) -> Result<Walked<NamedSelector>, Halt>
-    ensures { Walks named.selector_of result (named_selector scopes.now (selector_of s)) (selector_first scopes.now (selector_of s) first) }
+    ensures { Walks named.selector_of result (named_selector scopes.now (selector_of s))
+        (selector_first scopes.now (selector_of s) first) }
 {
     match s {
         SynSelector::Index(e) => {

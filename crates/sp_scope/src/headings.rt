@@ -65,7 +65,8 @@ pub fn name_heading(
     answer: &Option<Name>,
     first: Found,
 ) -> Result<Walked<Heading>, Halt>
-    ensures { Walks itself result (heading_named scopes.now x.now fs.now answer.now) (title_first scopes.now x.now fs.now answer.now first) }
+    ensures { Walks itself result (heading_named scopes.now x.now fs.now answer.now)
+        (title_first scopes.now x.now fs.now answer.now first) }
 {
     let first = lesser(first, check_declares(scopes, x, Sort::Block));
     let block = next_block(scopes.counts())?;
@@ -139,7 +140,8 @@ pub fn declare_title(
     answer: &Option<Name>,
 ) -> Result<(), Halt>
     ensures memory { Answers result (Ok tt) }
-    ensures after { OnOk result (scopes.new ≡ inside scopes.old.around (title_local scopes.old.local x.now fs.now answer.now)) }
+    ensures after { OnOk result (scopes.new ≡ inside scopes.old.around
+        (title_local scopes.old.local x.now fs.now answer.now)) }
 {
     let m = block_meaning(alloc, scopes, fs, answer)?;
     scopes.declare(alloc, &x.text, Sort::Block, m)

@@ -2,8 +2,10 @@
 
 ghost use Rattle.std.specs.Prelude.{◌≡◌, ◌++◌, map, Ok, OnOk};
 ghost use Rattle.sp_tree.specs.Found.{Answers};
-ghost use Rattle.sp_tree.specs.NamedTree.{indices, form_indices, statements_indices, arms_indices, arm_indices, branches_indices};
-ghost use Rattle.sp_tree.specs.SyntaxOf.{statement_of, statement_form_of, statements, arms, arm_of, branches, branch_of};
+ghost use Rattle.sp_tree.specs.NamedTree.{indices, form_indices, statements_indices, arms_indices, arm_indices};
+ghost use Rattle.sp_tree.specs.NamedTree.{branches_indices};
+ghost use Rattle.sp_tree.specs.SyntaxOf.{statement_of, statement_form_of, statements, arms, arm_of, branches};
+ghost use Rattle.sp_tree.specs.SyntaxOf.{branch_of};
 
 use sp_base::{Halt, List};
 use sp_tree::{Role, SynArm, SynBranch, SynForm, SynStmt, Variable};
@@ -72,7 +74,8 @@ fn push_statements(
     out: &mut Vec<Variable>,
 ) -> Result<(), Halt>
     ensures memory { Answers result (Ok tt) }
-    ensures after { OnOk result (out.new.items ≡ out.old.items ++ statements_indices block (statements (map statement_of ss.now))) }
+    ensures after { OnOk result (out.new.items ≡ out.old.items
+        ++ statements_indices block (statements (map statement_of ss.now))) }
 {
     for s in ss {
         push_indices(alloc, s, block, out)?;
@@ -125,7 +128,8 @@ fn push_branches(
     out: &mut Vec<Variable>,
 ) -> Result<(), Halt>
     ensures memory { Answers result (Ok tt) }
-    ensures after { OnOk result (out.new.items ≡ out.old.items ++ branches_indices block (branches (map branch_of bs.now))) }
+    ensures after { OnOk result (out.new.items ≡ out.old.items
+        ++ branches_indices block (branches (map branch_of bs.now))) }
 {
     for b in bs {
         push_branch(alloc, b, block, out)?;

@@ -5,7 +5,8 @@ ghost use Rattle.std.specs.Ordering.{nat_cmp};
 ghost use Rattle.std.specs.Cmp.Lexicographic.{slice_cmp};
 ghost use Rattle.std.specs.BTreeSet.{insert_key};
 ghost use Rattle.sp_tree.specs.Found.{Answers};
-ghost use Rattle.sp_tree.specs.NamedTree.{named_value, named_const, fields_named, groups_named, messages_named, kind_named, enumerated, constants_named};
+ghost use Rattle.sp_tree.specs.NamedTree.{named_value, named_const, fields_named, groups_named, messages_named};
+ghost use Rattle.sp_tree.specs.NamedTree.{kind_named, enumerated, constants_named};
 ghost use Rattle.sp_scope.specs.Fields.{held, held_behind, fields_held, groups_held};
 ghost use Rattle.sp_scope.specs.Firsts.{groups_first, messages_first, kind_first};
 

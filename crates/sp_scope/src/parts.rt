@@ -31,7 +31,8 @@ use std::alloc::Global;
 fn declare_constant(alloc: Global, scopes: &mut Scopes, x: &Name) -> Result<(), Halt>
     ensures memory { Answers result (Ok tt) }
     ensures after { OnOk result (scopes.new
-        ≡ inside scopes.old.around (declared scopes.old.local x.now.text sort.Constant (meaning.Constant (next_constant scopes.old.local.counts)))) }
+        ≡ inside scopes.old.around (declared scopes.old.local x.now.text sort.Constant
+        (meaning.Constant (next_constant scopes.old.local.counts)))) }
 {
     let number = next_constant(scopes.counts())?;
     scopes.declare(alloc, &x.text, Sort::Constant, Meaning::Constant(number))
@@ -70,7 +71,8 @@ pub fn name_constant(
 ) -> Result<Walked<Named>, Halt>
     ensures found { Walks named.program_of result (constant_part (inside scopes.old.around scopes.old.local) c.now)
         (part_first scopes.old.around scopes.old.local (Const x.now c.now) first) }
-    ensures after { OnOk result (scopes.new ≡ inside scopes.old.around (part_local scopes.old.local (Const x.now c.now))) }
+    ensures after { OnOk result (scopes.new ≡ inside scopes.old.around
+        (part_local scopes.old.local (Const x.now c.now))) }
 {
     let first = lesser(first, check_declares(scopes, x, Sort::Constant));
     let first = check_value(scopes, &c.value, first);
@@ -138,7 +140,8 @@ pub fn name_type(
 ) -> Result<Walked<Named>, Halt>
     ensures found { Walks named.program_of result (kind_part (inside scopes.old.around scopes.old.local) x.now k.now)
         (part_first scopes.old.around scopes.old.local (Kind x.now k.now) first) }
-    ensures after { OnOk result (scopes.new ≡ inside scopes.old.around (part_local scopes.old.local (Kind x.now k.now))) }
+    ensures after { OnOk result (scopes.new ≡ inside scopes.old.around
+        (part_local scopes.old.local (Kind x.now k.now))) }
 {
     let t = name_definition(alloc, scopes, x, k, first)?;
     let first = declare_kind(alloc, scopes, x, k, t.first)?;
@@ -173,8 +176,10 @@ fn declare_kind(
     k: &SynKind,
     first: Found,
 ) -> Result<Found, Halt>
-    ensures found { Answers result (Ok (kind_constants_first scopes.old.around (type_local scopes.old.local x.now) k.now first)) }
-    ensures after { OnOk result (scopes.new ≡ inside scopes.old.around (kind_local (type_local scopes.old.local x.now) k.now)) }
+    ensures found { Answers result (Ok (kind_constants_first scopes.old.around (type_local scopes.old.local x.now) k.now
+        first)) }
+    ensures after { OnOk result (scopes.new ≡ inside scopes.old.around
+        (kind_local (type_local scopes.old.local x.now) k.now)) }
 {
     declare_type(alloc, scopes, x)?;
     declare_enumerated(alloc, scopes, k, first)
@@ -202,9 +207,11 @@ pub fn name_variables(
     t: &Name,
     first: Found,
 ) -> Result<Walked<Named>, Halt>
-    ensures found { Walks named.program_of result (variables_part (inside scopes.old.around scopes.old.local) xs.now t.now)
+    ensures found { Walks named.program_of result
+        (variables_part (inside scopes.old.around scopes.old.local) xs.now t.now)
         (part_first scopes.old.around scopes.old.local (Var xs.now t.now) first) }
-    ensures after { OnOk result (scopes.new ≡ inside scopes.old.around (part_local scopes.old.local (Var xs.now t.now))) }
+    ensures after { OnOk result (scopes.new ≡ inside scopes.old.around
+        (part_local scopes.old.local (Var xs.now t.now))) }
 {
     let first = lesser(first, check_kind(scopes, t));
     let tree = variables_part(alloc, scopes, xs, t)?;

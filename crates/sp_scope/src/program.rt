@@ -168,8 +168,8 @@ fn name_program(alloc: Global, block: SynBlock, first: Found) -> Result<Walked<B
     name_block(block.into_inner(), alloc, &mut scopes, first)
 }
 
-/// The tree with numbers for names, or the first rule among N1 to N8 and L4 that is broken: of the earliest place, and of
-/// several at one place the one that stands first in the table of rules. The tree is consumed.
+/// The tree with numbers for names, or the first rule among N1 to N8 and L4 that is broken: of the earliest place, and
+/// of several at one place the one that stands first in the table of rules. The tree is consumed.
 pub fn resolve(alloc: Global, syntax: Syntax) -> Result<Named, Halt>
     ensures { AnswersAs named.program_of result (resolved (plain.program_of syntax)) }
 {

@@ -3,7 +3,9 @@
 ghost use Rattle.std.specs.Prelude.{◌≡◌};
 ghost use Rattle.std.specs.Option.{option_copied};
 ghost use Rattle.sp_tree.specs.Found.{breaks, breaks_if};
-ghost use Rattle.sp_tree.specs.NameRules.{function_takes, procedure_takes, function_rule, procedure_rule, operand_rule, alone_rule, selects_rule, variable_rule, target_rule, assign_rule, is_local, loop_rule, width_rule, bare_rule, aims};
+ghost use Rattle.sp_tree.specs.NameRules.{function_takes, procedure_takes, function_rule, procedure_rule, operand_rule};
+ghost use Rattle.sp_tree.specs.NameRules.{alone_rule, selects_rule, variable_rule, target_rule, assign_rule, is_local};
+ghost use Rattle.sp_tree.specs.NameRules.{loop_rule, width_rule, bare_rule, aims};
 
 use sp_base::{Place, Rule};
 use sp_tree::{

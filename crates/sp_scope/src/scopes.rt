@@ -5,7 +5,8 @@
 ghost use Rattle.std.specs.Prelude.{◌≡◌, ◌+◌, nat_le, ◌++◌, ◌∷◌, [], map, None, Ok, OnOk};
 ghost use Rattle.std.specs.Option.{option_copied, is_some};
 ghost use Rattle.sp_tree.specs.Found.{Answers};
-ghost use Rattle.sp_tree.specs.Scopes.{find_in, look, find, or_else, put, count, more, most, empty, standard, declared, opened, inside};
+ghost use Rattle.sp_tree.specs.Scopes.{find_in, look, find, or_else, put, count, more, most, empty, standard, declared};
+ghost use Rattle.sp_tree.specs.Scopes.{opened, inside};
 ghost use Rattle.sp_tree.specs.NameWalk.{deeper, answer_local};
 ghost use Rattle.sp_scope.specs.Firsts.{Leaves};
 ghost use Rattle.sp_scope.specs.Walks.{entries_of};
@@ -200,7 +201,8 @@ impl Scopes {
     /// Opens a block inside, of the procedure with this number, whose result has that one.
     pub fn open(&mut self, alloc: Global, block: u32, answer: u32) -> Result<(), Halt>
         ensures memory { Answers result (Ok tt) }
-        ensures after { OnOk result (self.new ≡ inside (deeper self.old.around self.old.local) (opened block answer self.old.local)) }
+        ensures after { OnOk result (self.new
+            ≡ inside (deeper self.old.around self.old.local) (opened block answer self.old.local)) }
     {
         let here = mem::replace(&mut self.here, IndexMap::new(alloc));
         self.around.push(here)?;

@@ -4,13 +4,20 @@ ghost use Rattle.std.specs.Prelude.{◌≡◌, map, option_map, None, Ok, OnOk, 
 ghost use Rattle.std.specs.Option.{option_copied};
 ghost use Rattle.sp_scope.specs.Walks.{Walks};
 ghost use Rattle.sp_tree.specs.Scopes.{find, inside, closed, next_variable};
-ghost use Rattle.sp_tree.specs.NameWalk.{statement_local, form_local, other_local, statements_local, arms_local, arm_local, branches_local, index_local, indexed, deeper};
-ghost use Rattle.sp_tree.specs.NamedTree.{named_expression, named_target, named_statement, named_statement_form, named_other, named_statements, named_arms, named_arm, named_branches, named_arguments, procedure_named, assigned_number};
+ghost use Rattle.sp_tree.specs.NameWalk.{statement_local, form_local, other_local, statements_local, arms_local};
+ghost use Rattle.sp_tree.specs.NameWalk.{arm_local, branches_local, index_local, indexed, deeper};
+ghost use Rattle.sp_tree.specs.NamedTree.{named_expression, named_target, named_statement, named_statement_form};
+ghost use Rattle.sp_tree.specs.NamedTree.{named_other, named_statements, named_arms, named_arm, named_branches};
+ghost use Rattle.sp_tree.specs.NamedTree.{named_arguments, procedure_named, assigned_number};
 ghost use Rattle.sp_tree.specs.NamedOf as named;
 ghost use Rattle.sp_tree.specs.PlainSyntax.{For, Forall, Repeat};
 ghost use Rattle.sp_tree.specs.PlainNamed as n;
-ghost use Rattle.sp_tree.specs.SyntaxOf.{expression_of, variable_of, arguments_of, statement_of, statement_form_of, other, statements, statements_of, arms, arm_of, branches, branch_of, selectors, selector_of};
-ghost use Rattle.sp_scope.specs.Firsts.{expression_first, selectors_first, assigned_first, call_first, statement_first, statement_form_first, other_first, statements_first, arms_first, arm_first, branches_first, indexed_first, element_first};
+ghost use Rattle.sp_tree.specs.SyntaxOf.{expression_of, variable_of, arguments_of, statement_of, statement_form_of};
+ghost use Rattle.sp_tree.specs.SyntaxOf.{other, statements, statements_of, arms, arm_of, branches, branch_of};
+ghost use Rattle.sp_tree.specs.SyntaxOf.{selectors, selector_of};
+ghost use Rattle.sp_scope.specs.Firsts.{expression_first, selectors_first, assigned_first, call_first, statement_first};
+ghost use Rattle.sp_scope.specs.Firsts.{statement_form_first, other_first, statements_first, arms_first, arm_first};
+ghost use Rattle.sp_scope.specs.Firsts.{branches_first, indexed_first, element_first};
 
 use crate::calls::{count, is_whole, references_of, rest_of};
 use crate::constants::name_constants;
@@ -45,7 +52,8 @@ fn name_assigned(
     v: SynVar,
     first: Found,
 ) -> Result<Walked<NamedVar>, Halt>
-    ensures { Walks named.variable_of result (named_target scopes.now (variable_of v)) (assigned_first scopes.now (variable_of v) first) }
+    ensures { Walks named.variable_of result (named_target scopes.now (variable_of v))
+        (assigned_first scopes.now (variable_of v) first) }
 {
     let SynVar { name, selectors } = v;
     let m = scopes.find(&name.text);
@@ -122,9 +130,11 @@ fn name_statement(
     s: SynStmt,
     first: Found,
 ) -> Result<Walked<NamedStmt>, Halt>
-    ensures found { Walks named.statement_of result (named_statement scopes.old.around scopes.old.local (statement_of s))
+    ensures found { Walks named.statement_of result
+        (named_statement scopes.old.around scopes.old.local (statement_of s))
         (statement_first scopes.old.around scopes.old.local (statement_of s) first) }
-    ensures after { OnOk result (scopes.new ≡ inside scopes.old.around (statement_local scopes.old.local (statement_of s))) }
+    ensures after { OnOk result (scopes.new ≡ inside scopes.old.around
+        (statement_local scopes.old.local (statement_of s))) }
 {
     let SynStmt { at, form } = s;
     let Walked { tree, first } = name_statement_form(alloc, scopes, form, first)?;
@@ -141,9 +151,11 @@ pub fn name_boxed_statement(
     s: Boxed<SynStmt>,
     first: Found,
 ) -> Result<Walked<Boxed<NamedStmt>>, Halt>
-    ensures found { Walks named.statement_of result (named_statement scopes.old.around scopes.old.local (statement_of s))
+    ensures found { Walks named.statement_of result
+        (named_statement scopes.old.around scopes.old.local (statement_of s))
         (statement_first scopes.old.around scopes.old.local (statement_of s) first) }
-    ensures after { OnOk result (scopes.new ≡ inside scopes.old.around (statement_local scopes.old.local (statement_of s))) }
+    ensures after { OnOk result (scopes.new ≡ inside scopes.old.around
+        (statement_local scopes.old.local (statement_of s))) }
 {
     let Walked { tree, first } = name_statement(alloc, scopes, s.into_inner(), first)?;
     let tree = Boxed::new(alloc, tree)?;
@@ -160,7 +172,8 @@ fn name_statement_form(
     ensures found { Walks named.statement_form_of result
         (named_statement_form scopes.old.around scopes.old.local (statement_form_of form))
         (statement_form_first scopes.old.around scopes.old.local (statement_form_of form) first) }
-    ensures after { OnOk result (scopes.new ≡ inside scopes.old.around (form_local scopes.old.local (statement_form_of form))) }
+    ensures after { OnOk result (scopes.new ≡ inside scopes.old.around
+        (form_local scopes.old.local (statement_form_of form))) }
 {
     match form {
         SynForm::Empty => Ok(Walked {
@@ -248,7 +261,8 @@ fn name_else(
         (n.If (named.expression_of e) (named.statement_of a)
         (n.Else (named_statement scopes.old.around scopes.old.local (statement_of b))))
         (statement_first scopes.old.around scopes.old.local (statement_of b) first) }
-    ensures after { OnOk result (scopes.new ≡ inside scopes.old.around (statement_local scopes.old.local (statement_of b))) }
+    ensures after { OnOk result (scopes.new ≡ inside scopes.old.around
+        (statement_local scopes.old.local (statement_of b))) }
 {
     let b = name_boxed_statement(alloc, scopes, b, first)?;
     Ok(Walked {
@@ -258,7 +272,8 @@ fn name_else(
 }
 
 fn else_form(e: NamedExpr, a: Boxed<NamedStmt>, b: Boxed<NamedStmt>) -> NamedForm
-    ensures { named.statement_form_of result ≡ n.If (named.expression_of e) (named.statement_of a) (n.Else (named.statement_of b)) }
+    ensures { named.statement_form_of result
+        ≡ n.If (named.expression_of e) (named.statement_of a) (n.Else (named.statement_of b)) }
 {
     NamedForm::If(e, a, Some(b))
 }
@@ -280,7 +295,8 @@ fn name_repeat(
     ensures found { Walks named.statement_form_of result
         (named_statement_form scopes.old.around scopes.old.local (Repeat (statements_of ss) (expression_of e)))
         (statement_form_first scopes.old.around scopes.old.local (Repeat (statements_of ss) (expression_of e)) first) }
-    ensures after { OnOk result (scopes.new ≡ inside scopes.old.around (statements_local scopes.old.local (statements_of ss))) }
+    ensures after { OnOk result (scopes.new ≡ inside scopes.old.around
+        (statements_local scopes.old.local (statements_of ss))) }
 {
     let ss = name_statements(alloc, scopes, ss, first)?;
     let e = name_expression(alloc, scopes, e, ss.first)?;
@@ -304,8 +320,10 @@ fn name_for(
     ensures found { Walks named.statement_form_of result
         (named_statement_form scopes.old.around scopes.old.local
         (For name (expression_of from) down (expression_of to) (statement_of body)))
-        (statement_form_first scopes.old.around scopes.old.local (For name (expression_of from) down (expression_of to) (statement_of body)) first) }
-    ensures after { OnOk result (scopes.new ≡ inside scopes.old.around (statement_local scopes.old.local (statement_of body))) }
+        (statement_form_first scopes.old.around scopes.old.local
+        (For name (expression_of from) down (expression_of to) (statement_of body)) first) }
+    ensures after { OnOk result (scopes.new ≡ inside scopes.old.around
+        (statement_local scopes.old.local (statement_of body))) }
 {
     let m = scopes.find(&name.text);
     let broken = loop_rule(scopes.block(), name.at, m);
@@ -339,9 +357,11 @@ fn name_forall(
     ensures found { Walks named.statement_form_of result
         (named_statement_form scopes.old.around scopes.old.local
         (Forall name (expression_of from) (expression_of to) (statement_of body)))
-        (statement_form_first scopes.old.around scopes.old.local (Forall name (expression_of from) (expression_of to) (statement_of body)) first) }
+        (statement_form_first scopes.old.around scopes.old.local
+        (Forall name (expression_of from) (expression_of to) (statement_of body)) first) }
     ensures after { OnOk result (scopes.new
-        ≡ inside scopes.old.around (closed scopes.old.local (statement_local (indexed scopes.old.local name) (statement_of body)))) }
+        ≡ inside scopes.old.around (closed scopes.old.local
+        (statement_local (indexed scopes.old.local name) (statement_of body)))) }
 {
     let index = next_variable(scopes.counts())?;
     let from = name_expression(alloc, scopes, from, first)?;
@@ -368,10 +388,12 @@ fn name_element(
     first: Found,
 ) -> Result<Walked<Boxed<NamedStmt>>, Halt>
     ensures found { Walks named.statement_of result
-        (named_statement (deeper scopes.old.around scopes.old.local) (indexed scopes.old.local x.now) (statement_of body))
+        (named_statement (deeper scopes.old.around scopes.old.local) (indexed scopes.old.local x.now)
+        (statement_of body))
         (element_first scopes.old.around scopes.old.local x.now (statement_of body) first) }
     ensures after { OnOk result (scopes.new
-        ≡ inside scopes.old.around (closed scopes.old.local (statement_local (indexed scopes.old.local x.now) (statement_of body)))) }
+        ≡ inside scopes.old.around (closed scopes.old.local
+        (statement_local (indexed scopes.old.local x.now) (statement_of body)))) }
 {
     let block = scopes.block();
     let answer = scopes.answer();
@@ -392,7 +414,8 @@ fn name_indexed(
     ensures found { Walks named.statement_of result
         (named_statement scopes.old.around (index_local scopes.old.local x.now) (statement_of body))
         (indexed_first scopes.old.around scopes.old.local x.now (statement_of body) first) }
-    ensures after { OnOk result (scopes.new ≡ inside scopes.old.around (statement_local (index_local scopes.old.local x.now) (statement_of body))) }
+    ensures after { OnOk result (scopes.new ≡ inside scopes.old.around
+        (statement_local (index_local scopes.old.local x.now) (statement_of body))) }
 {
     let first = lesser(first, check_declares(scopes, x, Sort::Variable));
     declare_variable(alloc, scopes, x, Role::Index)?;
@@ -409,7 +432,8 @@ fn name_statements(
     ensures found { Walks (map named.statement_of) result
         (named_statements scopes.old.around scopes.old.local (statements (map statement_of ss)))
         (statements_first scopes.old.around scopes.old.local (statements (map statement_of ss)) first) }
-    ensures after { OnOk result (scopes.new ≡ inside scopes.old.around (statements_local scopes.old.local (statements (map statement_of ss)))) }
+    ensures after { OnOk result (scopes.new ≡ inside scopes.old.around
+        (statements_local scopes.old.local (statements (map statement_of ss)))) }
 {
     let mut out = Vec::new(alloc);
     let mut first = first;
@@ -457,9 +481,11 @@ fn name_arms(
     choices: List<SynArm>,
     first: Found,
 ) -> Result<Walked<List<NamedArm>>, Halt>
-    ensures found { Walks (map named.arm_of) result (named_arms scopes.old.around scopes.old.local (arms (map arm_of choices)))
+    ensures found { Walks (map named.arm_of) result
+        (named_arms scopes.old.around scopes.old.local (arms (map arm_of choices)))
         (arms_first scopes.old.around scopes.old.local (arms (map arm_of choices)) first) }
-    ensures after { OnOk result (scopes.new ≡ inside scopes.old.around (arms_local scopes.old.local (arms (map arm_of choices)))) }
+    ensures after { OnOk result (scopes.new ≡ inside scopes.old.around
+        (arms_local scopes.old.local (arms (map arm_of choices)))) }
 {
     let mut out = Vec::new(alloc);
     let mut first = first;
@@ -484,7 +510,8 @@ fn name_branch(
     ensures found { Walks named.branch_of result
         (named.statements (named_statements scopes.old.around scopes.old.local (branch_of b)))
         (statements_first scopes.old.around scopes.old.local (branch_of b) first) }
-    ensures after { OnOk result (scopes.new ≡ inside scopes.old.around (statements_local scopes.old.local (branch_of b))) }
+    ensures after { OnOk result (scopes.new ≡ inside scopes.old.around
+        (statements_local scopes.old.local (branch_of b))) }
 {
     let SynBranch { statements } = b;
     let ss = name_statements(alloc, scopes, statements, first)?;
@@ -506,7 +533,8 @@ fn name_branches(
     ensures found { Walks (map named.branch_of) result
         (named_branches scopes.old.around scopes.old.local (branches (map branch_of bs)))
         (branches_first scopes.old.around scopes.old.local (branches (map branch_of bs)) first) }
-    ensures after { OnOk result (scopes.new ≡ inside scopes.old.around (branches_local scopes.old.local (branches (map branch_of bs)))) }
+    ensures after { OnOk result (scopes.new ≡ inside scopes.old.around
+        (branches_local scopes.old.local (branches (map branch_of bs)))) }
 {
     let mut out = Vec::new(alloc);
     let mut first = first;

@@ -25,7 +25,8 @@ pub fn declare_variable(
     role: Role,
 ) -> Result<(), Halt>
     ensures memory { Answers result (Ok tt) }
-    ensures after { OnOk result (scopes.new ≡ inside scopes.old.around (declared scopes.old.local x.now.text sort.Variable (variable scopes.old.local role))) }
+    ensures after { OnOk result (scopes.new ≡ inside scopes.old.around
+        (declared scopes.old.local x.now.text sort.Variable (variable scopes.old.local role))) }
 {
     let number = next_variable(scopes.counts())?;
     let block = scopes.block();

@@ -4,9 +4,9 @@ use sp_base::{Boxed, List};
 pub use sp_tree::Walked;
 use sp_tree::{Named, NamedStmt, Variable};
 
-/// What stands in a block: the number of its result's variable, its statement part, the indices of the foralls there, and
-/// what its parts declare. The statement part is boxed, since to let a box go is one call, and a statement a case for each
-/// of its forms, wherever memory may be refused while it is held.
+/// What stands in a block: the number of its result's variable, its statement part, the indices of the foralls there,
+/// and what its parts declare. The statement part is boxed, since to let a box go is one call, and a statement a case
+/// for each of its forms, wherever memory may be refused while it is held.
 #[derive(Drop)]
 pub struct BlockParts {
     pub answer: u32,

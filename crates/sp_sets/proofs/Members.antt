@@ -1,5 +1,6 @@
 -- The variables of a set, found one after the other.
-use Rattle.std.proofs.Common.{◌≡◌, ℕ, zero, suc, ◌+◌, ◌<◌, ◌≤◌, true, false, cond, [], ◌∷◌, ◌++◌, ◌⊎◌, inl, inr, refl, ap, ◌∙◌, arith}
+use Rattle.std.proofs.Common.{◌≡◌, ℕ, zero, suc, ◌+◌, ◌<◌, ◌≤◌, true, false, cond, [], ◌∷◌, ◌++◌, ◌⊎◌, inl, inr, refl}
+use Rattle.std.proofs.Common.{ap, ◌∙◌, arith}
 use Rattle.std.proofs.lemmas.Bool.{cases_lt}
 use Rattle.sp_varsets.specs.Members.{has, IsNext}
 use Rattle.sp_varsets.specs.declared.var_set.VarSet.{VarSet}
@@ -34,4 +35,5 @@ module _ (v : VarSet) where
 
 pub same_members : (v w : VarSet) → ((x : ℕ) → has v x ≡ has w x) → (n : ℕ) → members v n ≡ members w n
 same_members v w same zero = refl
-same_members v w same (suc n) = ap (λ b. cond b (members v n ++ n ∷ []) (members v n)) (same n) ∙ ap (λ xs. cond (has w n) (xs ++ n ∷ []) xs) (same_members v w same n)
+same_members v w same (suc n) = ap (λ b. cond b (members v n ++ n ∷ []) (members v n)) (same n)
+    ∙ ap (λ xs. cond (has w n) (xs ++ n ∷ []) xs) (same_members v w same n)

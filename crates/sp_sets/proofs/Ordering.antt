@@ -1,5 +1,6 @@
 -- The orders of lines and of variables are total, and a list has one order by each.
-use Rattle.std.proofs.Common.{◌≡◌, ℕ, suc, ◌+◌, ◌<◌, false, cond, List, [], ◌∷◌, length, get_or, Option, Some, None, refl, sym, ap, ◌∙◌, subst, arith}
+use Rattle.std.proofs.Common.{◌≡◌, ℕ, suc, ◌+◌, ◌<◌, false, cond, List, [], ◌∷◌, length, get_or, Option, Some, None}
+use Rattle.std.proofs.Common.{refl, sym, ap, ◌∙◌, subst, arith}
 use Rattle.std.specs.Prelude.{T}
 use Rattle.std.specs.List.{AllByRecursion, sum_by}
 use Rattle.std.specs.List.Sorted.{IsSortedBy}
@@ -21,10 +22,13 @@ use Rattle.sp_tree.specs.declared.checked.Variable.{Variable}
 -- ---- total orders
 
 pub place_total : IsTotalOrder place_cmp
-place_total = then_total (on_total (λ (p : Place). p.line) nat_cmp_total) (on_total (λ (p : Place). p.column) nat_cmp_total)
+place_total = then_total (on_total (λ (p : Place). p.line) nat_cmp_total)
+    (on_total (λ (p : Place). p.column) nat_cmp_total)
 
 pub line_total : IsTotalOrder line_cmp
-line_total = then_total (on_total (λ (l : Line). l.at) place_total) (then_total (on_total (λ (l : Line). part_number l.part) nat_cmp_total) (on_total (λ (l : Line). l.statement) nat_cmp_total))
+line_total = then_total (on_total (λ (l : Line). l.at) place_total)
+    (then_total (on_total (λ (l : Line). part_number l.part) nat_cmp_total)
+    (on_total (λ (l : Line). l.statement) nat_cmp_total))
 
 pub variable_total : (vs : List Variable) → IsTotalOrder (variable_cmp vs)
 variable_total vs = then_total (on_total (stand vs) place_total) nat_cmp_total
@@ -66,14 +70,18 @@ same_variable vs x y e = nat_cmp-IsAntisymmetric x y (both_tie (place_cmp (stand
 
 -- ---- one order
 
-module _ {X : Type 0} (cmp : X → X → Ordering) (total : IsTotalOrder cmp) (tie : (x y : X) → cmp x y ≡ Equal → x ≡ y) where
+module _ {X : Type 0} (cmp : X → X → Ordering) (total : IsTotalOrder cmp)
+    (tie : (x y : X) → cmp x y ≡ Equal → x ≡ y) where
   abbrev Ascends : List X → Type 0
   Ascends [] = Unit {0}
   Ascends (x ∷ xs) = AllByRecursion (λ y. is_lt (cmp y x) ≡ false) xs × Ascends xs
 
-  behind : (x : X) (xs : List X) → IsSortedBy (λ a b. is_lt (cmp a b)) (x ∷ xs) → AllByRecursion (λ y. is_lt (cmp y x) ≡ false) xs
-  behind x xs up = recursion_from_All (λ y. is_lt (cmp y x) ≡ false) xs (All-from_get_or (λ y. is_lt (cmp y x) ≡ false) xs x
-      (λ i h. sorted_far (λ a b. is_lt (cmp a b)) (ranks cmp total) (x ∷ xs) up 0 (suc i) x (omega arith) (let low : i < length xs = h in let g : length (x ∷ xs) ≡ suc (length xs) = refl in omega arith)))
+  behind : (x : X) (xs : List X) → IsSortedBy (λ a b. is_lt (cmp a b)) (x ∷ xs)
+      → AllByRecursion (λ y. is_lt (cmp y x) ≡ false) xs
+  behind x xs up = recursion_from_All (λ y. is_lt (cmp y x) ≡ false) xs
+      (All-from_get_or (λ y. is_lt (cmp y x) ≡ false) xs x
+      (λ i h. sorted_far (λ a b. is_lt (cmp a b)) (ranks cmp total) (x ∷ xs) up 0 (suc i) x (omega arith)
+      (let low : i < length xs = h in let g : length (x ∷ xs) ≡ suc (length xs) = refl in omega arith)))
 
   ascends : (xs : List X) → IsSortedBy (λ a b. is_lt (cmp a b)) xs → Ascends xs
   ascends [] up = tt
@@ -82,7 +90,8 @@ module _ {X : Type 0} (cmp : X → X → Ordering) (total : IsTotalOrder cmp) (t
     ascends xs (λ k d low high.
         let next : suc k ≡ k + 1 = omega arith in
         let g : length (x ∷ xs) ≡ suc (length xs) = refl in
-        subst (λ n. is_lt (cmp (get_or xs n d) (get_or xs k d)) ≡ false) next (simp unary_clauses at (up (suc k) d (omega arith) (omega arith)))),
+        subst (λ n. is_lt (cmp (get_or xs n d) (get_or xs k d)) ≡ false) next
+        (simp unary_clauses at (up (suc k) d (omega arith) (omega arith)))),
   )
 
   -- how often an element stands in a list
@@ -117,9 +126,11 @@ module _ {X : Type 0} (cmp : X → X → Ordering) (total : IsTotalOrder cmp) (t
   none k x (y ∷ ys) h (g, all) = by (cmp y k) refl (none k x ys h all)
     where
       by : (r : Ordering) → cmp y k ≡ r → count k ys ≡ 0 → count k (y ∷ ys) ≡ 0
-      by Less e rest = let z : one k y ≡ 0 = ap (λ r. cond (is_eq r) 1 0) e in let all : one k y + count k ys ≡ 0 = omega arith in all
+      by Less e rest = let z : one k y ≡ 0 = ap (λ r. cond (is_eq r) 1 0) e in
+          let all : one k y + count k ys ≡ 0 = omega arith in all
       by Equal e rest = absurd (less_than k x y h g e)
-      by Greater e rest = let z : one k y ≡ 0 = ap (λ r. cond (is_eq r) 1 0) e in let all : one k y + count k ys ≡ 0 = omega arith in all
+      by Greater e rest = let z : one k y ≡ 0 = ap (λ r. cond (is_eq r) 1 0) e in
+          let all : one k y + count k ys ≡ 0 = omega arith in all
 
   none_at : (k x : X) (xs : List X) → cmp k x ≡ Less → Ascends (x ∷ xs) → count k (x ∷ xs) ≡ 0
   none_at k x xs h (all, up) = none k x (x ∷ xs) h (ap is_lt (self_tie x), all)
@@ -134,13 +145,17 @@ module _ {X : Type 0} (cmp : X → X → Ordering) (total : IsTotalOrder cmp) (t
   once (x ∷ xs) (y ∷ ys) up vp c = by (cmp x y) refl (λ tails. once xs ys up.1 vp.1 tails)
     where
       tails : x ≡ y → (k : X) → count k xs ≡ count k ys
-      tails e k = let h : one k x + count k xs ≡ one k x + count k ys = c k ∙ ap (λ z. one k z + count k ys) (sym e) in omega arith
+      tails e k = let h : one k x + count k xs ≡ one k x + count k ys = c k ∙ ap (λ z. one k z + count k ys) (sym e) in
+          omega arith
 
       by : (r : Ordering) → cmp x y ≡ r → (((k : X) → count k xs ≡ count k ys) → xs ≡ ys) → x ∷ xs ≡ y ∷ ys
-      by Less e rest = absurd (let h : 1 + count x xs ≡ 0 = sym (some_at x xs) ∙ (c x ∙ none_at x y ys e vp) in omega arith)
+      by Less e rest = absurd (let h : 1 + count x xs ≡ 0 = sym (some_at x xs) ∙ (c x ∙ none_at x y ys e vp) in
+          omega arith)
       by Equal e rest = let same = tie x y e in ap (λ z. z ∷ xs) same ∙ ap (λ zs. y ∷ zs) (rest (tails same))
-      by Greater e rest = absurd (let h : 0 ≡ 1 + count y ys = sym (none_at y x xs (total.antisymm y x ∙ ap ordering_reverse e) up) ∙ (c y ∙ some_at y ys) in omega arith)
+      by Greater e rest = absurd (let h : 0 ≡ 1 + count y ys =
+          sym (none_at y x xs (total.antisymm y x ∙ ap ordering_reverse e) up) ∙ (c y ∙ some_at y ys) in omega arith)
 
   pub one_order : (zs xs ys : List X) → IsInOrder cmp zs xs → IsInOrder cmp zs ys → xs ≡ ys
   one_order zs xs ys (p, up) (q, vp) = once xs ys (ascends xs up) (ascends ys vp)
-      (λ k. sym (count_is k xs) ∙ (sum_by-IsPermutation (one k) zs xs p ∙ (sym (sum_by-IsPermutation (one k) zs ys q) ∙ count_is k ys)))
+      (λ k. sym (count_is k xs) ∙ (sum_by-IsPermutation (one k) zs xs p
+      ∙ (sym (sum_by-IsPermutation (one k) zs ys q) ∙ count_is k ys)))

@@ -9,6 +9,7 @@ pub no_sends : (n : ℕ) (at : Place) (c : Expression) (es : List Expression) �
 no_sends n at c [] = refl
 no_sends n at c (e ∷ es) = no_sends (n + 1) at c es
 
-pub no_receives : (n : ℕ) (at : Place) (c : Expression) (vs : List Variable) → statements_lines (receives n at c vs) ≡ []
+pub no_receives : (n : ℕ) (at : Place) (c : Expression) (vs : List Variable)
+    → statements_lines (receives n at c vs) ≡ []
 no_receives n at c [] = refl
 no_receives n at c (v ∷ vs) = no_receives (n + 1) at c vs

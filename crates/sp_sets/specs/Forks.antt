@@ -1,15 +1,20 @@
+-- All of this belongs to what the program promises (docs/promise.txt).
 -- The lines that a tree has in the text of the sets: one for each process statement of a parallel statement, and one
 -- for the element statement of each forall. The contract of the walk promises them.
 use Rattle.std.specs.Prelude.{ℕ, suc, List, [], ◌∷◌, ◌++◌, Some, None}
 use Rattle.sp_base.specs.declared.place.Place.{Place}
 use Rattle.sp_sets.specs.declared.line.Line.{Line}
-use Rattle.sp_tree.specs.PlainChecked.{Statement, Does, Form, Empty, Assign, Call, Sequence, If, While, Repeat, For, Case, Parallel, Forall, Assume, ReadValue, ReadLine, WriteValue, WriteText, WriteLine, Open, Send, Receive, Other, NoElse, Else, Statements, NoStatement, AndThen, On, Arms, NoArm, Or, Block, Program}
+use Rattle.sp_tree.specs.PlainChecked.{Statement, Does, Form, Empty, Assign, Call, Sequence, If, While, Repeat, For}
+use Rattle.sp_tree.specs.PlainChecked.{Case, Parallel, Forall, Assume, ReadValue, ReadLine, WriteValue, WriteText}
+use Rattle.sp_tree.specs.PlainChecked.{WriteLine, Open, Send, Receive, Other, NoElse, Else, Statements, NoStatement}
+use Rattle.sp_tree.specs.PlainChecked.{AndThen, On, Arms, NoArm, Or, Block, Program}
 use Rattle.sp_varsets.specs.Parts.{number_of}
 
 -- the process statements of a parallel statement at this place, counted from a number on
 abbrev pub process_lines : Place → ℕ → Statements → List Line
 process_lines at k NoStatement = []
-process_lines at k (AndThen s rest) = record { at = at; part = Some k; statement = number_of s } ∷ process_lines at (suc k) rest
+process_lines at k (AndThen s rest) = record { at = at; part = Some k; statement = number_of s }
+    ∷ process_lines at (suc k) rest
 
 abbrev mutual
   pub statement_lines : Statement → List Line

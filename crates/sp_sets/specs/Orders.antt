@@ -1,3 +1,4 @@
+-- All of this belongs to what the program promises (docs/promise.txt).
 -- The orders of lines and of variables in the text of the sets: by places. The contracts of the sorts cite it, so that
 -- the text goes as the program does.
 use Rattle.std.specs.Prelude.{ℕ, zero, suc, ◌+◌, List, Option, Some, None, slice_get}
@@ -19,7 +20,8 @@ part_number (Some k) = k + 1
 
 -- lines go by place, and those of one parallel statement by its process statements
 abbrev pub line_cmp : Line → Line → Ordering
-line_cmp = then_cmp (on (λ l. l.at) place_cmp) (then_cmp (on (λ l. part_number l.part) nat_cmp) (on (λ l. l.statement) nat_cmp))
+line_cmp = then_cmp (on (λ l. l.at) place_cmp)
+    (then_cmp (on (λ l. part_number l.part) nat_cmp) (on (λ l. l.statement) nat_cmp))
 
 -- where a variable is declared
 abbrev pub declared_at : Option Variable → Place

@@ -8,5 +8,6 @@ ghost use Rattle.sp_varsets.specs.declared.sets.Sets.{Sets};
 
 /// A tree has one text of its sets.
 pub fn one_sets_text()
-    ensures { (p : Program) (s t : Sets) (a b : List ℕ) → AreSets p s → AreSets p t → IsSetsText p s a → IsSetsText p t b → a ≡ b }
+    ensures { (p : Program) (s t : Sets) (a b : List ℕ) → AreSets p s → AreSets p t → IsSetsText p s a
+        → IsSetsText p t b → a ≡ b }
 {}

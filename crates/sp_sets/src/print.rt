@@ -1,7 +1,8 @@
 //! The text of the sets, put line by line.
 
 ghost use Rattle.std.specs.Prelude.{◌≡◌, ℕ, ◌<◌, ◌≤◌, ◌-◌, ◌^◌, ◌++◌, List, IfOk, OnOk, length, map};
-ghost use Rattle.sp_sets.specs.SetsText.{IsImplicit, IsLine, IsLineAt, IsOfBlock, IsSetsText, Joined, head_by, place_text};
+ghost use Rattle.sp_sets.specs.SetsText.{IsImplicit, IsLine, IsLineAt, IsOfBlock, IsSetsText, Joined, head_by};
+ghost use Rattle.sp_sets.specs.SetsText.{place_text};
 ghost use Rattle.sp_tree.specs.CheckedOf.{block_of, program_of};
 
 use crate::line::Line;
@@ -50,7 +51,8 @@ fn put_line(
     line: &Line,
 ) -> Result<(), Memory>
     requires { length variables.now ≤ 2 ^ 32 - 1 }
-    ensures { OnOk result ((t : List ℕ) × IsLine variables.now sets.now line.now t × (out.new.items ≡ out.old.items ++ t)) }
+    ensures { OnOk result ((t : List ℕ) × IsLine variables.now sets.now line.now t
+        × (out.new.items ≡ out.old.items ++ t)) }
 {
     put_head(out, line.at, line.part)?;
     let n = line.statement;
@@ -66,7 +68,8 @@ fn put_lines(
     lines: &[Line],
 ) -> Result<(), Memory>
     requires { length variables.now ≤ 2 ^ 32 - 1 }
-    ensures { OnOk result ((t : List ℕ) × Joined (IsLineAt variables.now sets.now lines.now) (length lines.now) t × (out.new.items ≡ out.old.items ++ t)) }
+    ensures { OnOk result ((t : List ℕ) × Joined (IsLineAt variables.now sets.now lines.now) (length lines.now) t
+        × (out.new.items ≡ out.old.items ++ t)) }
 {
     'each: for i in 0..lines.len() {
         put_line(alloc, out, variables, sets, &lines[i])?;
@@ -84,7 +87,8 @@ fn put_implicit(
     block: &Block,
 ) -> Result<(), Memory>
     requires { length variables.now ≤ 2 ^ 32 - 1 }
-    ensures { OnOk result ((t : List ℕ) × IsImplicit variables.now sets.now b (block_of block.now) t × (out.new.items ≡ out.old.items ++ t)) }
+    ensures { OnOk result ((t : List ℕ) × IsImplicit variables.now sets.now b (block_of block.now) t
+        × (out.new.items ≡ out.old.items ++ t)) }
 {
     out.extend_from_slice(b"implicit ")?;
     out.extend_from_slice(block.name.bytes())?;
@@ -105,7 +109,8 @@ fn put_block(
     requires few { length variables.now ≤ 2 ^ 32 - 1 }
     requires there { b < length blocks.now }
     requires numbered { length blocks.now ≤ 2 ^ 32 }
-    ensures { OnOk result ((t : List ℕ) × IsOfBlock variables.now sets.now (map block_of blocks.now) b t × (out.new.items ≡ out.old.items ++ t)) }
+    ensures { OnOk result ((t : List ℕ) × IsOfBlock variables.now sets.now (map block_of blocks.now) b t
+        × (out.new.items ≡ out.old.items ++ t)) }
 {
     if b == 0 {
         return Ok(());
@@ -123,7 +128,8 @@ fn put_blocks(
 ) -> Result<(), Memory>
     requires few { length variables.now ≤ 2 ^ 32 - 1 }
     requires numbered { length blocks.now ≤ 2 ^ 32 }
-    ensures { OnOk result ((t : List ℕ) × Joined (IsOfBlock variables.now sets.now (map block_of blocks.now)) (length blocks.now) t
+    ensures { OnOk result ((t : List ℕ) × Joined (IsOfBlock variables.now sets.now (map block_of blocks.now))
+        (length blocks.now) t
         × (out.new.items ≡ out.old.items ++ t)) }
 {
     'each: for b in 0..blocks.len() {

@@ -56,7 +56,8 @@ fn variable_cmp(variables: &[Variable], x: u32, y: u32) -> Ordering
 /// The variables of the set, in order.
 fn in_order(alloc: Global, variables: &[Variable], set: &VarSet) -> Result<Vec<u32>, Memory>
     requires { length variables.now ≤ 2 ^ 32 - 1 }
-    ensures { IfOk result (λ xs. IsInOrder (variable_cmp variables.now) (members set.now (length variables.now)) xs.items) }
+    ensures { IfOk result (λ xs. IsInOrder (variable_cmp variables.now) (members set.now (length variables.now))
+        xs.items) }
 {
     let mut xs = members(alloc, set, variables.len() as u32)?;
     xs.sort_unstable_by(|x, y| variable_cmp(variables, *x, *y));
@@ -106,7 +107,8 @@ pub(crate) fn put_both(
     expressions: &VarSet,
 ) -> Result<(), Memory>
     requires { length variables.now ≤ 2 ^ 32 - 1 }
-    ensures { OnOk result ((t : List ℕ) × IsBoth variables.now targets.now expressions.now t × (out.new.items ≡ out.old.items ++ t)) }
+    ensures { OnOk result ((t : List ℕ) × IsBoth variables.now targets.now expressions.now t
+        × (out.new.items ≡ out.old.items ++ t)) }
 {
     out.extend_from_slice(b" targets")?;
     put_variables(alloc, out, variables, targets)?;

@@ -2,7 +2,8 @@
 
 ghost use Rattle.std.specs.Prelude.{◌≡◌, [], ◌∷◌, ◌++◌, None, IfOk, OnOk, map, option_map};
 ghost use Rattle.sp_varsets.specs.Parts.{number_of};
-ghost use Rattle.sp_sets.specs.Forks.{arms_lines, form_lines, other_lines, process_lines, statement_lines, statements_lines, tree_lines};
+ghost use Rattle.sp_sets.specs.Forks.{arms_lines, form_lines, other_lines, process_lines, statement_lines};
+ghost use Rattle.sp_sets.specs.Forks.{statements_lines, tree_lines};
 ghost use Rattle.sp_sets.specs.Orders.{IsInOrder, line_cmp};
 ghost use Rattle.sp_tree.specs.CheckedOf.{arm_of, arms, other, program_of, statement_form_of, statement_of, statements};
 
@@ -13,7 +14,8 @@ use std::alloc::Global;
 
 /// Puts a line for each process statement of a parallel statement at this place.
 fn process_lines(lines: &mut Vec<Line>, at: Place, ss: &[Stmt]) -> Result<(), Memory>
-    ensures { OnOk result (lines.new.items ≡ lines.old.items ++ process_lines at 0 (statements (map statement_of ss.now))) }
+    ensures { OnOk result (lines.new.items ≡ lines.old.items
+        ++ process_lines at 0 (statements (map statement_of ss.now))) }
 {
     if ss.len() > 4_294_967_296 {
         return Err(Memory);
@@ -30,7 +32,8 @@ fn process_lines(lines: &mut Vec<Line>, at: Place, ss: &[Stmt]) -> Result<(), Me
 
 /// Puts the line of an element statement.
 fn element_line(lines: &mut Vec<Line>, at: Place, s: &Stmt) -> Result<(), Memory>
-    ensures { OnOk result (lines.new.items ≡ lines.old.items ++ record { at = at; part = None; statement = number_of (statement_of s.now) } ∷ []) }
+    ensures { OnOk result (lines.new.items ≡ lines.old.items
+        ++ record { at = at; part = None; statement = number_of (statement_of s.now) } ∷ []) }
 {
     lines.push(Line {
         at,
@@ -66,7 +69,8 @@ fn other_lines(lines: &mut Vec<Line>, s: &Option<Boxed<Stmt>>) -> Result<(), Mem
 
 #[cycle(walk)]
 fn statements_lines(lines: &mut Vec<Line>, ss: &List<Stmt>) -> Result<(), Memory>
-    ensures { OnOk result (lines.new.items ≡ lines.old.items ++ statements_lines (statements (map statement_of ss.now))) }
+    ensures { OnOk result (lines.new.items ≡ lines.old.items
+        ++ statements_lines (statements (map statement_of ss.now))) }
 {
     for s in ss.items() {
         statement_lines(lines, s)?;

@@ -31,7 +31,6 @@ module _ (c : Parts) (n : ℕ) (s new : Search) (h : Compares c n s) (moves : Mo
 
 module _ (c : Parts) (v1 : KeepsV1 c) (n : ℕ) (s : Search) (rest : List Arrival) (x : Arrival)
     (last : s.arrivals ≡ rest ++ x ∷ []) (h : Compares c n s) where
-
   here : IsAmong x s.arrivals
   here = subst (IsAmong x) (sym last) (among_last x rest)
 
@@ -150,7 +149,8 @@ module _ (c : Parts) (v1 : KeepsV1 c) (n : ℕ) (s : Search) (rest : List Arriva
 
     marked_stays : (p : ℕ) → IsMarked s p → slice_get (slice_set s.broken x.at true) p ≡ Some true
     marked_stays p m = ⊎_elim
-        (λ (z : x.at ≡ p). ap (slice_get (slice_set s.broken x.at true)) (sym z) ∙ get_where_set s.broken x.at true short)
+        (λ (z : x.at ≡ p). ap (slice_get (slice_set s.broken x.at true)) (sym z)
+        ∙ get_where_set s.broken x.at true short)
         (λ (d : x.at ≢ p). get_beside_set s.broken x.at p true d ∙ m) (cases_eq x.at p)
 
     differs : BrokenBy c n x.at

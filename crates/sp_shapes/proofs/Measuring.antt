@@ -291,8 +291,11 @@ past_first c s n m o v h e none puts = past_put (λ x y. x ≡ y) c s n m o v h 
 pub first_lacks : (c : Parts) (s : Shapes) → AreShapes c s → (m : BTreeMap ℕ ℕ)
     → AreLengths (λ x y. x ≤ y) c s (length c.instrs) m → (n : ℕ) → is_longer m (received_at c s n) ≡ true
     → ((k : ℕ) → k < n → is_longer m (received_at c s k) ≡ false) → IsLeast (Lacks c s) (Some n)
-first_lacks c s h m g n e none =
-    (lacks_so c s h m g n e, λ p l k. not_true_and_false (is_longer m (received_at c s p)) (lacks_there c s h m g p k) (none p l))
+first_lacks c s h m g n e none = (
+  lacks_so c s h m g n e,
+  λ p l k. not_true_and_false (is_longer m (received_at c s p)) (lacks_there c s h m g p k)
+      (none p l),
+)
 
 pub none_lacks : (c : Parts) (s : Shapes) → AreShapes c s → (m : BTreeMap ℕ ℕ)
     → AreLengths (λ x y. x ≤ y) c s (length c.instrs) m → (n : ℕ) → length c.instrs ≤ n

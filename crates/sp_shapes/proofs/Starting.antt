@@ -26,7 +26,6 @@ use Rattle.sp_shapes.proofs.Ways.{block_in}
 use Rattle.sp_shapes.proofs.Searching.{among_last, among_left, among_or}
 
 module _ (c : Parts) where
-
   pub adds_one : (xs : List Arrival) (q : ℕ) → IsEntry c q → Adds c (λ r. r ≡ q) xs (xs ++ start q ∷ [])
   adds_one xs q h = record {
     keeps = λ x a. among_left x xs (start q ∷ []) a;
@@ -111,7 +110,8 @@ module _ (c : Parts) where
   none_made q h = let l = h.1 in omega (arith, l)
 
   pub more_made : (n q : ℕ) → IsMade c (n + 1) q → IsMade c n q ⊎ IsMadeAt c n q
-  more_made n q (p, l, m) = ⊎_elim (λ a. inl (p, a, m)) (λ s. inr (subst (λ z. IsMadeAt c z q) s m)) (below_or_last p n l)
+  more_made n q (p, l, m) = ⊎_elim (λ a. inl (p, a, m)) (λ s. inr (subst (λ z. IsMadeAt c z q) s m))
+      (below_or_last p n l)
 
   -- ---- all
 

@@ -125,7 +125,6 @@ module _ (c : Parts) (v1 : KeepsV1 c) (n : ℕ) (s : Search) (rest : List ℕ) (
       })
 
   module _ (k : ℕ) (st : Stacks) (o : Step) (leap : Leaps c (record s { frontier = rest }) p k st o) where
-
     stays_list : (j : ℕ) → Holds s.stacks j → list_of st j ≡ list_of s.stacks j
     stays_list j w = (leap.extends j w).1
 

@@ -1,3 +1,4 @@
+-- None of this belongs to what the program promises: it is for contracts between crates.
 -- What each instruction takes from the stack, what it leaves there, and where it goes on: the rule in a few forms.
 use Rattle.std.specs.Prelude.{ℕ, ◌+◌, ◌-◌, List, [], ◌∷◌, Option, Some, None, if◌then◌else◌, length}
 use Rattle.sp_code.specs.declared.instr.Instr.{Instr}

@@ -1,3 +1,4 @@
+-- None of this belongs to what the program promises: it is for contracts between crates.
 -- What the rules ask of an instruction, by the shapes that it is reached with: an instruction that is not reached
 -- breaks none.
 use Rattle.std.specs.Prelude.{ℕ, List, Option, Some, None, Bool, false, not, ◌&&◌, slice_get}

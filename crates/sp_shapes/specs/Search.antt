@@ -1,3 +1,4 @@
+-- None of this belongs to what the program promises: it is for contracts between crates.
 -- What following all ways keeps, the shorter ones first: for each instruction the list of shapes that came first, marks
 -- where V2 is found broken, the instructions that wait to be stepped from, and the lists that were brought and wait to
 -- be compared.

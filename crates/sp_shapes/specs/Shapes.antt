@@ -1,3 +1,4 @@
+-- None of this belongs to what the program promises: it is for contracts between crates.
 -- The shapes that instructions are reached with, in a table: the number of a list of shapes for each instruction that
 -- is reached.
 use Rattle.std.specs.Prelude.{◌≡◌, ℕ, List, Some, slice_get, length}

@@ -1,3 +1,4 @@
+-- None of this belongs to what the program promises: it is for contracts between crates.
 -- Lists of shapes by numbers: each list is kept once, as its first shape and the number of the rest.
 use Rattle.std.specs.Prelude.{◌≡◌, ℕ, zero, suc, ◌+◌, ◌*◌, ◌≤◌, ◌<◌, List, [], ◌∷◌, Option, Some, slice_get, length}
 use Rattle.std.specs.Ordering.{nat_cmp}

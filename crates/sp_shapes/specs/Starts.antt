@@ -1,3 +1,4 @@
+-- None of this belongs to what the program promises: it is for contracts between crates.
 -- Where ways begin: at the entry of each area that is there, with no operands.
 use Rattle.std.specs.Prelude.{◌≡◌, ◌⊎◌, ℕ, ◌<◌, List, Some, Bool, true, false, slice_get, length}
 use Rattle.sp_code.specs.declared.code.Layout.{Layout}

@@ -1,3 +1,4 @@
+-- None of this belongs to what the program promises: it is for contracts between crates.
 -- How the fields of a store, its sorted spots and its entries, are seen as its plain map. All contracts of `Store`
 -- speak of that map; the parts inside cite this for where a spot stands.
 use Rattle.std.specs.Prelude.{ℕ, ◌<◌, List, [], ◌∷◌, length, slice_index_or, slice_set, IsSome, Some, None, ◌≡◌, ◌≤◌}

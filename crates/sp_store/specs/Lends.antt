@@ -1,3 +1,4 @@
+-- None of this belongs to what the program promises: it is for contracts between crates.
 -- What the slots end as, where a `&mut` to an entry is returned: a starred clause of `Slots` cites it, which speaks of
 -- the moment at which the borrow ends.
 use Rattle.std.specs.Borrow.{Lends, MutBor, Fml}

@@ -1,6 +1,7 @@
 //! The map of a store in memory: entries by their spots, in the order of the spots.
 
-ghost use Rattle.std.specs.Prelude.{◌≡◌, ◌<◌, ◌++◌, IsSome, IfSome, Some, None, IfOk, IfErr, OnOk, OnErr, MatchOption, length, ℕ, ◌-◌, ◌≤◌, ◌==◌, ◌≢◌, if◌then◌else◌, take, drop, vec_len, slice_index_or};
+ghost use Rattle.std.specs.Prelude.{◌≡◌, ◌<◌, ◌++◌, IsSome, IfSome, Some, None, IfOk, IfErr, OnOk, OnErr, MatchOption};
+ghost use Rattle.std.specs.Prelude.{length, ℕ, ◌-◌, ◌≤◌, ◌==◌, ◌≢◌, if◌then◌else◌, take, drop, vec_len, slice_index_or};
 ghost use Rattle.std.specs.Borrow.{sem};
 ghost use Rattle.std.specs.FinMap as map;
 ghost use Rattle.std.specs.List.Sorted.{IsStrictlySortedBy};
@@ -38,7 +39,8 @@ impl Model for Slots {
 
     ghost view = { λ a. layout a.spots.items a.entries.items };
 
-    ghost invariant = { λ a. (length a.spots.items ≡ length a.entries.items) × IsStrictlySortedBy spot_cmp a.spots.items };
+    ghost invariant = { λ a. (length a.spots.items ≡ length a.entries.items)
+        × IsStrictlySortedBy spot_cmp a.spots.items };
 }
 
 // Where the spot stands, or would go.
@@ -117,7 +119,8 @@ impl Slots {
     }
 
     pub(crate) fn find(&self, spot: Spot) -> Option<&Entry>
-        ensures { MatchOption result (map.get self.now spot ≡ None) (λ e. map.get self.now spot ≡ Some (content e.now)) }
+        ensures { MatchOption result (map.get self.now spot ≡ None)
+            (λ e. map.get self.now spot ≡ Some (content e.now)) }
     {
         match search(&self.spots, &self.entries, spot) {
             Ok(i) => Some(&self.entries[i]),
@@ -199,7 +202,8 @@ fn above_last(spots: &[Spot], entries: &[Entry]) -> u64
 // Where the spots of the frame and of those below it end.
 fn end_of(spots: &[Spot], frame: u64) -> usize
     ensures bound { result ≤ length spots.now }
-    ensures above { (k : ℕ) (d : Spot) → result ≤ k → k < length spots.now → let s = slice_index_or spots.now k d in frame < s.frame }
+    ensures above { (k : ℕ) (d : Spot) → result ≤ k → k < length spots.now → let s = slice_index_or spots.now k d in
+        frame < s.frame }
     ensures below { (d : Spot) → 0 < result → let s = slice_index_or spots.now (result - 1) d in s.frame ≤ frame }
 {
     let mut n = spots.len();
@@ -213,7 +217,8 @@ fn end_of(spots: &[Spot], frame: u64) -> usize
 fn start_of(spots: &[Spot], frame: u64, end: usize) -> usize
     requires { end ≤ length spots.now }
     ensures bound { result ≤ end }
-    ensures inside { (k : ℕ) (d : Spot) → result ≤ k → k < end → let s = slice_index_or spots.now k d in s.frame ≡ frame }
+    ensures inside { (k : ℕ) (d : Spot) → result ≤ k → k < end → let s = slice_index_or spots.now k d in
+        s.frame ≡ frame }
     ensures below { (d : Spot) → 0 < result → let s = slice_index_or spots.now (result - 1) d in s.frame ≢ frame }
 {
     let mut n = end;

@@ -1,13 +1,15 @@
 //! The variables of one process, and its calls.
 
-ghost use Rattle.std.specs.Prelude.{◌≡◌, ◌≢◌, ◌+◌, ◌<◌, ◌≤◌, IfOk, IsSome, Some, None, MatchOption, OnOk, OnErr, IsOk, length, List, [], ◌∷◌, slice_index_or};
+ghost use Rattle.std.specs.Prelude.{◌≡◌, ◌≢◌, ◌+◌, ◌<◌, ◌≤◌, IfOk, IsSome, Some, None, MatchOption, OnOk, OnErr, IsOk};
+ghost use Rattle.std.specs.Prelude.{length, List, [], ◌∷◌, slice_index_or};
 ghost use Rattle.std.specs.FinMap as map;
 ghost use Rattle.sp_cell.specs.declared.cell.Cell.TheVariants.{Undefined};
 ghost use Rattle.sp_cell.specs.Fork.{children_of, handed, away, joined, lent, moved_of, shared_of, prepared, HasIndex};
 ghost use Rattle.sp_cell.specs.Spots.{DistinctByIndex, PieceAtEach};
 ghost use Rattle.sp_cell.specs.Frame.{root_map, next_frame, HasNextFrame, pushed, popped, newest, NoneAway};
 ghost use Rattle.sp_cell.specs.Lists.{part};
-ghost use Rattle.sp_cell.specs.Map.{with_map, cells_at, HasCells, written, IsOwn, IsPiece, owned, put_cells, copied, IsOutput, output_spot, output_of, appended};
+ghost use Rattle.sp_cell.specs.Map.{with_map, cells_at, HasCells, written, IsOwn, IsPiece, owned, put_cells, copied};
+ghost use Rattle.sp_cell.specs.Map.{IsOutput, output_spot, output_of, appended};
 ghost use Rattle.sp_cell.specs.Partition.{joined_all};
 ghost use Rattle.sp_cell.specs.Plan.{mixed};
 ghost use Rattle.sp_cell.specs.Spots.{IsDistinct, In, NotIn, AllHeld, AllPieces, AllAway};
@@ -170,8 +172,8 @@ impl Store {
         Ok(())
     }
 
-    /// Makes the piece an own one, with the same cells, so that later writes take no memory. Where memory is refused, the
-    /// store is unchanged.
+    /// Makes the piece an own one, with the same cells, so that later writes take no memory. Where memory is refused,
+    /// the store is unchanged.
     #[tactic(auto, using(sp_cell::specs::Laws::insert_same))]
     pub fn make_own(&mut self, spot: Spot) -> Result<(), Memory>
         requires { IsPiece (map.get self.old.map spot) }
@@ -218,9 +220,9 @@ impl Store {
         entry::append(entry, bytes)
     }
 
-    /// Copies as many cells from one address to another. A target piece that is shared becomes an own copy first. What the
-    /// source had before the call stands in the target after it, also where both ranges overlap. Where memory is refused,
-    /// the store is unchanged.
+    /// Copies as many cells from one address to another. A target piece that is shared becomes an own copy first. What
+    /// the source had before the call stands in the target after it, also where both ranges overlap. Where memory is
+    /// refused, the store is unchanged.
     #[tactic(auto, using(sp_cell::specs::Laws::insert_twice, sp_cell::specs::Laws::get_here))]
     pub fn copy(&mut self, to: Address, from: Address, cells: u32) -> Result<(), Memory>
         requires target { HasCells self.old.map to cells }
@@ -236,7 +238,8 @@ impl Store {
 
     /// What was written so far, or `None` where the output is not held.
     pub fn output(&self) -> Option<&[u8]>
-        ensures { MatchOption result (output_of (map.get self.now.map output_spot) ≡ None) (λ bs. output_of (map.get self.now.map output_spot) ≡ Some bs.now) }
+        ensures { MatchOption result (output_of (map.get self.now.map output_spot) ≡ None)
+            (λ bs. output_of (map.get self.now.map output_spot) ≡ Some bs.now) }
     {
         match self.slots.find(Spot {
             frame: 0,
@@ -271,7 +274,8 @@ impl Store {
         requires lent { IsLent from.now ready.old }
         requires pieces { PieceAtEach from.now handing.now.shared }
         requires distinct { DistinctByIndex handing.now.moved }
-        requires frames { IsSome handing.now.index → FramesBelow handing.now.moved 18446744073709551615 × FramesBelow handing.now.shared 18446744073709551615 }
+        requires frames { IsSome handing.now.index → FramesBelow handing.now.moved 18446744073709551615
+            × FramesBelow handing.now.shared 18446744073709551615 }
         ensures child { IfOk result (λ c. c ≡ prepared from.now handing.now) }
         ensures ready { OnOk result (ready.new ≡ lent from.now handing.now.shared ready.old) }
         ensures lent { OnOk result (IsLent from.now ready.new) }
@@ -309,9 +313,9 @@ impl Store {
         }
     }
 
-    /// Makes a child for each handing of the plan: it gets the moved spots as they are, the shared ones as shared, and an
-    /// index in a frame of its own. Here the moved spots are away after it, and the shared ones shared. All memory is taken
-    /// first: where it is refused, the store is unchanged.
+    /// Makes a child for each handing of the plan: it gets the moved spots as they are, the shared ones as shared, and
+    /// an index in a frame of its own. Here the moved spots are away after it, and the shared ones shared. All memory
+    /// is taken first: where it is refused, the store is unchanged.
     pub fn split(&mut self, plan: &List<Handing>) -> Result<List<Store>, Memory>
         requires held { AllHeld self.old.map (moved_of plan.now) }
         requires pieces { AllPieces self.old.map (shared_of plan.now) }
@@ -322,7 +326,8 @@ impl Store {
         ensures parent { OnOk result (self.new ≡ with_map self.old (handed self.old.map plan.now)) }
         ensures partition { IfOk result (λ cs. KeepsPartition self.old.map self.new.map plan.now cs) }
         // Children that are joined as they were made give all back.
-        ensures back { IfOk result (λ cs. joined_all self.new.map cs ≡ lent self.old.map (shared_of plan.now) self.old.map) }
+        ensures back { IfOk result (λ cs. joined_all self.new.map cs
+            ≡ lent self.old.map (shared_of plan.now) self.old.map) }
         ensures err { OnErr result (self.new ≡ self.old) }
     {
         let children = self.split_by(plan.items())?;

@@ -9,7 +9,10 @@ use Rattle.sp_tree.specs.declared.checked.Role.{Role}
 use Rattle.sp_tree.specs.declared.checked.Role.TheVariants as role
 use Rattle.sp_tree.specs.declared.checked.Variable.{Variable}
 use Rattle.sp_tree.specs.declared.operators.BinaryOp.TheVariants as op
-use Rattle.sp_tree.specs.PlainChecked.{Expression, At, Number, Read, Binary, Apply, Variable as Var, Entire, Whole, Select, Index, Actuals, Nothing, Pass, ByReference, Statement, Does, Empty, Assign, Call, Sequence, For, Parallel, Forall, Assume, WriteLine, Open, Statements, NoStatement, AndThen, Block, Program}
+use Rattle.sp_tree.specs.PlainChecked.{Expression, At, Number, Read, Binary, Apply, Variable as Var, Entire, Whole}
+use Rattle.sp_tree.specs.PlainChecked.{Select, Index, Actuals, Nothing, Pass, ByReference, Statement, Does, Empty}
+use Rattle.sp_tree.specs.PlainChecked.{Assign, Call, Sequence, For, Parallel, Forall, Assume, WriteLine, Open}
+use Rattle.sp_tree.specs.PlainChecked.{Statements, NoStatement, AndThen, Block, Program}
 use Rattle.sp_tree.specs.Plain as plain
 use Rattle.sp_tree.specs.Bare.{bare, bare_block}
 use Rattle.sp_tree.specs.Sets.{IsBelow, IsFree}
@@ -58,7 +61,14 @@ abbrev procedure : List ℕ → ℕ → List ℕ → Statement → Block
 procedure x c formals s = record { name = x; parent = Some 0; formals = formals; answer = None; body = s; at = place c }
 
 abbrev function : List ℕ → ℕ → List ℕ → ℕ → Statement → Block
-function x c formals y s = record { name = x; parent = Some 0; formals = formals; answer = Some y; body = s; at = place c }
+function x c formals y s = record {
+  name = x;
+  parent = Some 0;
+  formals = formals;
+  answer = Some y;
+  body = s;
+  at = place c;
+}
 
 abbrev integers : List Variable → List Block → Program
 integers xs bs = record { kinds = kind.Integer ∷ []; variables = with_consoles xs; blocks = bs }
@@ -67,8 +77,10 @@ abbrev claim : List ℕ → List ℕ → Claim
 claim targets seen = record { targets = targets; seen = seen }
 
 -- a variable of the program's block is free in every other block
-free : (g : plain.Program) (b x : ℕ) (i : plain.Variable) (k : plain.Block) → slice_get g.variables x ≡ Some i → i.block ≡ 0 → slice_get g.blocks 0 ≡ Some k → k.parent ≡ None → IsFree g (suc b) x
-free g b x i k e z at top j f n below = go n (subst (λ y. IsBelow g n y (suc b)) (ap (λ (y : plain.Variable). y.block) same ∙ z) below)
+free : (g : plain.Program) (b x : ℕ) (i : plain.Variable) (k : plain.Block) → slice_get g.variables x ≡ Some i
+    → i.block ≡ 0 → slice_get g.blocks 0 ≡ Some k → k.parent ≡ None → IsFree g (suc b) x
+free g b x i k e z at top j f n below = go n
+    (subst (λ y. IsBelow g n y (suc b)) (ap (λ (y : plain.Variable). y.block) same ∙ z) below)
   where
     same : j ≡ i
     same = cc (e, f)
@@ -88,11 +100,20 @@ abbrev two_lines : Program
 two_lines = integers [] (the_program (compound 12 (one (Does 2 (place 18) (Parallel lines)))) ∷ [])
 
 pub I1_broken : Interferes two_lines rule.I1 (place 37)
-I1_broken = (0, the_program (compound 12 (one (Does 2 (place 18) (Parallel lines)))), refl, SplitsAt lines, inl refl, inl (inl (refl, (1, inl (([], inl refl), inl ([], inl refl))))))
+I1_broken = (
+  0,
+  the_program (compound 12 (one (Does 2 (place 18) (Parallel lines)))),
+  refl,
+  SplitsAt lines,
+  inl refl,
+  inl (inl (refl, (1, inl (([], inl refl), inl ([], inl refl))))),
+)
 
 -- program e; var x: integer; begin parallel writeln | x := 1 end end.
 abbrev line_and_variable : Program
-line_and_variable = integers (declared (codes "x") 0 0 role.Local 16 ∷ []) (the_program (compound 28 (one (Does 2 (place 34) (Parallel (two (Does 3 (place 43) WriteLine) (assign 4 53 2 (num 58 1))))))) ∷ [])
+line_and_variable = integers (declared (codes "x") 0 0 role.Local 16 ∷ [])
+    (the_program (compound 28 (one (Does 2 (place 34)
+    (Parallel (two (Does 3 (place 43) WriteLine) (assign 4 53 2 (num 58 1))))))) ∷ [])
 
 pub I1_kept : BreaksNone line_and_variable
 I1_kept = breaks_none line_and_variable [] (0 ∷ []) refl
@@ -105,25 +126,45 @@ abbrev with_index : List Variable
 with_index = declared (codes "x") 0 0 role.Local 16 ∷ declared (codes "i") 0 0 role.Index 41 ∷ []
 
 pub I2_broken : Interferes (integers with_index (the_program each_assigns ∷ [])) rule.I2 (place 34)
-I2_broken = (0, the_program each_assigns, refl, SpreadsAt (place 34) 3 (assign 3 56 2 (get 61 3)), inl refl, (refl, 2, ([], inl (inl refl))))
+I2_broken = (
+  0,
+  the_program each_assigns,
+  refl,
+  SpreadsAt (place 34) 3 (assign 3 56 2 (get 61 3)),
+  inl refl,
+  (refl, 2, ([], inl (inl refl))),
+)
 
 -- program e; var x: integer; begin forall i := 1 to 3 do assume i = x end.
 abbrev each_assumes : Program
-each_assumes = integers with_index (the_program (compound 28 (one (Does 2 (place 34) (Forall 3 (num 46 1) (num 51 3) (Does 3 (place 56) (Assume (At (place 63) 0 (Binary op.Eq (get 63 3) (get 67 2))))))))) ∷ [])
+each_assumes = integers with_index (the_program
+    (compound 28 (one (Does 2 (place 34) (Forall 3 (num 46 1) (num 51 3)
+    (Does 3 (place 56) (Assume (At (place 63) 0 (Binary op.Eq (get 63 3) (get 67 2))))))))) ∷ [])
 
 pub I2_kept : BreaksNone each_assumes
 I2_kept = breaks_none each_assumes [] (0 ∷ []) refl
 
 -- I3: program e; var i: integer; begin for i := 1 to 2 do i := 1 end.
 abbrev counts_back : Statement
-counts_back = compound 28 (one (Does 2 (place 34) (For 2 (place 38) (num 43 1) false (num 48 2) (assign 3 53 2 (num 58 1)))))
+counts_back = compound 28 (one (Does 2 (place 34)
+    (For 2 (place 38) (num 43 1) false (num 48 2) (assign 3 53 2 (num 58 1)))))
 
-pub I3_broken : Interferes (integers (declared (codes "i") 0 0 role.Local 16 ∷ []) (the_program counts_back ∷ [])) rule.I3 (place 38)
-I3_broken = (0, the_program counts_back, refl, LoopsAt 2 (place 38) (assign 3 53 2 (num 58 1)), inl refl, (refl, ([], inl (inl refl))))
+pub I3_broken : Interferes (integers (declared (codes "i") 0 0 role.Local 16 ∷ []) (the_program counts_back ∷ []))
+    rule.I3 (place 38)
+I3_broken = (
+  0,
+  the_program counts_back,
+  refl,
+  LoopsAt 2 (place 38) (assign 3 53 2 (num 58 1)),
+  inl refl,
+  (refl, ([], inl (inl refl))),
+)
 
 -- program e; var i, j: integer; begin for i := 1 to 2 do j := i end.
 abbrev counts_along : Program
-counts_along = integers (declared (codes "i") 0 0 role.Local 16 ∷ declared (codes "j") 0 0 role.Local 19 ∷ []) (the_program (compound 31 (one (Does 2 (place 37) (For 2 (place 41) (num 46 1) false (num 51 2) (assign 3 56 3 (get 61 2)))))) ∷ [])
+counts_along = integers (declared (codes "i") 0 0 role.Local 16 ∷ declared (codes "j") 0 0 role.Local 19 ∷ [])
+    (the_program (compound 31 (one (Does 2 (place 37)
+    (For 2 (place 41) (num 46 1) false (num 51 2) (assign 3 56 3 (get 61 2)))))) ∷ [])
 
 pub I3_kept : BreaksNone counts_along
 I3_kept = breaks_none counts_along [] [] refl
@@ -133,16 +174,28 @@ abbrev twice : Actuals
 twice = Pass (ByReference (var 79 2)) (Pass (ByReference (var 82 2)) Nothing)
 
 abbrev passes_twice : Program
-passes_twice = integers (declared (codes "a") 0 0 role.Local 16 ∷ declared (codes "u") 0 1 role.Reference 44 ∷ declared (codes "v") 0 1 role.Reference 47 ∷ [])
-    (the_program (compound 71 (one (Does 2 (place 77) (Call 1 twice)))) ∷ procedure (codes "p") 38 (3 ∷ 4 ∷ []) (nothing_done 60) ∷ [])
+passes_twice = integers (declared (codes "a") 0 0 role.Local 16 ∷ declared (codes "u") 0 1 role.Reference 44
+    ∷ declared (codes "v") 0 1 role.Reference 47 ∷ [])
+    (the_program (compound 71 (one (Does 2 (place 77) (Call 1 twice))))
+    ∷ procedure (codes "p") 38 (3 ∷ 4 ∷ []) (nothing_done 60) ∷ [])
 
 pub I4_broken : Interferes passes_twice rule.I4 (place 82)
-I4_broken = (0, the_program (compound 71 (one (Does 2 (place 77) (Call 1 twice)))), refl, CallsAt 1 (place 77) twice, inl refl, inl (inl (refl, refl)))
+I4_broken = (
+  0,
+  the_program (compound 71 (one (Does 2 (place 77) (Call 1 twice)))),
+  refl,
+  CallsAt 1 (place 77) twice,
+  inl refl,
+  inl (inl (refl, refl)),
+)
 
 -- program e; var a, b: integer; procedure p(var u, v: integer); begin end; begin p(a, b) end.
 abbrev passes_two : Program
-passes_two = integers (declared (codes "a") 0 0 role.Local 16 ∷ declared (codes "b") 0 0 role.Local 19 ∷ declared (codes "u") 0 1 role.Reference 47 ∷ declared (codes "v") 0 1 role.Reference 50 ∷ [])
-    (the_program (compound 74 (one (Does 2 (place 80) (Call 1 (Pass (ByReference (var 82 2)) (Pass (ByReference (var 85 3)) Nothing)))))) ∷ procedure (codes "p") 41 (4 ∷ 5 ∷ []) (nothing_done 63) ∷ [])
+passes_two = integers (declared (codes "a") 0 0 role.Local 16 ∷ declared (codes "b") 0 0 role.Local 19
+    ∷ declared (codes "u") 0 1 role.Reference 47 ∷ declared (codes "v") 0 1 role.Reference 50 ∷ [])
+    (the_program (compound 74 (one (Does 2 (place 80)
+    (Call 1 (Pass (ByReference (var 82 2)) (Pass (ByReference (var 85 3)) Nothing))))))
+    ∷ procedure (codes "p") 41 (4 ∷ 5 ∷ []) (nothing_done 63) ∷ [])
 
 pub I4_kept : BreaksNone passes_two
 I4_kept = breaks_none passes_two [] [] refl
@@ -153,7 +206,8 @@ takes_a = procedure (codes "p") 38 (3 ∷ []) (compound 57 (one (assign 2 63 3 (
 
 abbrev passes_implicit : Program
 passes_implicit = integers (declared (codes "a") 0 0 role.Local 16 ∷ declared (codes "u") 0 1 role.Reference 44 ∷ [])
-    (the_program (compound 75 (one (Does 2 (place 81) (Call 1 (Pass (ByReference (var 83 2)) Nothing))))) ∷ takes_a ∷ [])
+    (the_program (compound 75 (one (Does 2 (place 81) (Call 1 (Pass (ByReference (var 83 2)) Nothing))))) ∷ takes_a
+    ∷ [])
 
 pub I5_broken : Interferes passes_implicit rule.I5 (place 83)
 I5_broken = (
@@ -162,20 +216,31 @@ I5_broken = (
   refl,
   CallsAt 1 (place 81) (Pass (ByReference (var 83 2)) Nothing),
   inl refl,
-  inl (refl, (bare_block takes_a, refl, free (bare passes_implicit) 0 2 _ _ refl refl refl refl, inr ([], inl (inr (inl refl))))),
+  inl (
+    refl,
+    (
+      bare_block takes_a,
+      refl,
+      free (bare passes_implicit) 0 2 _ _ refl refl refl refl,
+      inr ([], inl (inr (inl refl))),
+    ),
+  ),
 )
 
 -- program e; var a, b: integer; procedure p(var u: integer); begin u := a end; begin p(b) end.
 abbrev passes_other : Program
-passes_other = integers (declared (codes "a") 0 0 role.Local 16 ∷ declared (codes "b") 0 0 role.Local 19 ∷ declared (codes "u") 0 1 role.Reference 47 ∷ [])
-    (the_program (compound 78 (one (Does 2 (place 84) (Call 1 (Pass (ByReference (var 86 3)) Nothing))))) ∷ procedure (codes "p") 41 (4 ∷ []) (compound 60 (one (assign 2 66 4 (get 71 2)))) ∷ [])
+passes_other = integers (declared (codes "a") 0 0 role.Local 16 ∷ declared (codes "b") 0 0 role.Local 19
+    ∷ declared (codes "u") 0 1 role.Reference 47 ∷ [])
+    (the_program (compound 78 (one (Does 2 (place 84) (Call 1 (Pass (ByReference (var 86 3)) Nothing)))))
+    ∷ procedure (codes "p") 41 (4 ∷ []) (compound 60 (one (assign 2 66 4 (get 71 2)))) ∷ [])
 
 pub I5_kept : BreaksNone passes_other
 I5_kept = breaks_none passes_other (claim [] [] ∷ claim [] (2 ∷ []) ∷ []) [] refl
 
 -- I6: program e; var x: integer; procedure p; begin x := 1; p end; begin end.
 abbrev calls_itself : Block
-calls_itself = procedure (codes "p") 38 [] (compound 41 (two (assign 2 47 2 (num 52 1)) (Does 3 (place 55) (Call 1 Nothing))))
+calls_itself = procedure (codes "p") 38 [] (compound 41
+    (two (assign 2 47 2 (num 52 1)) (Does 3 (place 55) (Call 1 Nothing))))
 
 abbrev recursive : Program
 recursive = integers (declared (codes "x") 0 0 role.Local 16 ∷ []) (the_program (nothing_done 62) ∷ calls_itself ∷ [])
@@ -194,14 +259,18 @@ I6_broken = (
 
 -- program e; procedure p; begin writeln; p end; begin end.
 abbrev recursive_writer : Program
-recursive_writer = integers [] (the_program (nothing_done 47) ∷ procedure (codes "p") 22 [] (compound 25 (two (Does 2 (place 31) WriteLine) (Does 3 (place 40) (Call 1 Nothing)))) ∷ [])
+recursive_writer = integers [] (the_program (nothing_done 47)
+    ∷ procedure (codes "p") 22 [] (compound 25 (two (Does 2 (place 31) WriteLine) (Does 3 (place 40) (Call 1 Nothing))))
+    ∷ [])
 
 pub I6_kept : BreaksNone recursive_writer
 I6_kept = breaks_none recursive_writer (claim [] [] ∷ claim (1 ∷ []) [] ∷ []) (1 ∷ []) refl
 
 -- program e; var x: integer; procedure p; begin x := 1 end; begin p end.
 abbrev called_outside : Program
-called_outside = integers (declared (codes "x") 0 0 role.Local 16 ∷ []) (the_program (compound 59 (one (Does 2 (place 65) (Call 1 Nothing)))) ∷ procedure (codes "p") 38 [] (compound 41 (one (assign 2 47 2 (num 52 1)))) ∷ [])
+called_outside = integers (declared (codes "x") 0 0 role.Local 16 ∷ [])
+    (the_program (compound 59 (one (Does 2 (place 65) (Call 1 Nothing))))
+    ∷ procedure (codes "p") 38 [] (compound 41 (one (assign 2 47 2 (num 52 1)))) ∷ [])
 
 pub I6_kept_outside : BreaksNone called_outside
 I6_kept_outside = breaks_none called_outside (claim [] [] ∷ claim (2 ∷ []) [] ∷ []) [] refl
@@ -213,12 +282,15 @@ by_reference = function (codes "f") 21 (2 ∷ []) 3 (compound 49 (one (assign 2 
 abbrev formal : Variable
 formal = declared (codes "x") 0 1 role.Reference 27
 
-pub I7_broken : Interferes (integers (formal ∷ declared (codes "f") 0 1 role.Answer 21 ∷ []) (the_program (nothing_done 67) ∷ by_reference ∷ [])) rule.I7 (place 27)
+pub I7_broken : Interferes (integers (formal ∷ declared (codes "f") 0 1 role.Answer 21 ∷ [])
+    (the_program (nothing_done 67) ∷ by_reference ∷ [])) rule.I7 (place 27)
 I7_broken = (1, by_reference, refl, (bare_block by_reference, 3, refl, refl), 2, inl refl, formal, refl, refl, refl)
 
 -- program e; function f(x: integer): integer; begin f := 1 end; begin end.
 abbrev by_value : Program
-by_value = integers (declared (codes "x") 0 1 role.Value 23 ∷ declared (codes "f") 0 1 role.Answer 21 ∷ []) (the_program (nothing_done 63) ∷ function (codes "f") 21 (2 ∷ []) 3 (compound 45 (one (assign 2 51 3 (num 56 1)))) ∷ [])
+by_value = integers (declared (codes "x") 0 1 role.Value 23 ∷ declared (codes "f") 0 1 role.Answer 21 ∷ [])
+    (the_program (nothing_done 63) ∷ function (codes "f") 21 (2 ∷ []) 3 (compound 45 (one (assign 2 51 3 (num 56 1))))
+    ∷ [])
 
 pub I7_kept : BreaksNone by_value
 I7_kept = breaks_none by_value [] [] refl
@@ -234,53 +306,82 @@ abbrev with_effect : Program
 with_effect = integers global_and_answer (the_program (nothing_done 75) ∷ assigns_global ∷ [])
 
 pub I8_broken : Interferes with_effect rule.I8 (place 37)
-I8_broken = (1, assigns_global, refl, refl, (bare_block assigns_global, 3, refl, refl), 2, (bare_block assigns_global, refl, free (bare with_effect) 0 2 _ _ refl refl refl refl, ([], inl (inl (inl refl)))))
+I8_broken = (
+  1,
+  assigns_global,
+  refl,
+  refl,
+  (bare_block assigns_global, 3, refl, refl),
+  2,
+  (bare_block assigns_global, refl, free (bare with_effect) 0 2 _ _ refl refl refl refl, ([], inl (inl (inl refl)))),
+)
 
 -- program e; var x: integer; function f: integer; begin f := x end; begin end.
 abbrev sees_global : Program
-sees_global = integers global_and_answer (the_program (nothing_done 67) ∷ function (codes "f") 37 [] 3 (compound 49 (one (assign 2 55 3 (get 60 2)))) ∷ [])
+sees_global = integers global_and_answer (the_program (nothing_done 67)
+    ∷ function (codes "f") 37 [] 3 (compound 49 (one (assign 2 55 3 (get 60 2)))) ∷ [])
 
 pub I8_kept : BreaksNone sees_global
 I8_kept = breaks_none sees_global (claim [] [] ∷ claim [] (2 ∷ []) ∷ []) [] refl
 
 -- I9: program e; type t = *(integer); function f: integer; var c: t; begin open(c); f := 1 end; begin end.
 abbrev opens : Block
-opens = function (codes "f") 42 [] 2 (compound 64 (two (Does 2 (place 70) (Open (var 75 3))) (assign 3 79 2 (num 84 1))))
+opens = function (codes "f") 42 [] 2 (compound 64
+    (two (Does 2 (place 70) (Open (var 75 3))) (assign 3 79 2 (num 84 1))))
 
 abbrev channels : List Variable → List Block → Program
 channels xs bs = record { kinds = kind.Integer ∷ kind.Channel (0 ∷ []) ∷ []; variables = with_consoles xs; blocks = bs }
 
-pub I9_broken : Interferes (channels (declared (codes "f") 0 1 role.Answer 42 ∷ declared (codes "c") 1 1 role.Local 58 ∷ []) (the_program (nothing_done 91) ∷ opens ∷ [])) rule.I9 (place 70)
+pub I9_broken : Interferes (channels (declared (codes "f") 0 1 role.Answer 42 ∷ declared (codes "c") 1 1 role.Local 58
+    ∷ []) (the_program (nothing_done 91) ∷ opens ∷ [])) rule.I9 (place 70)
 I9_broken = (1, opens, refl, (bare_block opens, 2, refl, refl), StopsAt (place 70), inl refl, refl)
 
 -- program e; type t = *(integer); procedure f; var c: t; begin open(c) end; begin end.
 abbrev procedure_opens : Program
-procedure_opens = channels (declared (codes "c") 1 1 role.Local 50 ∷ []) (the_program (nothing_done 75) ∷ procedure (codes "f") 43 [] (compound 56 (one (Does 2 (place 62) (Open (var 67 2))))) ∷ [])
+procedure_opens = channels (declared (codes "c") 1 1 role.Local 50 ∷ [])
+    (the_program (nothing_done 75) ∷ procedure (codes "f") 43 []
+    (compound 56 (one (Does 2 (place 62) (Open (var 67 2))))) ∷ [])
 
 pub I9_kept : BreaksNone procedure_opens
 I9_kept = breaks_none procedure_opens [] (1 ∷ []) refl
 
 -- I9 by a call in a selector:
--- program e; type t = array [1..2] of integer; function g: integer; begin g := 1; writeln end; function f: integer; var a: t; begin a[g] := 1; f := 1 end; begin end.
+-- program e; type t = array [1..2] of integer; function g: integer; begin g := 1; writeln end; function f: integer; var
+-- a: t; begin a[g] := 1; f := 1 end; begin end.
 abbrev writes : Block
 writes = function (codes "g") 55 [] 2 (compound 67 (two (assign 2 73 2 (num 78 1)) (Does 3 (place 81) WriteLine)))
 
 abbrev selects : ℕ → ℕ → Block
-selects c d = function (codes "f") c [] 3 (compound (c + 22) (two (Does 2 (place d) (Assign (Entire 4 (place d) (Select (Index (At (place (d + 2)) 0 (Apply 1 (place (d + 2)) Nothing))) Whole)) (num (d + 8) 1))) (assign 3 (d + 11) 3 (num (d + 16) 1))))
+selects c d = function (codes "f") c [] 3 (compound (c + 22)
+    (two (Does 2 (place d) (Assign (Entire 4 (place d)
+    (Select (Index (At (place (d + 2)) 0 (Apply 1 (place (d + 2)) Nothing))) Whole)) (num (d + 8) 1)))
+    (assign 3 (d + 11) 3 (num (d + 16) 1))))
 
 abbrev arrays : ℕ → ℕ → List Block → Program
 arrays c d bs = record {
   kinds = kind.Integer ∷ kind.Array (pos 1) (pos 2) 0 0 ∷ [];
-  variables = with_consoles (declared (codes "g") 0 1 role.Answer 55 ∷ declared (codes "f") 0 2 role.Answer c ∷ declared (codes "a") 1 2 role.Local d ∷ []);
+  variables = with_consoles (declared (codes "g") 0 1 role.Answer 55 ∷ declared (codes "f") 0 2 role.Answer c
+      ∷ declared (codes "a") 1 2 role.Local d ∷ []);
   blocks = bs;
 }
 
-pub I9_broken_in_a_selector : Interferes (arrays 103 119 (the_program (nothing_done 154) ∷ writes ∷ selects 103 131 ∷ [])) rule.I9 (place 133)
-I9_broken_in_a_selector = (2, selects 103 131, refl, (bare_block (selects 103 131), 3, refl, refl), CallsAt 1 (place 133) Nothing, inl refl, (refl, (bare_block writes, refl, [], inr (inl (inr refl)))))
+pub I9_broken_in_a_selector : Interferes (arrays 103 119
+    (the_program (nothing_done 154) ∷ writes ∷ selects 103 131 ∷ [])) rule.I9 (place 133)
+I9_broken_in_a_selector = (
+  2,
+  selects 103 131,
+  refl,
+  (bare_block (selects 103 131), 3, refl, refl),
+  CallsAt 1 (place 133) Nothing,
+  inl refl,
+  (refl, (bare_block writes, refl, [], inr (inl (inr refl)))),
+)
 
--- program e; type t = array [1..2] of integer; function g: integer; begin g := 1 end; function f: integer; var a: t; begin a[g] := 1; f := 1 end; begin end.
+-- program e; type t = array [1..2] of integer; function g: integer; begin g := 1 end; function f: integer; var a: t;
+-- begin a[g] := 1; f := 1 end; begin end.
 abbrev calls_silent : Program
-calls_silent = arrays 94 110 (the_program (nothing_done 145) ∷ function (codes "g") 55 [] 2 (compound 67 (one (assign 2 73 2 (num 78 1)))) ∷ selects 94 122 ∷ [])
+calls_silent = arrays 94 110 (the_program (nothing_done 145)
+    ∷ function (codes "g") 55 [] 2 (compound 67 (one (assign 2 73 2 (num 78 1)))) ∷ selects 94 122 ∷ [])
 
 pub I9_kept_in_a_selector : BreaksNone calls_silent
 I9_kept_in_a_selector = breaks_none calls_silent [] [] refl

@@ -5,7 +5,9 @@ use Rattle.sp_tree.specs.declared.checked.KindOf.TheVariants as kind
 use Rattle.sp_tree.specs.declared.checked.Role.{Role}
 use Rattle.sp_tree.specs.declared.checked.Role.TheVariants as role
 use Rattle.sp_tree.specs.declared.operators.BinaryOp.TheVariants as op
-use Rattle.sp_tree.specs.Plain.{Expr, Typed, Number, Read, Binary, Apply, Var, Entire, Whole, Index, Select, ByValue, ByReference, Actuals, Nothing, Pass, Program, Variable, Block, Stmt, Assign, Call, Sequence, IfElse, Parallel, Forall, WriteValue, Open, Send, Receive, No, And}
+use Rattle.sp_tree.specs.Plain.{Expr, Typed, Number, Read, Binary, Apply, Var, Entire, Whole, Index, Select, ByValue}
+use Rattle.sp_tree.specs.Plain.{ByReference, Actuals, Nothing, Pass, Program, Variable, Block, Stmt, Assign, Call}
+use Rattle.sp_tree.specs.Plain.{Sequence, IfElse, Parallel, Forall, WriteValue, Open, Send, Receive, No, And}
 use Rattle.sp_tree.specs.Interference.{KeepsI1, KeepsI2, KeepsI4, IsFreeOfInterference}
 use Rattle.sp_tree.proofs.Certified.{Claim, certified}
 
@@ -58,13 +60,20 @@ abbrev by_reference : ℕ → ℕ → Actuals
 by_reference x y = Pass (ByReference (var x)) (Pass (ByReference (var y)) Nothing)
 
 abbrev sets_both : Block
-sets_both = record { parent = Some 0; formals = 4 ∷ 5 ∷ []; answer = None; body = Parallel (And (Assign (var 4) (num 1)) (And (Assign (var 5) (num 2)) No)) }
+sets_both = record {
+  parent = Some 0;
+  formals = 4 ∷ 5 ∷ [];
+  answer = None;
+  body = Parallel (And (Assign (var 4) (num 1)) (And (Assign (var 5) (num 2)) No));
+}
 
 abbrev parameters : Program
 parameters = record {
   kinds = kind.Integer ∷ [];
-  variables = console ∷ console ∷ declared 0 0 role.Local ∷ declared 0 0 role.Local ∷ declared 0 1 role.Reference ∷ declared 0 1 role.Reference ∷ [];
-  blocks = the_program (Sequence (And (Call 1 (by_reference 2 3)) (And (WriteValue (get 2) None) (And (WriteValue (get 3) None) No)))) ∷ sets_both ∷ [];
+  variables = console ∷ console ∷ declared 0 0 role.Local ∷ declared 0 0 role.Local ∷ declared 0 1 role.Reference
+      ∷ declared 0 1 role.Reference ∷ [];
+  blocks = the_program (Sequence (And (Call 1 (by_reference 2 3))
+      (And (WriteValue (get 2) None) (And (WriteValue (get 3) None) No)))) ∷ sets_both ∷ [];
 }
 
 pub parameters_keep : IsFreeOfInterference parameters
@@ -84,7 +93,9 @@ factorial = record {
         parent = Some 0;
         formals = 2 ∷ [];
         answer = Some 3;
-        body = IfElse (Typed 0 (Binary op.Eq (get 2) (num 0))) (Assign (var 3) (num 1)) (Assign (var 3) (Typed 0 (Binary op.Mul (get 2) (Typed 0 (Apply 1 (Pass (ByValue (minus (get 2) 1)) Nothing))))));
+        body = IfElse (Typed 0 (Binary op.Eq (get 2) (num 0))) (Assign (var 3) (num 1))
+            (Assign (var 3) (Typed 0 (Binary op.Mul (get 2)
+            (Typed 0 (Apply 1 (Pass (ByValue (minus (get 2) 1)) Nothing))))));
       } ∷ [];
 }
 
@@ -93,15 +104,23 @@ factorial_keeps = certified factorial [] refl
 
 -- a pipeline of nodes
 abbrev node : Block
-node = record { parent = Some 0; formals = 4 ∷ 5 ∷ []; answer = None; body = Sequence (And (Receive (get 4) (var 6)) (And (Send (get 5) (plus (get 6) 1)) No)) }
+node = record {
+  parent = Some 0;
+  formals = 4 ∷ 5 ∷ [];
+  answer = None;
+  body = Sequence (And (Receive (get 4) (var 6)) (And (Send (get 5) (plus (get 6) 1)) No));
+}
 
 abbrev pipeline : Program
 pipeline = record {
   kinds = kind.Integer ∷ kind.Channel (0 ∷ []) ∷ kind.Array (pos 0) (pos 3) 0 1 ∷ [];
-  variables = console ∷ console ∷ declared 2 0 role.Local ∷ declared 0 0 role.Local ∷ declared 1 1 role.Value ∷ declared 1 1 role.Value ∷ declared 0 1 role.Local ∷ declared 0 0 role.Index ∷ [];
-  blocks = the_program (Sequence (And (Open (at 2 (num 0))) (And (Open (at 2 (num 1))) (And (Open (at 2 (num 2))) (And (Open (at 2 (num 3)))
+  variables = console ∷ console ∷ declared 2 0 role.Local ∷ declared 0 0 role.Local ∷ declared 1 1 role.Value
+      ∷ declared 1 1 role.Value ∷ declared 0 1 role.Local ∷ declared 0 0 role.Index ∷ [];
+  blocks = the_program (Sequence (And (Open (at 2 (num 0)))
+      (And (Open (at 2 (num 1))) (And (Open (at 2 (num 2))) (And (Open (at 2 (num 3)))
       (And (Parallel (And (Send (get_at 2 (num 0)) (num 10))
-      (And (Forall 7 (num 1) (num 3) (Call 1 (Pass (ByValue (get_at 2 (minus (get 7) 1))) (Pass (ByValue (get_at 2 (get 7))) Nothing))))
+      (And (Forall 7 (num 1) (num 3) (Call 1
+      (Pass (ByValue (get_at 2 (minus (get 7) 1))) (Pass (ByValue (get_at 2 (get 7))) Nothing))))
       (And (Receive (get_at 2 (num 3)) (var 3)) No))))
       (And (WriteValue (get 3) None) No))))))) ∷ node ∷ [];
 }
@@ -114,8 +133,11 @@ abbrev tree : Program
 tree = record {
   kinds = kind.Integer ∷ kind.Channel (0 ∷ []) ∷ [];
   variables = console ∷ console ∷ declared 1 0 role.Local ∷ declared 0 0 role.Local
-      ∷ declared 0 1 role.Value ∷ declared 1 1 role.Value ∷ declared 1 1 role.Local ∷ declared 1 1 role.Local ∷ declared 0 1 role.Local ∷ declared 0 1 role.Local ∷ [];
-  blocks = the_program (Sequence (And (Open (var 2)) (And (Parallel (And (Call 1 (Pass (ByValue (num 4)) (Pass (ByValue (get 2)) Nothing))) (And (Receive (get 2) (var 3)) No))) (And (WriteValue (get 3) None) No))))
+      ∷ declared 0 1 role.Value ∷ declared 1 1 role.Value ∷ declared 1 1 role.Local ∷ declared 1 1 role.Local
+      ∷ declared 0 1 role.Local ∷ declared 0 1 role.Local ∷ [];
+  blocks = the_program (Sequence (And (Open (var 2))
+      (And (Parallel (And (Call 1 (Pass (ByValue (num 4)) (Pass (ByValue (get 2)) Nothing)))
+      (And (Receive (get 2) (var 3)) No))) (And (WriteValue (get 3) None) No))))
       ∷ record {
         parent = Some 0;
         formals = 4 ∷ 5 ∷ [];
@@ -124,7 +146,9 @@ tree = record {
             (Sequence (And (Open (var 6)) (And (Open (var 7)) (And (Parallel
             (And (Call 1 (Pass (ByValue (minus (get 4) 1)) (Pass (ByValue (get 6)) Nothing)))
             (And (Call 1 (Pass (ByValue (minus (get 4) 1)) (Pass (ByValue (get 7)) Nothing)))
-            (And (Sequence (And (Receive (get 6) (var 8)) (And (Receive (get 7) (var 9)) (And (Send (get 5) (Typed 0 (Binary op.Add (get 8) (get 9)))) No)))) No)))) No))));
+            (And (Sequence (And (Receive (get 6) (var 8))
+            (And (Receive (get 7) (var 9)) (And (Send (get 5) (Typed 0 (Binary op.Add (get 8) (get 9)))) No))))
+            No)))) No))));
       } ∷ [];
 }
 
@@ -142,7 +166,8 @@ pub both_write_refused : KeepsI1 two (And (WriteValue (num 1) None) (And (WriteV
 both_write_refused h = h.0 1 ([], inl refl) (inl ([], inl (inl refl)))
 
 -- a component counts as its entire variable
-pub components_refused : KeepsI1 pipeline (And (Assign (at 2 (num 1)) (num 1)) (And (Assign (at 2 (num 2)) (num 2)) No)) → ⊥
+pub components_refused : KeepsI1 pipeline (And (Assign (at 2 (num 1)) (num 1)) (And (Assign (at 2 (num 2)) (num 2)) No))
+    → ⊥
 components_refused h = h.0 2 ([], inl (inl refl)) (inl ([], inl (inl (inl refl))))
 
 -- an element statement with a target

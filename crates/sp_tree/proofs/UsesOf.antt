@@ -1,7 +1,13 @@
 -- The uses in a statement as a list.
-use Rattle.std.proofs.Common.{◌≡◌, ◌≢◌, ◌⊎◌, inl, inr, ℕ, Bool, true, false, cond, not, ◌==◌, List, [], ◌∷◌, ◌++◌, Option, Some, None, refl, eqb-true}
-use Rattle.sp_tree.specs.Plain.{Expr, Typed, ExprForm, Number, Read, Unary, Binary, Apply, Standard, AtInput, Var, Entire, Index, Field, Selectors, Whole, Select, ByValue, ByReference, Actuals, Nothing, Pass, Stmt, Empty, Assign, Call, Sequence, If, IfElse, While, Repeat, For, Case, Parallel, Forall, Assume, ReadValue, ReadLine, WriteValue, WriteText, WriteLine, Open, Send, Receive, Stmts, No, And, On, Arms, NoArm, Or}
-use Rattle.sp_tree.specs.Uses.{Use, Target, Seen, CallOf, ParallelOf, ForallOf, Stop, In_expr, In_form, In_read, In_target, In_selectors, In_actuals, In_width, IsOther, In_stmt, In_stmts, In_arms}
+use Rattle.std.proofs.Common.{◌≡◌, ◌≢◌, ◌⊎◌, inl, inr, ℕ, Bool, true, false, cond, not, ◌==◌, List, [], ◌∷◌, ◌++◌}
+use Rattle.std.proofs.Common.{Option, Some, None, refl, eqb-true}
+use Rattle.sp_tree.specs.Plain.{Expr, Typed, ExprForm, Number, Read, Unary, Binary, Apply, Standard, AtInput, Var}
+use Rattle.sp_tree.specs.Plain.{Entire, Index, Field, Selectors, Whole, Select, ByValue, ByReference, Actuals, Nothing}
+use Rattle.sp_tree.specs.Plain.{Pass, Stmt, Empty, Assign, Call, Sequence, If, IfElse, While, Repeat, For, Case}
+use Rattle.sp_tree.specs.Plain.{Parallel, Forall, Assume, ReadValue, ReadLine, WriteValue, WriteText, WriteLine, Open}
+use Rattle.sp_tree.specs.Plain.{Send, Receive, Stmts, No, And, On, Arms, NoArm, Or}
+use Rattle.sp_tree.specs.Uses.{Use, Target, Seen, CallOf, ParallelOf, ForallOf, Stop, In_expr, In_form, In_read}
+use Rattle.sp_tree.specs.Uses.{In_target, In_selectors, In_actuals, In_width, IsOther, In_stmt, In_stmts, In_arms}
 
 abbrev pub Among : Use → List Use → Type 0
 Among u [] = ⊥
@@ -124,13 +130,16 @@ mutual
 
   selectors_among : (ss : Selectors) (u : Use) → In_selectors ss u → Among u (selectors_uses ss)
   selectors_among Whole u h = h
-  selectors_among (Select (Index e) rest) u h = either u (expr_uses e) (selectors_uses rest) (expr_among e u) (selectors_among rest u) h
+  selectors_among (Select (Index e) rest) u h =
+      either u (expr_uses e) (selectors_uses rest) (expr_among e u) (selectors_among rest u) h
   selectors_among (Select (Field f) rest) u h = selectors_among rest u h
 
   actuals_among : (args : Actuals) (u : Use) → In_actuals args u → Among u (actuals_uses args)
   actuals_among Nothing u h = h
-  actuals_among (Pass (ByValue e) rest) u h = either u (expr_uses e) (actuals_uses rest) (expr_among e u) (actuals_among rest u) h
-  actuals_among (Pass (ByReference v) rest) u h = either u (target_uses v) (actuals_uses rest) (target_among v u) (actuals_among rest u) h
+  actuals_among (Pass (ByValue e) rest) u h =
+      either u (expr_uses e) (actuals_uses rest) (expr_among e u) (actuals_among rest u) h
+  actuals_among (Pass (ByReference v) rest) u h =
+      either u (target_uses v) (actuals_uses rest) (target_among v u) (actuals_among rest u) h
 
 width_among : (w : Option Expr) (u : Use) → In_width w u → Among u (width_uses w)
 width_among None u h = h
@@ -178,19 +187,25 @@ mutual
   stmt_among (Call f args) u (inr h) = inr (actuals_among args u h)
   stmt_among (Sequence ss) u h = stmts_among ss u h
   stmt_among (If e a) u h = either u (expr_uses e) (stmt_uses a) (expr_among e u) (stmt_among a u) h
-  stmt_among (IfElse e a b) u h = either u (expr_uses e) (stmt_uses a ++ stmt_uses b) (expr_among e u) (either u (stmt_uses a) (stmt_uses b) (stmt_among a u) (stmt_among b u)) h
+  stmt_among (IfElse e a b) u h = either u (expr_uses e) (stmt_uses a ++ stmt_uses b) (expr_among e u)
+      (either u (stmt_uses a) (stmt_uses b) (stmt_among a u) (stmt_among b u)) h
   stmt_among (While e s) u h = either u (expr_uses e) (stmt_uses s) (expr_among e u) (stmt_among s u) h
   stmt_among (Repeat s e) u h = either u (expr_uses e) (stmt_uses s) (expr_among e u) (stmt_among s u) h
   stmt_among (For x from down to s) u (inl e) = inl e
-  stmt_among (For x from down to s) u (inr h) = inr (either u (expr_uses from) (expr_uses to ++ stmt_uses s) (expr_among from u) (either u (expr_uses to) (stmt_uses s) (expr_among to u) (stmt_among s u)) h)
+  stmt_among (For x from down to s) u (inr h) =
+      inr (either u (expr_uses from) (expr_uses to ++ stmt_uses s) (expr_among from u)
+      (either u (expr_uses to) (stmt_uses s) (expr_among to u) (stmt_among s u)) h)
   stmt_among (Case e arms) u h = either u (expr_uses e) (arms_uses arms) (expr_among e u) (arms_among arms u) h
   stmt_among (Parallel ss) u (inl e) = inl e
   stmt_among (Parallel ss) u (inr (inl h)) = inr (inr (stmts_among ss u h))
   stmt_among (Parallel ss) u (inr (inr e)) = inr (inl e)
   stmt_among (Forall x from to s) u (inl e) = inl e
   stmt_among (Forall x from to s) u (inr (inl h)) = inr (inr (among_left u (expr_uses from) _ (expr_among from u h)))
-  stmt_among (Forall x from to s) u (inr (inr (inl h))) = inr (inr (among_right u (expr_uses from) _ (among_left u (expr_uses to) _ (expr_among to u h))))
-  stmt_among (Forall x from to s) u (inr (inr (inr (inl h)))) = inr (inr (among_right u (expr_uses from) _ (among_right u (expr_uses to) _ (other_among x (stmt_uses s) u (stmt_among s u h.0) h.1))))
+  stmt_among (Forall x from to s) u (inr (inr (inl h))) =
+      inr (inr (among_right u (expr_uses from) _ (among_left u (expr_uses to) _ (expr_among to u h))))
+  stmt_among (Forall x from to s) u (inr (inr (inr (inl h)))) =
+      inr (inr (among_right u (expr_uses from) _
+      (among_right u (expr_uses to) _ (other_among x (stmt_uses s) u (stmt_among s u h.0) h.1))))
   stmt_among (Forall x from to s) u (inr (inr (inr (inr e)))) = inr (inl e)
   stmt_among (Assume e) u h = expr_among e u h
   stmt_among (ReadValue v) u (inl e) = inl e

@@ -1,6 +1,8 @@
+-- All of this belongs to what the program promises (docs/promise.txt).
 -- What stands around a place in a program: the scopes, the innermost first, and what variable parameters stand for.
 -- The meaning, the definition of code and the generator count static levels by it, so that all three count alike.
-use Rattle.std.specs.Prelude.{ℕ, zero, suc, ◌==◌, List, [], ◌∷◌, Option, Some, None, Bool, false, if◌then◌else◌, slice_get, length}
+use Rattle.std.specs.Prelude.{ℕ, zero, suc, ◌==◌, List, [], ◌∷◌, Option, Some, None, Bool, false, if◌then◌else◌}
+use Rattle.std.specs.Prelude.{slice_get, length}
 use Rattle.sp_tree.specs.Plain.{Program, Block}
 
 -- a scope: a block, or the element statement of a forall

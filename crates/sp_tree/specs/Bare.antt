@@ -1,9 +1,15 @@
+-- All of this belongs to what the program promises (docs/promise.txt).
 -- How places are left out of a plain checked tree, which gives the plain tree that the meaning runs. Contracts on a
 -- checked tree in memory say by it what the tree means; places serve reports alone, so the meaning knows none.
 use Rattle.std.specs.Prelude.{map, Option, Some, None}
 use Rattle.sp_tree.specs.declared.checked.Variable as memory
 use Rattle.sp_tree.specs.PlainChecked as p
-use Rattle.sp_tree.specs.Plain.{Expr, Typed, ExprForm, Number, Read, Unary, Binary, Apply, Standard, AtInput, Var, Entire, Selector, Selectors, Whole, Select, Index, Field, Actual, Actuals, Nothing, Pass, ByValue, ByReference, Stmt, Empty, Assign, Call, Sequence, If, IfElse, While, Repeat, For, Case, Parallel, Forall, Assume, ReadValue, ReadLine, WriteValue, WriteText, WriteLine, Open, Send, Receive, Stmts, No, And, Arm, On, Arms, NoArm, Or, Variable, Block, Program}
+use Rattle.sp_tree.specs.Plain.{Expr, Typed, ExprForm, Number, Read, Unary, Binary, Apply, Standard, AtInput, Var}
+use Rattle.sp_tree.specs.Plain.{Entire, Selector, Selectors, Whole, Select, Index, Field, Actual, Actuals, Nothing}
+use Rattle.sp_tree.specs.Plain.{Pass, ByValue, ByReference, Stmt, Empty, Assign, Call, Sequence, If, IfElse, While}
+use Rattle.sp_tree.specs.Plain.{Repeat, For, Case, Parallel, Forall, Assume, ReadValue, ReadLine, WriteValue, WriteText}
+use Rattle.sp_tree.specs.Plain.{WriteLine, Open, Send, Receive, Stmts, No, And, Arm, On, Arms, NoArm, Or, Variable}
+use Rattle.sp_tree.specs.Plain.{Block, Program}
 
 abbrev mutual
   pub bare_expression : p.Expression → Expr
@@ -54,7 +60,8 @@ abbrev mutual
   bare_statement_form (p.If e s (p.Else t)) = IfElse (bare_expression e) (bare_statement s) (bare_statement t)
   bare_statement_form (p.While e s) = While (bare_expression e) (bare_statement s)
   bare_statement_form (p.Repeat s e) = Repeat (bare_statement s) (bare_expression e)
-  bare_statement_form (p.For x at from down to s) = For x (bare_expression from) down (bare_expression to) (bare_statement s)
+  bare_statement_form (p.For x at from down to s) =
+      For x (bare_expression from) down (bare_expression to) (bare_statement s)
   bare_statement_form (p.Case e arms) = Case (bare_expression e) (bare_arms arms)
   bare_statement_form (p.Parallel ss) = Parallel (bare_statements ss)
   bare_statement_form (p.Forall x from to s) = Forall x (bare_expression from) (bare_expression to) (bare_statement s)

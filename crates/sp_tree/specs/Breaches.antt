@@ -1,3 +1,4 @@
+-- All of this belongs to what the program promises (docs/promise.txt).
 -- The rules of the grammar that a list of tokens breaks, and the first rule that a text breaks. The contracts of the
 -- parser, the formatter and the front cite it. It asks which tokens could go on, and not what a parser does. G1 and
 -- L2 hold of a token and of all behind it; the first of them, by place and then by row, is the one that is reported.
@@ -52,7 +53,8 @@ BreaksGrammar text ts r at = ⊥
 
 -- The first rule of the first two phases that the text breaks: of its characters, or of its tokens where it has them.
 abbrev pub IsFirstBroken : List ℕ → Refusal → Type 0
-IsFirstBroken text r = IsFirst (BreaksLexis text) r ⊎ ((ts : List Token) × IsTokens text ts × IsFirst (BreaksGrammar text ts) r)
+IsFirstBroken text r = IsFirst (BreaksLexis text) r
+    ⊎ ((ts : List Token) × IsTokens text ts × IsFirst (BreaksGrammar text ts) r)
 
 -- The tree of a text that breaks no rule of these phases.
 pub record IsTree (text : List ℕ) (p : Program) : Type 0 where

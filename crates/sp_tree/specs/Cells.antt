@@ -1,6 +1,8 @@
+-- All of this belongs to what the program promises (docs/promise.txt).
 -- The cells of types and of blocks' frames, by tables in order of numbers, since a type rests on types before it. The
 -- rules of sizes, the meaning, the code and the generator share it.
-use Rattle.std.specs.Prelude.{ℕ, suc, ◌*◌, ◌==◌, ℤ, pos, ◌+ℤ◌, ◌-ℤ◌, nat_abs, if◌then◌else◌, List, [], ◌∷◌, ◌++◌, Option, Some, None, slice_get, map, sum}
+use Rattle.std.specs.Prelude.{ℕ, suc, ◌*◌, ◌==◌, ℤ, pos, ◌+ℤ◌, ◌-ℤ◌, nat_abs, if◌then◌else◌, List, [], ◌∷◌, ◌++◌}
+use Rattle.std.specs.Prelude.{Option, Some, None, slice_get, map, sum}
 use Rattle.sp_tree.specs.declared.checked.KindOf.{KindOf}
 use Rattle.sp_tree.specs.declared.checked.KindOf.TheVariants as kind
 use Rattle.sp_tree.specs.declared.checked.Role.{Role}
@@ -55,4 +57,5 @@ cells_by sizes role.Answer k = first_or 0 (slice_get sizes k)
 
 -- the cells of a block's frame
 abbrev pub cells_of_frame : Program → ℕ → ℕ
-cells_of_frame p b = sum (map (λ (x : ℕ × Variable). cells_by (sizes p.kinds) x.1.role x.1.kind) (variables_of b 0 p.variables))
+cells_of_frame p b = sum (map (λ (x : ℕ × Variable). cells_by (sizes p.kinds) x.1.role x.1.kind)
+    (variables_of b 0 p.variables))

@@ -1,3 +1,4 @@
+-- All of this belongs to what the program promises (docs/promise.txt).
 -- The bytes of a text: letters, digits, blanks. The definitions of tokens and of items that are read cite it, and the
 -- tests on bytes promise it.
 use Rattle.std.specs.Prelude.{ℕ, ◌+◌, Bool, ◌||◌, ◌&&◌, nat_le, ◌==◌, cond}

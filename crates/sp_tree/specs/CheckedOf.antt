@@ -1,3 +1,4 @@
+-- Some of this belongs to what the program promises (docs/promise.txt).
 -- The plain tree, with its places, of a checked one in memory: the one fold to it. Contracts of the walks over the
 -- tree in memory speak of plain trees by it. It is a fold on what memory holds, and definitions go by clauses on what
 -- it gives.
@@ -15,7 +16,13 @@ use Rattle.sp_tree.specs.declared.checked.Form as checked_stmt_form
 use Rattle.sp_tree.specs.declared.checked.Arm as checked_arm
 use Rattle.sp_tree.specs.declared.checked.Block as checked_block
 use Rattle.sp_tree.specs.declared.checked.Checked as checked
-use Rattle.sp_tree.specs.PlainChecked.{Expression, At, ExpressionForm, Number, Read, Unary, Binary, Apply, Standard, Variable, Entire, Selector, Index, Field, Selectors, Whole, Select, Actual, ByValue, ByReference, Actuals, Nothing, Pass, Expressions, NoExpression, AndExpression, Statement, Does, Form, Empty, Assign, Call, Sequence, If, While, Repeat, For, Case, Parallel, Forall, Assume, ReadValue, ReadLine, WriteValue, WriteText, WriteLine, Open, Send, Receive, Other, NoElse, Else, Statements, NoStatement, AndThen, Arm, On, Arms, NoArm, Or, Block, Program}
+use Rattle.sp_tree.specs.PlainChecked.{Expression, At, ExpressionForm, Number, Read, Unary, Binary, Apply, Standard}
+use Rattle.sp_tree.specs.PlainChecked.{Variable, Entire, Selector, Index, Field, Selectors, Whole, Select, Actual}
+use Rattle.sp_tree.specs.PlainChecked.{ByValue, ByReference, Actuals, Nothing, Pass, Expressions, NoExpression}
+use Rattle.sp_tree.specs.PlainChecked.{AndExpression, Statement, Does, Form, Empty, Assign, Call, Sequence, If, While}
+use Rattle.sp_tree.specs.PlainChecked.{Repeat, For, Case, Parallel, Forall, Assume, ReadValue, ReadLine, WriteValue}
+use Rattle.sp_tree.specs.PlainChecked.{WriteText, WriteLine, Open, Send, Receive, Other, NoElse, Else, Statements}
+use Rattle.sp_tree.specs.PlainChecked.{NoStatement, AndThen, Arm, On, Arms, NoArm, Or, Block, Program}
 
 -- lists of the plain tree
 abbrev pub selectors : List Selector → Selectors
@@ -54,19 +61,24 @@ abbrev pub variable_step : e.Var-F Actual ExpressionForm Selector Expression Var
 variable_step v = Entire v.variable v.at (selectors v.selectors)
 
 abbrev pub expression_of : checked_expr.Expr → Expression
-expression_of = checked_expr.fold-Expr Actual ExpressionForm Selector Expression Variable actual_step form_step selector_step expression_step variable_step
+expression_of = checked_expr.fold-Expr Actual ExpressionForm Selector Expression Variable actual_step form_step
+    selector_step expression_step variable_step
 
 abbrev pub expression_form_of : checked_form.ExprForm → ExpressionForm
-expression_form_of = checked_form.fold-ExprForm Actual ExpressionForm Selector Expression Variable actual_step form_step selector_step expression_step variable_step
+expression_form_of = checked_form.fold-ExprForm Actual ExpressionForm Selector Expression Variable actual_step form_step
+    selector_step expression_step variable_step
 
 abbrev pub variable_of : checked_var.Var → Variable
-variable_of = checked_var.fold-Var Actual ExpressionForm Selector Expression Variable actual_step form_step selector_step expression_step variable_step
+variable_of = checked_var.fold-Var Actual ExpressionForm Selector Expression Variable actual_step form_step
+    selector_step expression_step variable_step
 
 abbrev pub selector_of : checked_selector.Selector → Selector
-selector_of = checked_selector.fold-Selector Actual ExpressionForm Selector Expression Variable actual_step form_step selector_step expression_step variable_step
+selector_of = checked_selector.fold-Selector Actual ExpressionForm Selector Expression Variable actual_step form_step
+    selector_step expression_step variable_step
 
 abbrev pub actual_of : checked_actual.Actual → Actual
-actual_of = checked_actual.fold-Actual Actual ExpressionForm Selector Expression Variable actual_step form_step selector_step expression_step variable_step
+actual_of = checked_actual.fold-Actual Actual ExpressionForm Selector Expression Variable actual_step form_step
+    selector_step expression_step variable_step
 
 abbrev pub width_of : Option checked_expr.Expr → Option Expression
 width_of None = None
@@ -135,7 +147,14 @@ abbrev pub arm_of : checked_arm.Arm → Arm
 arm_of = checked_arm.fold-Arm Form Arm Statement statement_form_step arm_step statement_step
 
 abbrev pub block_of : checked_block.Block → Block
-block_of b = record { name = b.name; parent = b.parent; formals = b.formals; answer = b.answer; body = statement_of b.body; at = b.at }
+block_of b = record {
+  name = b.name;
+  parent = b.parent;
+  formals = b.formals;
+  answer = b.answer;
+  body = statement_of b.body;
+  at = b.at;
+}
 
 -- the plain tree of a program
 abbrev pub program_of : checked.Checked → Program

@@ -1,3 +1,4 @@
+-- All of this belongs to what the program promises (docs/promise.txt).
 -- The order of broken rules: by place, and at one place by the row of the rule table. The first of all that are
 -- broken. The definition of the program's refusal cites it, and each phase's answer is a first one in this order.
 use Rattle.std.specs.Prelude.{◌≡◌, ℕ, Bool, false}
@@ -59,7 +60,8 @@ row rule.L5 = 45
 
 -- by place, and then by row
 abbrev pub refusal_cmp : Refusal → Refusal → Ordering
-refusal_cmp = then_cmp (on (λ r. r.at.line) nat_cmp) (then_cmp (on (λ r. r.at.column) nat_cmp) (on (λ r. row r.rule) nat_cmp))
+refusal_cmp = then_cmp (on (λ r. r.at.line) nat_cmp)
+    (then_cmp (on (λ r. r.at.column) nat_cmp) (on (λ r. row r.rule) nat_cmp))
 
 -- the first comes before the second
 abbrev pub before : Refusal → Refusal → Bool

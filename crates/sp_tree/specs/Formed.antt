@@ -1,7 +1,9 @@
+-- All of this belongs to what the program promises (docs/promise.txt).
 -- What the phases of names and types give of every accepted tree beyond its use of names: its types are built of
 -- earlier ones, its blocks and variables fit together, and what stands in a statement is of the kinds that it should
 -- be. The code of a tree rests on it.
-use Rattle.std.specs.Prelude.{◌≡◌, ◌≢◌, ℕ, suc, ◌≤◌, ℤ, int_le, List, [], ◌∷◌, Option, Some, None, Bool, true, false, if◌then◌else◌, length, slice_get}
+use Rattle.std.specs.Prelude.{◌≡◌, ◌≢◌, ℕ, suc, ◌≤◌, ℤ, int_le, List, [], ◌∷◌, Option, Some, None, Bool, true, false}
+use Rattle.std.specs.Prelude.{if◌then◌else◌, length, slice_get}
 use Rattle.sp_tree.specs.declared.checked.KindOf.TheVariants as kind
 use Rattle.sp_tree.specs.declared.checked.Role.{Role}
 use Rattle.sp_tree.specs.declared.checked.Role.TheVariants as role
@@ -42,7 +44,8 @@ abbrev pub AreBefore : ℕ → List (List ℕ × ℕ) → Type 0
 AreBefore k [] = Unit {0}
 AreBefore k (f ∷ fs) = (suc f.1 ≤ k) × AreBefore k fs
 
--- a target is a variable that there is, and no index of a forall; the output is not read; a parallel statement has a part
+-- a target is a variable that there is, and no index of a forall; the output is not read; a parallel statement has a
+-- part
 abbrev pub IsFormedUse : Program → Use → Type 0
 IsFormedUse p (Target x) = (v : Variable) × (slice_get p.variables x ≡ Some v) × (v.role ≢ role.Index)
 IsFormedUse p (Seen x) = x ≢ 1
@@ -54,14 +57,19 @@ IsFormedUse p Stop = Unit {0}
 -- all of it
 pub record IsFormed (p : Program) : Type 0 where
   -- an array or record is of earlier types, and has a component
-  pub arrays : (k : ℕ) (low high : ℤ) (index element : ℕ) → slice_get p.kinds k ≡ Some (kind.Array low high index element) → (suc element ≤ k) × (int_le low high ≡ true)
-  pub fields : (k : ℕ) (fs : List (List ℕ × ℕ)) → slice_get p.kinds k ≡ Some (kind.Fields fs) → AreBefore k fs × (1 ≤ length fs)
+  pub arrays : (k : ℕ) (low high : ℤ) (index element : ℕ)
+      → slice_get p.kinds k ≡ Some (kind.Array low high index element) → (suc element ≤ k) × (int_le low high ≡ true)
+  pub fields : (k : ℕ) (fs : List (List ℕ × ℕ)) → slice_get p.kinds k ≡ Some (kind.Fields fs) → AreBefore k fs
+      × (1 ≤ length fs)
   -- a block's parameters and its result are its variables with these roles, in order
-  pub formals : (f : ℕ) (b : Block) → slice_get p.blocks f ≡ Some b → b.formals ≡ among is_parameter (variables_of f 0 p.variables)
-  pub answers : (f : ℕ) (b : Block) → slice_get p.blocks f ≡ Some b → as_list b.answer ≡ among is_answer (variables_of f 0 p.variables)
+  pub formals : (f : ℕ) (b : Block) → slice_get p.blocks f ≡ Some b
+      → b.formals ≡ among is_parameter (variables_of f 0 p.variables)
+  pub answers : (f : ℕ) (b : Block) → slice_get p.blocks f ≡ Some b
+      → as_list b.answer ≡ among is_answer (variables_of f 0 p.variables)
   -- a variable is of a type and of a block that there are
   pub kinds : (x : ℕ) (v : Variable) → slice_get p.variables x ≡ Some v → suc v.kind ≤ length p.kinds
-  pub homes : (x : ℕ) (v : Variable) → slice_get p.variables x ≡ Some v → (b : Block) × (slice_get p.blocks v.block ≡ Some b)
+  pub homes : (x : ℕ) (v : Variable) → slice_get p.variables x ≡ Some v → (b : Block)
+      × (slice_get p.blocks v.block ≡ Some b)
   -- the program's block stands in none, and has no parameters and no result
   pub program : (b : Block) → slice_get p.blocks 0 ≡ Some b → (b.parent ≡ None) × (b.formals ≡ []) × (b.answer ≡ None)
   -- what stands in a block's statement

@@ -1,3 +1,4 @@
+-- Some of this belongs to what the program promises (docs/promise.txt).
 -- The first of the broken rules so far, and what a phase answers. The walks over names, types and interference
 -- promise their answers in these words, each with memory's refusal left free. It is the order of broken rules that
 -- code carries on.

@@ -1,8 +1,10 @@
+-- All of this belongs to what the program promises (docs/promise.txt).
 -- The rules of interference, said of the whole program by paths, variables and sets. The promises of disjoint runs
 -- and of verdicts require them; they stand apart from the walk that finds a breach, which is `Interferes.antt`.
 use Rattle.std.specs.Prelude.{◌≡◌, ◌⊎◌, ℕ, ◌<◌, List, [], ◌∷◌, Some, slice_get}
 use Rattle.sp_tree.specs.declared.checked.Role.TheVariants as role
-use Rattle.sp_tree.specs.Plain.{Entire, ByValue, ByReference, Actuals, Nothing, Pass, Program, Variable, Block, Stmt, Stmts, No, And}
+use Rattle.sp_tree.specs.Plain.{Entire, ByValue, ByReference, Actuals, Nothing, Pass, Program, Variable, Block, Stmt}
+use Rattle.sp_tree.specs.Plain.{Stmts, No, And}
 use Rattle.sp_tree.specs.Uses.{Use, Target, Seen, CallOf, ParallelOf, ForallOf, Stop, In_stmt, In_stmts}
 use Rattle.sp_tree.specs.Sets.{IsBelow, IsTarget, IsUsed, Implicit}
 
@@ -26,7 +28,8 @@ module _ (p : Program) where
   -- the rules
   abbrev pub KeepsI1 : Stmts → Type 0
   KeepsI1 No = Unit
-  KeepsI1 (And s rest) = ((x : ℕ) → IsTarget p (In_stmt s) x → IsUsed p (In_stmts rest) x → ⊥) × ((x : ℕ) → IsUsed p (In_stmt s) x → IsTarget p (In_stmts rest) x → ⊥) × KeepsI1 rest
+  KeepsI1 (And s rest) = ((x : ℕ) → IsTarget p (In_stmt s) x → IsUsed p (In_stmts rest) x → ⊥)
+      × ((x : ℕ) → IsUsed p (In_stmt s) x → IsTarget p (In_stmts rest) x → ⊥) × KeepsI1 rest
 
   -- the element statement of a forall has no target
   abbrev pub KeepsI2 : Stmt → Type 0
@@ -42,7 +45,8 @@ module _ (p : Program) where
 
   -- a block called in itself or in a block inside it
   abbrev pub IsCalledInside : ℕ → Type 0
-  IsCalledInside b = (n c : ℕ) × IsBelow p n c b × (k : Block) × (slice_get p.blocks c ≡ Some k) × (args : Actuals) × In_stmt k.body (CallOf b args)
+  IsCalledInside b = (n c : ℕ) × IsBelow p n c b × (k : Block) × (slice_get p.blocks c ≡ Some k) × (args : Actuals)
+      × In_stmt k.body (CallOf b args)
 
   -- the block has a result
   abbrev pub IsFunction : ℕ → Type 0
@@ -65,7 +69,9 @@ module _ (p : Program) where
   pub record IsFreeOfInterference : Type 0 where
     pub blocks : (b : ℕ) (k : Block) → slice_get p.blocks b ≡ Some k → (u : Use) → In_stmt k.body u → KeepsRules u
     pub parents : (b : ℕ) (k : Block) (q : ℕ) → slice_get p.blocks b ≡ Some k → k.parent ≡ Some q → q < b
-    pub consoles : (x : ℕ) (i : Variable) → slice_get p.variables x ≡ Some i → i.role ≡ role.Console → (i.block ≡ 0) × (x < 2)
-    pub answers : (b : ℕ) (k : Block) (x : ℕ) → slice_get p.blocks b ≡ Some k → k.answer ≡ Some x → (i : Variable) × (slice_get p.variables x ≡ Some i) × (i.role ≡ role.Answer) × (i.block ≡ b)
+    pub consoles : (x : ℕ) (i : Variable) → slice_get p.variables x ≡ Some i → i.role ≡ role.Console → (i.block ≡ 0)
+        × (x < 2)
+    pub answers : (b : ℕ) (k : Block) (x : ℕ) → slice_get p.blocks b ≡ Some k → k.answer ≡ Some x → (i : Variable)
+        × (slice_get p.variables x ≡ Some i) × (i.role ≡ role.Answer) × (i.block ≡ b)
     pub input : (i : Variable) × (slice_get p.variables 0 ≡ Some i) × (i.role ≡ role.Console)
     pub output : (i : Variable) × (slice_get p.variables 1 ≡ Some i) × (i.role ≡ role.Console)

@@ -1,3 +1,4 @@
+-- All of this belongs to what the program promises (docs/promise.txt).
 -- The rules of interference that a program breaks, each with its place, by clauses on the tree with places. The
 -- contract of the check promises the first of these, and a law says that none means the rules of `Interference.antt`.
 use Rattle.std.specs.Prelude.{◌≡◌, ◌⊎◌, ℕ, ◌≤◌, List, [], ◌∷◌, Some, slice_get}
@@ -26,7 +27,8 @@ place_of (p.Does n at form) = at
 module _ (g : Program) where
   -- a target of one is a target or expression variable of the other
   abbrev pub Interfere : p.Statement → p.Statement → Type 0
-  Interfere s t = (x : ℕ) × ((IsTarget g (In_stmt (bare_statement s)) x × IsUsed g (In_stmt (bare_statement t)) x) ⊎ (IsUsed g (In_stmt (bare_statement s)) x × IsTarget g (In_stmt (bare_statement t)) x))
+  Interfere s t = (x : ℕ) × ((IsTarget g (In_stmt (bare_statement s)) x × IsUsed g (In_stmt (bare_statement t)) x)
+      ⊎ (IsUsed g (In_stmt (bare_statement s)) x × IsTarget g (In_stmt (bare_statement t)) x))
 
   -- a later process statement, which begins here, interferes with this one
   abbrev pub ClashesIn : p.Statement → p.Statements → Place → Type 0
@@ -54,7 +56,8 @@ module _ (g : Program) where
   abbrev pub PassesImplicit : ℕ → p.Actuals → Place → Type 0
   PassesImplicit f p.Nothing at = ⊥
   PassesImplicit f (p.Pass (p.ByValue e) rest) at = PassesImplicit f rest at
-  PassesImplicit f (p.Pass (p.ByReference (p.Entire y here ss)) rest) at = ((here ≡ at) × Implicit g f y) ⊎ PassesImplicit f rest at
+  PassesImplicit f (p.Pass (p.ByReference (p.Entire y here ss)) rest) at = ((here ≡ at) × Implicit g f y)
+      ⊎ PassesImplicit f rest at
 
   -- what is broken at a site
   abbrev pub SiteBreaks : Site → Rule → Place → Type 0
@@ -74,8 +77,14 @@ module _ (g : Program) where
 module _ (c : p.Program) where
   -- what a program breaks
   abbrev pub Interferes : Rule → Place → Type 0
-  Interferes rule.I6 at = (b : ℕ) × (k : p.Block) × (slice_get c.blocks b ≡ Some k) × (k.at ≡ at) × IsCalledInside (bare c) b × (x : ℕ) × Implicit (bare c) b x × (2 ≤ x)
-  Interferes rule.I7 at = (b : ℕ) × (k : p.Block) × (slice_get c.blocks b ≡ Some k) × IsFunction (bare c) b × (x : ℕ) × IsMember x k.formals × (i : ast_x.Variable) × (slice_get c.variables x ≡ Some i) × (i.role ≡ role.Reference) × (i.at ≡ at)
-  Interferes rule.I8 at = (b : ℕ) × (k : p.Block) × (slice_get c.blocks b ≡ Some k) × (k.at ≡ at) × IsFunction (bare c) b × (x : ℕ) × ImplicitTarget (bare c) b x
-  Interferes rule.I9 at = (b : ℕ) × (k : p.Block) × (slice_get c.blocks b ≡ Some k) × IsFunction (bare c) b × (site : Site) × IsSite site (statement_sites k.body) × SiteStops (bare c) site at
-  Interferes r at = (b : ℕ) × (k : p.Block) × (slice_get c.blocks b ≡ Some k) × (site : Site) × IsSite site (statement_sites k.body) × SiteBreaks (bare c) site r at
+  Interferes rule.I6 at = (b : ℕ) × (k : p.Block) × (slice_get c.blocks b ≡ Some k) × (k.at ≡ at)
+      × IsCalledInside (bare c) b × (x : ℕ) × Implicit (bare c) b x × (2 ≤ x)
+  Interferes rule.I7 at = (b : ℕ) × (k : p.Block) × (slice_get c.blocks b ≡ Some k) × IsFunction (bare c) b × (x : ℕ)
+      × IsMember x k.formals × (i : ast_x.Variable) × (slice_get c.variables x ≡ Some i) × (i.role ≡ role.Reference)
+      × (i.at ≡ at)
+  Interferes rule.I8 at = (b : ℕ) × (k : p.Block) × (slice_get c.blocks b ≡ Some k) × (k.at ≡ at)
+      × IsFunction (bare c) b × (x : ℕ) × ImplicitTarget (bare c) b x
+  Interferes rule.I9 at = (b : ℕ) × (k : p.Block) × (slice_get c.blocks b ≡ Some k) × IsFunction (bare c) b
+      × (site : Site) × IsSite site (statement_sites k.body) × SiteStops (bare c) site at
+  Interferes r at = (b : ℕ) × (k : p.Block) × (slice_get c.blocks b ≡ Some k) × (site : Site)
+      × IsSite site (statement_sites k.body) × SiteBreaks (bare c) site r at

@@ -1,6 +1,8 @@
+-- All of this belongs to what the program promises (docs/promise.txt).
 -- Numbers read from the input, and items as they are written. The meaning and the machine's definition share it, so
 -- that both read and write the same bytes; `sp_items` promises it.
-use Rattle.std.specs.Prelude.{ℕ, suc, ◌+◌, ◌-◌, ◌*◌, ◌%◌, ◌==◌, nat_abs, ℤ, pos, neg_ℤ, List, [], ◌∷◌, ◌++◌, Bool, true, false, ◌||◌, if◌then◌else◌, int_le, length, take, drop, replicate, codes}
+use Rattle.std.specs.Prelude.{ℕ, suc, ◌+◌, ◌-◌, ◌*◌, ◌%◌, ◌==◌, nat_abs, ℤ, pos, neg_ℤ, List, [], ◌∷◌, ◌++◌, Bool, true}
+use Rattle.std.specs.Prelude.{false, ◌||◌, if◌then◌else◌, int_le, length, take, drop, replicate, codes}
 use Rattle.sp_base.specs.declared.fault.Fault.{Fault}
 use Rattle.sp_base.specs.declared.fault.Fault.TheVariants as fault
 pub use Rattle.sp_tree.specs.Characters.{is_blank, is_digit}
@@ -43,12 +45,14 @@ pub data Taken : Type 0 where
 abbrev pub digits_after : ℕ → Bool → List ℕ → Taken
 digits_after before minus bs =
     if digits bs == 0 then Fails fault.F17
-    else (if is_integer (signed minus (number_from 0 (take (digits bs) bs))) then Takes (signed minus (number_from 0 (take (digits bs) bs))) (before + digits bs) else Fails fault.F2)
+    else (if is_integer (signed minus (number_from 0 (take (digits bs) bs))) then
+    Takes (signed minus (number_from 0 (take (digits bs) bs))) (before + digits bs) else Fails fault.F2)
 
 -- a number after so many blanks, F18 where nothing is left
 abbrev pub number_after : ℕ → List ℕ → Taken
 number_after before [] = Fails fault.F18
-number_after before (b ∷ bs) = digits_after (before + sign_length (b ∷ bs)) (is_minus (b ∷ bs)) (drop (sign_length (b ∷ bs)) (b ∷ bs))
+number_after before (b ∷ bs) = digits_after (before + sign_length (b ∷ bs)) (is_minus (b ∷ bs))
+    (drop (sign_length (b ∷ bs)) (b ∷ bs))
 
 -- an integer: blanks, a sign, and as many digits as there are
 abbrev pub number_in : List ℕ → Taken

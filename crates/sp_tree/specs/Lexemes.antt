@@ -1,21 +1,30 @@
+-- All of this belongs to what the program promises (docs/promise.txt).
 -- The spellings of tokens, and comments. The bytes begin with a spelling, and what is left is the second list. The
 -- scanner's contracts and the definition of a scanned text cite it: relations on bytes, of which the longest is taken.
-use Rattle.std.specs.Prelude.{◌≡◌, ◌≢◌, ℕ, ◌-◌, ◌≤◌, Bool, true, false, ◌||◌, ◌&&◌, ◌==◌, List, [], ◌∷◌, ◌++◌, length, map, take, codes, Some, slice_get}
+use Rattle.std.specs.Prelude.{◌≡◌, ◌≢◌, ℕ, ◌-◌, ◌≤◌, Bool, true, false, ◌||◌, ◌&&◌, ◌==◌, List, [], ◌∷◌, ◌++◌, length}
+use Rattle.std.specs.Prelude.{map, take, codes, Some, slice_get}
 use Rattle.sp_tree.specs.declared.token.Kind.{Kind}
 use Rattle.sp_tree.specs.declared.token.Kind.TheVariants as kind
 use Rattle.sp_tree.specs.Characters.{is_letter, is_digit, is_name_byte, lower}
 
 -- the reserved words, in the order of the alphabet
 abbrev pub words : List (List ℕ)
-words = codes "and" ∷ codes "array" ∷ codes "assume" ∷ codes "begin" ∷ codes "case" ∷ codes "const" ∷ codes "div" ∷ codes "do" ∷ codes "downto" ∷ codes "else" ∷ codes "end" ∷ codes "for" ∷ codes "forall" ∷ codes "function" ∷ codes "if" ∷ codes "mod" ∷ codes "not" ∷ codes "of" ∷ codes "or" ∷ codes "parallel" ∷ codes "procedure" ∷ codes "program" ∷ codes "record" ∷ codes "repeat" ∷ codes "then" ∷ codes "to" ∷ codes "type" ∷ codes "until" ∷ codes "var" ∷ codes "while" ∷ []
+words = codes "and" ∷ codes "array" ∷ codes "assume" ∷ codes "begin" ∷ codes "case" ∷ codes "const" ∷ codes "div"
+    ∷ codes "do" ∷ codes "downto" ∷ codes "else" ∷ codes "end" ∷ codes "for" ∷ codes "forall" ∷ codes "function"
+    ∷ codes "if" ∷ codes "mod" ∷ codes "not" ∷ codes "of" ∷ codes "or" ∷ codes "parallel" ∷ codes "procedure"
+    ∷ codes "program" ∷ codes "record" ∷ codes "repeat" ∷ codes "then" ∷ codes "to" ∷ codes "type" ∷ codes "until"
+    ∷ codes "var" ∷ codes "while" ∷ []
 
 -- the words of the language that the profile refuses
 abbrev pub refused_words : List (List ℕ)
-refused_words = codes "file" ∷ codes "forward" ∷ codes "goto" ∷ codes "in" ∷ codes "label" ∷ codes "nil" ∷ codes "packed" ∷ codes "set" ∷ codes "sic" ∷ codes "with" ∷ []
+refused_words = codes "file" ∷ codes "forward" ∷ codes "goto" ∷ codes "in" ∷ codes "label" ∷ codes "nil"
+    ∷ codes "packed" ∷ codes "set" ∷ codes "sic" ∷ codes "with" ∷ []
 
 -- the signs, by their numbers
 abbrev pub signs : List (List ℕ)
-signs = codes "+" ∷ codes "-" ∷ codes "*" ∷ codes "=" ∷ codes "<>" ∷ codes "<" ∷ codes "<=" ∷ codes ">" ∷ codes ">=" ∷ codes "(" ∷ codes ")" ∷ codes "[" ∷ codes "]" ∷ codes ":=" ∷ codes "." ∷ codes "," ∷ codes ";" ∷ codes ":" ∷ codes ".." ∷ codes "|" ∷ []
+signs = codes "+" ∷ codes "-" ∷ codes "*" ∷ codes "=" ∷ codes "<>" ∷ codes "<" ∷ codes "<=" ∷ codes ">" ∷ codes ">="
+    ∷ codes "(" ∷ codes ")" ∷ codes "[" ∷ codes "]" ∷ codes ":=" ∷ codes "." ∷ codes "," ∷ codes ";" ∷ codes ":"
+    ∷ codes ".." ∷ codes "|" ∷ []
 
 -- bytes that pass a test, none or more
 pub data Run (p : ℕ → Bool) : List ℕ → List ℕ → Type 0 where
@@ -60,8 +69,10 @@ lowered bs r = map lower (take (length bs - length r) bs)
 
 -- the spelling of a token of this kind
 pub data Lexeme : Kind → List ℕ → List ℕ → Type 0 where
-  name : {bs r : List ℕ} → (b : ℕ) → is_letter b ≡ true → Run is_name_byte bs r → ((n : ℕ) → slice_get words n ≢ Some (lowered (b ∷ bs) r)) → Lexeme kind.Name (b ∷ bs) r
-  word : {bs r : List ℕ} → (n b : ℕ) → is_letter b ≡ true → Run is_name_byte bs r → slice_get words n ≡ Some (lowered (b ∷ bs) r) → Lexeme (kind.Word n) (b ∷ bs) r
+  name : {bs r : List ℕ} → (b : ℕ) → is_letter b ≡ true → Run is_name_byte bs r
+      → ((n : ℕ) → slice_get words n ≢ Some (lowered (b ∷ bs) r)) → Lexeme kind.Name (b ∷ bs) r
+  word : {bs r : List ℕ} → (n b : ℕ) → is_letter b ≡ true → Run is_name_byte bs r
+      → slice_get words n ≡ Some (lowered (b ∷ bs) r) → Lexeme (kind.Word n) (b ∷ bs) r
   number : {bs r : List ℕ} → (b : ℕ) → is_digit b ≡ true → Run is_digit bs r → Lexeme kind.Number (b ∷ bs) r
   text : {bs r : List ℕ} → (q : ℕ) → q ≡ 39 → TextBody bs r → Lexeme kind.Text (q ∷ bs) r
   sign : {bs r : List ℕ} → (n : ℕ) (s : List ℕ) → slice_get signs n ≡ Some s → bs ≡ s ++ r → Lexeme (kind.Sign n) bs r

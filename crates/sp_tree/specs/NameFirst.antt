@@ -1,3 +1,4 @@
+-- Some of this belongs to what the program promises (docs/promise.txt).
 -- The first broken rule of names of a program, and what resolving its names gives: the contract of the resolution.
 -- Each is one line over the walk of `NameWalk.antt`.
 use Rattle.std.specs.Prelude.{List, [], ◌++◌, None, Result}

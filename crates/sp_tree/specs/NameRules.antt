@@ -1,6 +1,8 @@
+-- All of this belongs to what the program promises (docs/promise.txt).
 -- What stands in a tree for the rules of names, and which of them is broken there, by the declarations visible there.
 -- The walk asks it at each site, with one clause for each row of the rules.
-use Rattle.std.specs.Prelude.{ℕ, nat_eq, nat_le, not, List, [], ◌∷◌, length, Bool, true, false, ◌||◌, ◌&&◌, if◌then◌else◌, Option, Some, None, codes}
+use Rattle.std.specs.Prelude.{ℕ, nat_eq, nat_le, not, List, [], ◌∷◌, length, Bool, true, false, ◌||◌, ◌&&◌}
+use Rattle.std.specs.Prelude.{if◌then◌else◌, Option, Some, None, codes}
 use Rattle.std.specs.List.{list_any}
 use Rattle.std.specs.Option.{is_some}
 use Rattle.std.specs.Str.{bytes_eq}
@@ -142,7 +144,8 @@ loop_rule block at m = lesser (target_rule at m) (breaks_if rule.N8 at (not (is_
 
 -- N2: declared in this block already. L4: the 4,097th of its sort
 abbrev pub declare_rule : Env → Name → Sort → Found
-declare_rule env x s = lesser (breaks_if rule.N2 x.at (is_some (look env.local.here x.text))) (breaks_if rule.L4 x.at (nat_le most (count s env.local.counts)))
+declare_rule env x s = lesser (breaks_if rule.N2 x.at (is_some (look env.local.here x.text)))
+    (breaks_if rule.L4 x.at (nat_le most (count s env.local.counts)))
 
 -- one of these names
 abbrev pub among : List ℕ → List (List ℕ) → Bool
@@ -151,7 +154,8 @@ among name names = list_any (bytes_eq name) names
 -- N1: neither the input nor the output. N2: twice
 abbrev pub heading_rule : Name → List (List ℕ) → Found
 heading_rule x others =
-    if bytes_eq x.text (codes "input") || bytes_eq x.text (codes "output") then breaks_if rule.N2 x.at (among x.text others)
+    if bytes_eq x.text (codes "input") || bytes_eq x.text (codes "output") then
+    breaks_if rule.N2 x.at (among x.text others)
     else breaks rule.N1 x.at
 
 -- N5: a width where none is taken

@@ -1,7 +1,9 @@
+-- All of this belongs to what the program promises (docs/promise.txt).
 -- All that stands in a program for the rules of names, with the declarations visible there. `join` puts together what
 -- is found at the sites: lists give all broken rules, `lesser` the first. The contracts of `sp_scope` follow its
 -- parts.
-use Rattle.std.specs.Prelude.{ℕ, suc, ◌+◌, ◌&&◌, List, [], ◌∷◌, ◌++◌, map, Bool, true, false, if◌then◌else◌, Option, Some, None}
+use Rattle.std.specs.Prelude.{ℕ, suc, ◌+◌, ◌&&◌, List, [], ◌∷◌, ◌++◌, map, Bool, true, false, if◌then◌else◌, Option}
+use Rattle.std.specs.Prelude.{Some, None}
 use Rattle.sp_base.specs.declared.place.Place.{Place}
 use Rattle.sp_tree.specs.declared.checked.Role.{Role}
 use Rattle.sp_tree.specs.declared.checked.Role.TheVariants as role
@@ -17,9 +19,18 @@ use Rattle.sp_tree.specs.declared.syntax.SynKind.{SynKind}
 use Rattle.sp_tree.specs.declared.syntax.SynKind.TheVariants as kinds
 use Rattle.sp_tree.specs.declared.syntax.SynFormal.{SynFormal}
 use Rattle.sp_tree.specs.declared.syntax.SynGroup.{SynGroup}
-use Rattle.sp_tree.specs.Scopes.{Scope, Env, Local, inside, find, declared, opened, closed, empty, standard, variable, next_constant, next_kind, next_variable, next_block}
-use Rattle.sp_tree.specs.NameRules.{Site, Declares, Fields, Heads, Uses, UsesIn, Operand, Targets, Assigns, Loops, Computes, Calls, Widens, Bare, AsConstant, AsKind, next_passing, others, references_of, rest_of, aims, same_place}
-use Rattle.sp_tree.specs.PlainSyntax.{Expression, At, ExpressionForm, Number, Quoted, Read, Apply, Unary, Binary, Variable, Entire, Selector, Index, Field, Selectors, Whole, Select, Argument, Pass, Width, NoWidth, Within, Arguments, NoArgument, AndArgument, Statement, Does, Form, Empty, Assign, Call, Sequence, If, While, Repeat, Case, For, Parallel, Forall, Assume, Other, NoElse, Else, Statements, NoStatement, AndThen, Arm, On, Arms, NoArm, Or, Branches, NoBranch, Beside, Part, Const, Kind, Var, Proc, Parts, NoPart, Declare, Block, Program}
+use Rattle.sp_tree.specs.Scopes.{Scope, Env, Local, inside, find, declared, opened, closed, empty, standard, variable}
+use Rattle.sp_tree.specs.Scopes.{next_constant, next_kind, next_variable, next_block}
+use Rattle.sp_tree.specs.NameRules.{Site, Declares, Fields, Heads, Uses, UsesIn, Operand, Targets, Assigns, Loops}
+use Rattle.sp_tree.specs.NameRules.{Computes, Calls, Widens, Bare, AsConstant, AsKind, next_passing, others}
+use Rattle.sp_tree.specs.NameRules.{references_of, rest_of, aims, same_place}
+use Rattle.sp_tree.specs.PlainSyntax.{Expression, At, ExpressionForm, Number, Quoted, Read, Apply, Unary, Binary}
+use Rattle.sp_tree.specs.PlainSyntax.{Variable, Entire, Selector, Index, Field, Selectors, Whole, Select, Argument}
+use Rattle.sp_tree.specs.PlainSyntax.{Pass, Width, NoWidth, Within, Arguments, NoArgument, AndArgument, Statement, Does}
+use Rattle.sp_tree.specs.PlainSyntax.{Form, Empty, Assign, Call, Sequence, If, While, Repeat, Case, For, Parallel}
+use Rattle.sp_tree.specs.PlainSyntax.{Forall, Assume, Other, NoElse, Else, Statements, NoStatement, AndThen, Arm, On}
+use Rattle.sp_tree.specs.PlainSyntax.{Arms, NoArm, Or, Branches, NoBranch, Beside, Part, Const, Kind, Var, Proc, Parts}
+use Rattle.sp_tree.specs.PlainSyntax.{NoPart, Declare, Block, Program}
 
 abbrev pub count : Arguments → ℕ
 count NoArgument = 0
@@ -114,17 +125,25 @@ answer_local l (Some t) = record {
   here = l.here;
   block = l.block;
   answer = next_variable l.counts;
-  counts = record { constants = l.counts.constants; kinds = l.counts.kinds; variables = l.counts.variables; results = l.counts.results + 1; blocks = l.counts.blocks };
+  counts = record {
+    constants = l.counts.constants;
+    kinds = l.counts.kinds;
+    variables = l.counts.variables;
+    results = l.counts.results + 1;
+    blocks = l.counts.blocks;
+  };
 }
 
 -- a procedure's own block with its parameters and result
 abbrev pub heading_local : Local → Name → List SynFormal → Option Name → Local
-heading_local l x fs answer = answer_local (formals_local (opened (next_block l.counts) 0 (title_local l x fs answer)) fs) answer
+heading_local l x fs answer = answer_local (formals_local (opened (next_block l.counts) 0 (title_local l x fs answer))
+    fs) answer
 
 -- the constants of an enumeration
 abbrev pub constants_local : Local → List Name → Local
 constants_local l [] = l
-constants_local l (x ∷ xs) = constants_local (declared l x.text sort.Constant (meaning.Constant (next_constant l.counts))) xs
+constants_local l (x ∷ xs) = constants_local
+    (declared l x.text sort.Constant (meaning.Constant (next_constant l.counts))) xs
 
 abbrev pub kind_local : Local → SynKind → Local
 kind_local l (kinds.Enumeration xs) = constants_local l xs
@@ -158,7 +177,8 @@ deeper around l = around ++ (l.here ∷ [])
 module _ {M : Type 0} (none : M) (join : M → M → M) (site : Env → Site → M) (env : Env) where
   -- a name as an argument: a target where a variable is wanted and it is written as one, in no parentheses
   abbrev pub passed_name_sites : Passing → Place → Name → Bool → M
-  passed_name_sites p at x whole = if aims p && same_place at x.at then site env (Targets x) else join (site env (Bare at p)) (site env (Operand x whole))
+  passed_name_sites p at x whole = if aims p && same_place at x.at then site env (Targets x) else
+      join (site env (Bare at p)) (site env (Operand x whole))
 
   abbrev mutual
     pub expression_sites : Expression → M
@@ -168,7 +188,8 @@ module _ {M : Type 0} (none : M) (join : M → M → M) (site : Env → Site →
     expression_form_sites (Number n) = none
     expression_form_sites (Quoted t) = none
     expression_form_sites (Read v) = operand_sites v
-    expression_form_sites (Apply f args) = join (site env (Computes f (count args))) (arguments_sites (references_of (find env f.text)) (rest_of (find env f.text)) args)
+    expression_form_sites (Apply f args) = join (site env (Computes f (count args)))
+        (arguments_sites (references_of (find env f.text)) (rest_of (find env f.text)) args)
     expression_form_sites (Unary op a) = expression_sites a
     expression_form_sites (Binary op a b) = join (expression_sites a) (expression_sites b)
 
@@ -187,7 +208,8 @@ module _ {M : Type 0} (none : M) (join : M → M → M) (site : Env → Site →
     -- the arguments of a call, passed by the flags of the parameters and then as the rest
     pub arguments_sites : List Bool → Passing → Arguments → M
     arguments_sites flags rest NoArgument = none
-    arguments_sites flags rest (AndArgument a args) = join (argument_sites (next_passing flags rest) a) (arguments_sites (others flags) rest args)
+    arguments_sites flags rest (AndArgument a args) =
+        join (argument_sites (next_passing flags rest) a) (arguments_sites (others flags) rest args)
 
     pub argument_sites : Passing → Argument → M
     argument_sites p (Pass e w) = join (width_sites p (place e) w) (passed_sites p e)
@@ -219,7 +241,8 @@ module _ {M : Type 0} (none : M) (join : M → M → M) (site : Env → Site →
 
   -- a call as a statement
   abbrev pub call_sites : Env → Name → Arguments → M
-  call_sites env f args = join (site env (Calls f (count args))) (arguments_sites none join site env (references_of (find env f.text)) (rest_of (find env f.text)) args)
+  call_sites env f args = join (site env (Calls f (count args)))
+      (arguments_sites none join site env (references_of (find env f.text)) (rest_of (find env f.text)) args)
 
   abbrev mutual
     pub statement_sites : List Scope → Local → Statement → M
@@ -227,16 +250,20 @@ module _ {M : Type 0} (none : M) (join : M → M → M) (site : Env → Site →
 
     pub form_sites : List Scope → Local → Form → M
     form_sites around l Empty = none
-    form_sites around l (Assign v e) = join (assigned_sites (inside around l) v) (expression_sites none join site (inside around l) e)
+    form_sites around l (Assign v e) = join (assigned_sites (inside around l) v)
+        (expression_sites none join site (inside around l) e)
     form_sites around l (Call f args) = call_sites (inside around l) f args
     form_sites around l (Sequence ss) = statements_sites around l ss
     form_sites around l (If e s o) =
         join (expression_sites none join site (inside around l) e)
         (join (statement_sites around l s)
         (other_sites around (statement_local l s) o))
-    form_sites around l (While e s) = join (expression_sites none join site (inside around l) e) (statement_sites around l s)
-    form_sites around l (Repeat ss e) = join (statements_sites around l ss) (expression_sites none join site (inside around (statements_local l ss)) e)
-    form_sites around l (Case e choices) = join (expression_sites none join site (inside around l) e) (arms_sites around l choices)
+    form_sites around l (While e s) = join (expression_sites none join site (inside around l) e)
+        (statement_sites around l s)
+    form_sites around l (Repeat ss e) = join (statements_sites around l ss)
+        (expression_sites none join site (inside around (statements_local l ss)) e)
+    form_sites around l (Case e choices) = join (expression_sites none join site (inside around l) e)
+        (arms_sites around l choices)
     form_sites around l (For x from down to s) =
         join (site (inside around l) (Loops x))
         (join (expression_sites none join site (inside around l) from)
@@ -256,7 +283,8 @@ module _ {M : Type 0} (none : M) (join : M → M → M) (site : Env → Site →
 
     pub statements_sites : List Scope → Local → Statements → M
     statements_sites around l NoStatement = none
-    statements_sites around l (AndThen s rest) = join (statement_sites around l s) (statements_sites around (statement_local l s) rest)
+    statements_sites around l (AndThen s rest) =
+        join (statement_sites around l s) (statements_sites around (statement_local l s) rest)
 
     pub arms_sites : List Scope → Local → Arms → M
     arms_sites around l NoArm = none
@@ -267,13 +295,15 @@ module _ {M : Type 0} (none : M) (join : M → M → M) (site : Env → Site →
 
     pub branches_sites : List Scope → Local → Branches → M
     branches_sites around l NoBranch = none
-    branches_sites around l (Beside ss rest) = join (statements_sites around l ss) (branches_sites around (statements_local l ss) rest)
+    branches_sites around l (Beside ss rest) =
+        join (statements_sites around l ss) (branches_sites around (statements_local l ss) rest)
 
   -- variables of one role
   abbrev pub names_sites : List Scope → Role → Local → List Name → M
   names_sites around r l [] = none
   names_sites around r l (x ∷ xs) =
-      join (site (inside around l) (Declares x sort.Variable)) (names_sites around r (declared l x.text sort.Variable (variable l r)) xs)
+      join (site (inside around l) (Declares x sort.Variable))
+      (names_sites around r (declared l x.text sort.Variable (variable l r)) xs)
 
   -- the types of the parameters, which mean what they mean around the heading
   abbrev pub heading_sites : Env → List SynFormal → M
@@ -288,7 +318,8 @@ module _ {M : Type 0} (none : M) (join : M → M → M) (site : Env → Site →
   abbrev pub formals_sites : List Scope → Local → List SynFormal → M
   formals_sites around l [] = none
   formals_sites around l (f ∷ fs) =
-      join (names_sites around (role_of f.by_reference) l f.names) (formals_sites around (names_local (role_of f.by_reference) l f.names) fs)
+      join (names_sites around (role_of f.by_reference) l f.names)
+      (formals_sites around (names_local (role_of f.by_reference) l f.names) fs)
 
   -- a constant in the definition of a type
   abbrev pub bound_sites : Env → Name → SynValue → M
@@ -317,7 +348,8 @@ module _ {M : Type 0} (none : M) (join : M → M → M) (site : Env → Site →
   abbrev pub enumerated_sites : List Scope → Local → List Name → M
   enumerated_sites around l [] = none
   enumerated_sites around l (x ∷ xs) =
-      join (site (inside around l) (Declares x sort.Constant)) (enumerated_sites around (declared l x.text sort.Constant (meaning.Constant (next_constant l.counts))) xs)
+      join (site (inside around l) (Declares x sort.Constant))
+      (enumerated_sites around (declared l x.text sort.Constant (meaning.Constant (next_constant l.counts))) xs)
 
   -- the definition of the type `own`
   abbrev pub kind_sites : Env → Name → SynKind → M
@@ -337,7 +369,8 @@ module _ {M : Type 0} (none : M) (join : M → M → M) (site : Env → Site →
 
   -- what stands in a heading for the block around it
   abbrev pub title_sites : Env → Name → List SynFormal → Option Name → M
-  title_sites env x fs answer = join (site env (Declares x sort.Block)) (join (heading_sites env fs) (answer_sites env answer))
+  title_sites env x fs answer = join (site env (Declares x sort.Block))
+      (join (heading_sites env fs) (answer_sites env answer))
 
   abbrev mutual
     pub parts_sites : List Scope → Local → Parts → M
@@ -345,7 +378,8 @@ module _ {M : Type 0} (none : M) (join : M → M → M) (site : Env → Site →
     parts_sites around l (Declare p rest) = join (part_sites around l p) (parts_sites around (part_local l p) rest)
 
     pub part_sites : List Scope → Local → Part → M
-    part_sites around l (Const x c) = join (site (inside around l) (Declares x sort.Constant)) (value_sites (inside around l) c.value)
+    part_sites around l (Const x c) = join (site (inside around l) (Declares x sort.Constant))
+        (value_sites (inside around l) c.value)
     part_sites around l (Kind x k) =
         join (site (inside around l) (Declares x sort.Kind))
         (join (kind_sites (inside around l) x k)
@@ -353,9 +387,11 @@ module _ {M : Type 0} (none : M) (join : M → M → M) (site : Env → Site →
     part_sites around l (Var xs t) = join (site (inside around l) (Uses t AsKind)) (names_sites around role.Local l xs)
     part_sites around l (Proc x fs answer parts body) =
         join (title_sites (inside around l) x fs answer)
-        (join (formals_sites (deeper around (title_local l x fs answer)) (opened (next_block l.counts) 0 (title_local l x fs answer)) fs)
+        (join (formals_sites (deeper around (title_local l x fs answer))
+        (opened (next_block l.counts) 0 (title_local l x fs answer)) fs)
         (join (parts_sites (deeper around (title_local l x fs answer)) (heading_local l x fs answer) parts)
-        (statement_sites (deeper around (title_local l x fs answer)) (parts_local (heading_local l x fs answer) parts) body)))
+        (statement_sites (deeper around (title_local l x fs answer)) (parts_local (heading_local l x fs answer) parts)
+        body)))
 
   -- the names in the program's heading
   abbrev pub files_sites : List (List ℕ) → List Name → M

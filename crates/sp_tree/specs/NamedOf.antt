@@ -1,3 +1,4 @@
+-- Some of this belongs to what the program promises (docs/promise.txt).
 -- The plain tree of a named one in memory. The contracts of the resolution, which makes such a tree, and of the checks
 -- of types, which take it, speak of plain trees by it.
 use Rattle.std.specs.Prelude.{List, [], ◌∷◌, map, Option, Some, None}
@@ -14,7 +15,12 @@ use Rattle.sp_tree.specs.declared.named.NamedArm as named_arm
 use Rattle.sp_tree.specs.declared.named.NamedBranch as named_branch
 use Rattle.sp_tree.specs.declared.named.NamedBlock as named_block
 use Rattle.sp_tree.specs.declared.named.Named as named
-use Rattle.sp_tree.specs.PlainNamed.{Expression, At, ExpressionForm, Number, Quoted, Constant, Read, Apply, Standard, Unary, Binary, Variable, Entire, Selector, Index, Field, Selectors, Whole, Select, Argument, Pass, Width, NoWidth, Within, Arguments, NoArgument, AndArgument, Statement, Does, Form, Empty, Assign, Call, Perform, Sequence, If, While, Repeat, Case, For, Parallel, Forall, Assume, Other, NoElse, Else, Statements, NoStatement, AndThen, Arm, On, Arms, NoArm, Or, Branches, NoBranch, Beside, Block, Program}
+use Rattle.sp_tree.specs.PlainNamed.{Expression, At, ExpressionForm, Number, Quoted, Constant, Read, Apply, Standard}
+use Rattle.sp_tree.specs.PlainNamed.{Unary, Binary, Variable, Entire, Selector, Index, Field, Selectors, Whole, Select}
+use Rattle.sp_tree.specs.PlainNamed.{Argument, Pass, Width, NoWidth, Within, Arguments, NoArgument, AndArgument}
+use Rattle.sp_tree.specs.PlainNamed.{Statement, Does, Form, Empty, Assign, Call, Perform, Sequence, If, While, Repeat}
+use Rattle.sp_tree.specs.PlainNamed.{Case, For, Parallel, Forall, Assume, Other, NoElse, Else, Statements, NoStatement}
+use Rattle.sp_tree.specs.PlainNamed.{AndThen, Arm, On, Arms, NoArm, Or, Branches, NoBranch, Beside, Block, Program}
 
 -- lists of the plain tree
 abbrev pub selectors : List Selector → Selectors
@@ -54,19 +60,24 @@ abbrev pub variable_step : e.NamedVar-F ExpressionForm Selector Argument Express
 variable_step v = Entire v.variable v.at (selectors v.selectors)
 
 abbrev pub expression_of : named_expr.NamedExpr → Expression
-expression_of = named_expr.fold-NamedExpr ExpressionForm Selector Argument Expression Variable form_step selector_step argument_step expression_step variable_step
+expression_of = named_expr.fold-NamedExpr ExpressionForm Selector Argument Expression Variable form_step selector_step
+    argument_step expression_step variable_step
 
 abbrev pub expression_form_of : named_form.NamedExprForm → ExpressionForm
-expression_form_of = named_form.fold-NamedExprForm ExpressionForm Selector Argument Expression Variable form_step selector_step argument_step expression_step variable_step
+expression_form_of = named_form.fold-NamedExprForm ExpressionForm Selector Argument Expression Variable form_step
+    selector_step argument_step expression_step variable_step
 
 abbrev pub variable_of : named_var.NamedVar → Variable
-variable_of = named_var.fold-NamedVar ExpressionForm Selector Argument Expression Variable form_step selector_step argument_step expression_step variable_step
+variable_of = named_var.fold-NamedVar ExpressionForm Selector Argument Expression Variable form_step selector_step
+    argument_step expression_step variable_step
 
 abbrev pub selector_of : named_selector.NamedSelector → Selector
-selector_of = named_selector.fold-NamedSelector ExpressionForm Selector Argument Expression Variable form_step selector_step argument_step expression_step variable_step
+selector_of = named_selector.fold-NamedSelector ExpressionForm Selector Argument Expression Variable form_step
+    selector_step argument_step expression_step variable_step
 
 abbrev pub argument_of : named_arg.NamedArg → Argument
-argument_of = named_arg.fold-NamedArg ExpressionForm Selector Argument Expression Variable form_step selector_step argument_step expression_step variable_step
+argument_of = named_arg.fold-NamedArg ExpressionForm Selector Argument Expression Variable form_step selector_step
+    argument_step expression_step variable_step
 
 abbrev pub arguments_of : List named_arg.NamedArg → Arguments
 arguments_of args = arguments (map argument_of args)
@@ -117,23 +128,38 @@ abbrev pub statement_step : s.NamedStmt-F Form Arm Statements Statement → Stat
 statement_step a = Does a.at a.form
 
 abbrev pub statement_of : named_stmt.NamedStmt → Statement
-statement_of = named_stmt.fold-NamedStmt Form Arm Statements Statement statement_form_step arm_step branch_step statement_step
+statement_of = named_stmt.fold-NamedStmt Form Arm Statements Statement statement_form_step arm_step branch_step
+    statement_step
 
 abbrev pub statement_form_of : named_stmt_form.NamedForm → Form
-statement_form_of = named_stmt_form.fold-NamedForm Form Arm Statements Statement statement_form_step arm_step branch_step statement_step
+statement_form_of = named_stmt_form.fold-NamedForm Form Arm Statements Statement statement_form_step arm_step
+    branch_step statement_step
 
 abbrev pub arm_of : named_arm.NamedArm → Arm
 arm_of = named_arm.fold-NamedArm Form Arm Statements Statement statement_form_step arm_step branch_step statement_step
 
 abbrev pub branch_of : named_branch.NamedBranch → Statements
-branch_of = named_branch.fold-NamedBranch Form Arm Statements Statement statement_form_step arm_step branch_step statement_step
+branch_of = named_branch.fold-NamedBranch Form Arm Statements Statement statement_form_step arm_step branch_step
+    statement_step
 
 abbrev pub statements_of : List named_stmt.NamedStmt → Statements
 statements_of ss = statements (map statement_of ss)
 
 abbrev pub block_of : named_block.NamedBlock → Block
-block_of b = record { name = b.name; parent = b.parent; formals = b.formals; answer = b.answer; body = statement_of b.body; at = b.at }
+block_of b = record {
+  name = b.name;
+  parent = b.parent;
+  formals = b.formals;
+  answer = b.answer;
+  body = statement_of b.body;
+  at = b.at;
+}
 
 -- the plain tree of a program
 abbrev pub program_of : named.Named → Program
-program_of p = record { constants = p.constants; kinds = p.kinds; variables = p.variables; blocks = map block_of p.blocks }
+program_of p = record {
+  constants = p.constants;
+  kinds = p.kinds;
+  variables = p.variables;
+  blocks = map block_of p.blocks;
+}

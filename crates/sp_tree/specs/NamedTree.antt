@@ -1,3 +1,4 @@
+-- All of this belongs to what the program promises (docs/promise.txt).
 -- The tree with numbers for names, by the declarations visible at each name. It is there for every syntax tree; where
 -- no rule of names is broken, each name has the number of its declaration. The contract of the resolution promises it.
 use Rattle.std.specs.Prelude.{ℕ, suc, List, [], ◌∷◌, ◌++◌, length, Option, Some, None, codes}
@@ -27,8 +28,15 @@ use Rattle.sp_tree.specs.declared.named.NamedAnswer.{NamedAnswer}
 use Rattle.sp_tree.specs.PlainNamed as n
 use Rattle.sp_tree.specs.NamedOf as of_
 use Rattle.sp_tree.specs.Scopes.{Scope, Env, Local, inside, find, empty, standard, next_kind, next_variable, next_block}
-use Rattle.sp_tree.specs.NameWalk.{indexed, statement_local, statements_local, arm_local, role_of, title_local, heading_local, part_local, parts_local, deeper}
-use Rattle.sp_tree.specs.PlainSyntax.{Expression, At, ExpressionForm, Number, Quoted, Read, Apply, Unary, Binary, Variable, Entire, Selector, Index, Field, Selectors, Whole, Select, Argument, Pass, Width, NoWidth, Within, Arguments, NoArgument, AndArgument, Statement, Does, Form, Empty, Assign, Call, Sequence, If, While, Repeat, Case, For, Parallel, Forall, Assume, Other, NoElse, Else, Statements, NoStatement, AndThen, Arm, On, Arms, NoArm, Or, Branches, NoBranch, Beside, Part, Const, Kind, Var, Proc, Parts, NoPart, Declare, Program}
+use Rattle.sp_tree.specs.NameWalk.{indexed, statement_local, statements_local, arm_local, role_of, title_local}
+use Rattle.sp_tree.specs.NameWalk.{heading_local, part_local, parts_local, deeper}
+use Rattle.sp_tree.specs.PlainSyntax.{Expression, At, ExpressionForm, Number, Quoted, Read, Apply, Unary, Binary}
+use Rattle.sp_tree.specs.PlainSyntax.{Variable, Entire, Selector, Index, Field, Selectors, Whole, Select, Argument}
+use Rattle.sp_tree.specs.PlainSyntax.{Pass, Width, NoWidth, Within, Arguments, NoArgument, AndArgument, Statement, Does}
+use Rattle.sp_tree.specs.PlainSyntax.{Form, Empty, Assign, Call, Sequence, If, While, Repeat, Case, For, Parallel}
+use Rattle.sp_tree.specs.PlainSyntax.{Forall, Assume, Other, NoElse, Else, Statements, NoStatement, AndThen, Arm, On}
+use Rattle.sp_tree.specs.PlainSyntax.{Arms, NoArm, Or, Branches, NoBranch, Beside, Part, Const, Kind, Var, Proc, Parts}
+use Rattle.sp_tree.specs.PlainSyntax.{NoPart, Declare, Program}
 
 -- the number of a constant
 abbrev pub constant_number : Option Meaning → ℕ
@@ -109,7 +117,8 @@ module _ (env : Env) where
     named_width (Within e) = n.Within (named_expression e)
 
   abbrev pub named_target : Variable → n.Variable
-  named_target (Entire x ss) = n.Entire (assigned_number env.local.answer (find env x.text)) x.at (of_.selectors (named_selectors ss))
+  named_target (Entire x ss) = n.Entire (assigned_number env.local.answer (find env x.text)) x.at
+      (of_.selectors (named_selectors ss))
 
   abbrev pub named_value : SynValue → NamedValue
   named_value (value.Number k) = given.Number k
@@ -130,18 +139,28 @@ abbrev mutual
 
   pub named_statement_form : List Scope → Local → Form → n.Form
   named_statement_form around l Empty = n.Empty
-  named_statement_form around l (Assign v e) = n.Assign (named_target (inside around l) v) (named_expression (inside around l) e)
-  named_statement_form around l (Call f args) = procedure_named (find (inside around l) f.text) (of_.arguments (named_arguments (inside around l) args))
+  named_statement_form around l (Assign v e) =
+      n.Assign (named_target (inside around l) v) (named_expression (inside around l) e)
+  named_statement_form around l (Call f args) =
+      procedure_named (find (inside around l) f.text) (of_.arguments (named_arguments (inside around l) args))
   named_statement_form around l (Sequence ss) = n.Sequence (of_.statements (named_statements around l ss))
-  named_statement_form around l (If e a o) = n.If (named_expression (inside around l) e) (named_statement around l a) (named_other around (statement_local l a) o)
-  named_statement_form around l (While e a) = n.While (named_expression (inside around l) e) (named_statement around l a)
-  named_statement_form around l (Repeat ss e) = n.Repeat (of_.statements (named_statements around l ss)) (named_expression (inside around (statements_local l ss)) e)
-  named_statement_form around l (Case e choices) = n.Case (named_expression (inside around l) e) (of_.arms (named_arms around l choices))
+  named_statement_form around l (If e a o) =
+      n.If (named_expression (inside around l) e) (named_statement around l a)
+      (named_other around (statement_local l a) o)
+  named_statement_form around l (While e a) =
+      n.While (named_expression (inside around l) e) (named_statement around l a)
+  named_statement_form around l (Repeat ss e) =
+      n.Repeat (of_.statements (named_statements around l ss))
+      (named_expression (inside around (statements_local l ss)) e)
+  named_statement_form around l (Case e choices) =
+      n.Case (named_expression (inside around l) e) (of_.arms (named_arms around l choices))
   named_statement_form around l (For x from down to a) =
-      n.For (variable_number (find (inside around l) x.text)) x.at (named_expression (inside around l) from) down (named_expression (inside around l) to) (named_statement around l a)
+      n.For (variable_number (find (inside around l) x.text)) x.at (named_expression (inside around l) from) down
+      (named_expression (inside around l) to) (named_statement around l a)
   named_statement_form around l (Parallel bs) = n.Parallel (of_.branches (named_branches around l bs))
   named_statement_form around l (Forall x from to a) =
-      n.Forall (next_variable l.counts) (named_expression (inside around l) from) (named_expression (inside around l) to) (named_statement (deeper around l) (indexed l x) a)
+      n.Forall (next_variable l.counts) (named_expression (inside around l) from)
+      (named_expression (inside around l) to) (named_statement (deeper around l) (indexed l x) a)
   named_statement_form around l (Assume e) = n.Assume (named_expression (inside around l) e)
 
   pub named_other : List Scope → Local → Other → n.Other
@@ -150,7 +169,8 @@ abbrev mutual
 
   pub named_statements : List Scope → Local → Statements → List n.Statement
   named_statements around l NoStatement = []
-  named_statements around l (AndThen a rest) = named_statement around l a ∷ named_statements around (statement_local l a) rest
+  named_statements around l (AndThen a rest) = named_statement around l a
+      ∷ named_statements around (statement_local l a) rest
 
   pub named_arms : List Scope → Local → Arms → List n.Arm
   named_arms around l NoArm = []
@@ -161,7 +181,8 @@ abbrev mutual
 
   pub named_branches : List Scope → Local → Branches → List n.Statements
   named_branches around l NoBranch = []
-  named_branches around l (Beside ss rest) = of_.statements (named_statements around l ss) ∷ named_branches around (statements_local l ss) rest
+  named_branches around l (Beside ss rest) = of_.statements (named_statements around l ss)
+      ∷ named_branches around (statements_local l ss) rest
 
 -- the indices of the foralls in a statement of a block, in order
 module _ (block : ℕ) where
@@ -177,7 +198,8 @@ module _ (block : ℕ) where
     form_indices (Case e choices) = arms_indices choices
     form_indices (For x from down to a) = indices a
     form_indices (Parallel bs) = branches_indices bs
-    form_indices (Forall x from to a) = record { name = x.text; kind = 0; block = block; role = role.Index; at = x.at } ∷ indices a
+    form_indices (Forall x from to a) = record { name = x.text; kind = 0; block = block; role = role.Index; at = x.at }
+        ∷ indices a
     form_indices f = []
 
     pub other_indices : Other → List checked.Variable
@@ -202,12 +224,14 @@ module _ (block : ℕ) where
 -- variables of one type and role
 abbrev pub variables_named : ℕ → Role → ℕ → List Name → List checked.Variable
 variables_named block r k [] = []
-variables_named block r k (x ∷ xs) = record { name = x.text; kind = k; block = block; role = r; at = x.at } ∷ variables_named block r k xs
+variables_named block r k (x ∷ xs) = record { name = x.text; kind = k; block = block; role = r; at = x.at }
+    ∷ variables_named block r k xs
 
 -- the parameters of a block, whose types mean what they mean around the heading
 abbrev pub formals_named : Env → ℕ → List SynFormal → List checked.Variable
 formals_named env block [] = []
-formals_named env block (f ∷ fs) = variables_named block (role_of f.by_reference) (kind_number (find env f.kind.text)) f.names ++ formals_named env block fs
+formals_named env block (f ∷ fs) = variables_named block (role_of f.by_reference) (kind_number (find env f.kind.text))
+    f.names ++ formals_named env block fs
 
 -- so many numbers from one on
 abbrev pub numbers : ℕ → List checked.Variable → List ℕ
@@ -217,7 +241,13 @@ numbers n (x ∷ xs) = n ∷ numbers (suc n) xs
 -- the result of a function, at the place of the heading's name
 abbrev pub answer_named : Env → ℕ → Name → Option Name → List checked.Variable
 answer_named env block x None = []
-answer_named env block x (Some t) = record { name = x.text; kind = kind_number (find env t.text); block = block; role = role.Answer; at = x.at } ∷ []
+answer_named env block x (Some t) = record {
+  name = x.text;
+  kind = kind_number (find env t.text);
+  block = block;
+  role = role.Answer;
+  at = x.at;
+} ∷ []
 
 abbrev pub answer_of : ℕ → Option Name → Option NamedAnswer
 answer_of k None = None
@@ -259,11 +289,22 @@ nothing_named = record { constants = []; kinds = []; variables = []; blocks = []
 
 -- the declarations of one part behind those of another
 abbrev pub beside : n.Program → n.Program → n.Program
-beside a b = record { constants = a.constants ++ b.constants; kinds = a.kinds ++ b.kinds; variables = a.variables ++ b.variables; blocks = a.blocks ++ b.blocks }
+beside a b = record {
+  constants = a.constants ++ b.constants;
+  kinds = a.kinds ++ b.kinds;
+  variables = a.variables
+      ++ b.variables;
+  blocks = a.blocks ++ b.blocks;
+}
 
 -- a constant
 abbrev pub constant_part : Env → SynConst → n.Program
-constant_part env c = record { constants = constant.Value (named_const env c) ∷ []; kinds = []; variables = []; blocks = [] }
+constant_part env c = record {
+  constants = constant.Value (named_const env c) ∷ [];
+  kinds = [];
+  variables = [];
+  blocks = [];
+}
 
 -- a type, with the constants of an enumeration
 abbrev pub kind_part : Env → Name → SynKind → n.Program
@@ -276,10 +317,15 @@ kind_part env x k = record {
 
 -- variables of one type
 abbrev pub variables_part : Env → List Name → Name → n.Program
-variables_part env xs t = record { constants = []; kinds = []; variables = variables_named env.local.block role.Local (kind_number (find env t.text)) xs; blocks = [] }
+variables_part env xs t = record {
+  constants = [];
+  kinds = [];
+  variables = variables_named env.local.block role.Local (kind_number (find env t.text)) xs;
+  blocks = [];
+}
 
--- What stands in a block: the number of its result's variable, its statement part, the indices of the foralls there, and what
--- its parts declare.
+-- What stands in a block: the number of its result's variable, its statement part, the indices of the foralls there,
+-- and what its parts declare.
 pub record Inside : Type 0 where
   pub answer : ℕ
   pub body : n.Statement
@@ -306,13 +352,14 @@ procedure_block env x fs answer i = record {
   at = x.at;
 }
 
--- What a procedure or function declares: its parameters, its result, the variables of its parts, and the indices; and its
--- block in front of those inside it.
+-- What a procedure or function declares: its parameters, its result, the variables of its parts, and the indices; and
+-- its block in front of those inside it.
 abbrev pub procedure_part : Env → Name → List SynFormal → Option Name → Inside → n.Program
 procedure_part env x fs answer i = record {
   constants = i.parts.constants;
   kinds = i.parts.kinds;
-  variables = formals_named env (next_block env.local.counts) fs ++ (answer_named env (next_block env.local.counts) x answer ++ (i.parts.variables ++ i.indices));
+  variables = formals_named env (next_block env.local.counts) fs
+      ++ (answer_named env (next_block env.local.counts) x answer ++ (i.parts.variables ++ i.indices));
   blocks = procedure_block env x fs answer i ∷ i.parts.blocks;
 }
 
@@ -327,7 +374,8 @@ abbrev mutual
   part_named around l (Kind x k) = kind_part (inside around l) x k
   part_named around l (Var xs t) = variables_part (inside around l) xs t
   part_named around l (Proc x fs answer parts body) =
-      procedure_part (inside around l) x fs answer (inside_with (deeper around (title_local l x fs answer)) (heading_local l x fs answer) parts body
+      procedure_part (inside around l) x fs answer
+      (inside_with (deeper around (title_local l x fs answer)) (heading_local l x fs answer) parts body
       (parts_named (deeper around (title_local l x fs answer)) (heading_local l x fs answer) parts))
 
 -- what stands in a block with these parts and this statement part
@@ -337,11 +385,13 @@ inside_named around l parts body = inside_with around l parts body (parts_named 
 -- false, true and maxint
 abbrev pub standard_constants : Place → List NamedConstant
 standard_constants at =
-    constant.Enumerated 1 0 ∷ constant.Enumerated 1 1 ∷ constant.Value (record { at = at; negative = None; value = given.Number 9223372036854775807 }) ∷ []
+    constant.Enumerated 1 0 ∷ constant.Enumerated 1 1
+    ∷ constant.Value (record { at = at; negative = None; value = given.Number 9223372036854775807 }) ∷ []
 
 -- the three standard types
 abbrev pub standard_kinds : Place → List NamedKind
-standard_kinds at = record { at = at; form = kind.Integer } ∷ record { at = at; form = kind.Boolean } ∷ record { at = at; form = kind.Char } ∷ []
+standard_kinds at = record { at = at; form = kind.Integer } ∷ record { at = at; form = kind.Boolean }
+    ∷ record { at = at; form = kind.Char } ∷ []
 
 -- the input and the output, which have chars
 abbrev pub consoles : Place → List checked.Variable

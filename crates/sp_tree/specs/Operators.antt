@@ -1,7 +1,9 @@
+-- All of this belongs to what the program promises (docs/promise.txt).
 -- Operators and standard functions of ordinals, as functions to a number or a fault. The meaning and the code share
 -- them, and `sp_arithmetic` promises them, so that no operator is said twice. `succ` tests the greatest number of its
 -- type alone and `pred` the least, since a value in range is what either is given.
-use Rattle.std.specs.Prelude.{ℤ, pos, ◌+ℤ◌, ◌-ℤ◌, ◌*ℤ◌, neg_ℤ, nat_abs, int_lt, int_le, int_div, int_rem, Bool, ◌&&◌, not, if◌then◌else◌}
+use Rattle.std.specs.Prelude.{ℤ, pos, ◌+ℤ◌, ◌-ℤ◌, ◌*ℤ◌, neg_ℤ, nat_abs, int_lt, int_le, int_div, int_rem, Bool, ◌&&◌}
+use Rattle.std.specs.Prelude.{not, if◌then◌else◌}
 use Rattle.sp_base.specs.declared.fault.Fault.{Fault}
 use Rattle.sp_base.specs.declared.fault.Fault.TheVariants as fault
 use Rattle.sp_base.specs.declared.limits.TheConstants.{MAXINT}

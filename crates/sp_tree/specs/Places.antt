@@ -1,3 +1,4 @@
+-- All of this belongs to what the program promises (docs/promise.txt).
 -- The places of a text's bytes, by line and column. The definitions of tokens and of refusals cite it, and the scanner
 -- and the parser promise it.
 use Rattle.std.specs.Prelude.{ℕ, ◌+◌, ◌==◌, cond, List, [], ◌∷◌, take}

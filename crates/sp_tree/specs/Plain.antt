@@ -1,3 +1,4 @@
+-- All of this belongs to what the program promises (docs/promise.txt).
 -- The tree without places, in types of specifications: definitions by clauses compute on it, and proofs go by its
 -- cases. The meaning, the sets, the code and all their contracts speak of it.
 use Rattle.std.specs.Prelude.{ℕ, ℤ, List, Option, Bool}

@@ -1,3 +1,4 @@
+-- All of this belongs to what the program promises (docs/promise.txt).
 -- The tree with numbers for names in types of specifications: definitions by clauses compute on it, and proofs go by
 -- its cases. The rules of types and the contracts of `sp_scope` and `sp_types` speak of it.
 use Rattle.std.specs.Prelude.{ℕ, List, Option, Bool}

@@ -1,3 +1,4 @@
+-- None of this belongs to what the program promises: it is for contracts between crates.
 -- The plain tree of a checked one in memory, for each part of a tree. It is `CheckedOf`, the tree with its places,
 -- and then `Bare`, which leaves the places out.
 use Rattle.std.specs.Prelude.{List, [], ◌∷◌, map, Option}
@@ -14,8 +15,11 @@ use Rattle.sp_tree.specs.declared.checked.Block as ast_b
 use Rattle.sp_tree.specs.declared.checked.Checked as ast_c
 use Rattle.sp_tree.specs.PlainChecked as p
 use Rattle.sp_tree.specs.CheckedOf as placed
-use Rattle.sp_tree.specs.Bare.{bare_expression, bare_form, bare_variable, bare_selector, bare_selectors, bare_actual, bare_actuals, bare_width, bare_statement, bare_statement_form, bare_statements, bare_arm, bare_arms, bare_block, bare}
-use Rattle.sp_tree.specs.Plain.{Expr, ExprForm, Var, Selector, Selectors, Actual, Actuals, Stmt, Send, Receive, Stmts, No, And, Arm, Arms, Block, Program}
+use Rattle.sp_tree.specs.Bare.{bare_expression, bare_form, bare_variable, bare_selector, bare_selectors, bare_actual}
+use Rattle.sp_tree.specs.Bare.{bare_actuals, bare_width, bare_statement, bare_statement_form, bare_statements, bare_arm}
+use Rattle.sp_tree.specs.Bare.{bare_arms, bare_block, bare}
+use Rattle.sp_tree.specs.Plain.{Expr, ExprForm, Var, Selector, Selectors, Actual, Actuals, Stmt, Send, Receive, Stmts}
+use Rattle.sp_tree.specs.Plain.{No, And, Arm, Arms, Block, Program}
 
 abbrev pub expr_of : ast_e.Expr → Expr
 expr_of e = bare_expression (placed.expression_of e)

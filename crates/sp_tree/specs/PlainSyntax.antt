@@ -1,3 +1,4 @@
+-- All of this belongs to what the program promises (docs/promise.txt).
 -- The syntax tree in types of specifications: definitions by clauses compute on it, and proofs go by its cases. The
 -- grammar, the rules of names and the contracts of the parser, the formatter and `sp_scope` speak of it.
 use Rattle.std.specs.Prelude.{ℕ, List, Option, Bool}

@@ -1,6 +1,8 @@
+-- All of this belongs to what the program promises (docs/promise.txt).
 -- A text as blanks, comments and tokens, and the rules that it breaks so. The scanner's contract promises it, and the
 -- front's definition of a refused text begins with it.
-use Rattle.std.specs.Prelude.{◌≡◌, ◌≢◌, ℕ, ◌-◌, ◌<◌, Bool, true, false, ◌||◌, ◌&&◌, ◌==◌, List, [], ◌∷◌, length, Some, slice_get, ◌⊎◌}
+use Rattle.std.specs.Prelude.{◌≡◌, ◌≢◌, ℕ, ◌-◌, ◌<◌, Bool, true, false, ◌||◌, ◌&&◌, ◌==◌, List, [], ◌∷◌, length, Some}
+use Rattle.std.specs.Prelude.{slice_get, ◌⊎◌}
 use Rattle.sp_base.specs.declared.place.Place.{Place}
 use Rattle.sp_base.specs.declared.rule.Rule.{Rule}
 use Rattle.sp_base.specs.declared.rule.Rule.TheVariants as rule
@@ -18,14 +20,21 @@ offset text bs = length text - length bs
 
 -- the token that is spelled from these bytes up to those
 abbrev pub token_from : List ℕ → Kind → List ℕ → List ℕ → Token
-token_from text k bs r = record { kind = k; from = offset text bs; to = offset text r; at = place_at text (offset text bs) }
+token_from text k bs r = record {
+  kind = k;
+  from = offset text bs;
+  to = offset text r;
+  at = place_at text (offset text bs);
+}
 
 -- In a text: from these bytes to those there are these tokens, each the longest at its place.
 pub data Scans (text : List ℕ) : List ℕ → List ℕ → List Token → Type 0 where
   nothing : {r : List ℕ} → Scans text r r []
-  blank : {bs r : List ℕ} {ts : List Token} → (b : ℕ) → is_blank b ≡ true → Scans text bs r ts → Scans text (b ∷ bs) r ts
+  blank : {bs r : List ℕ} {ts : List Token} → (b : ℕ) → is_blank b ≡ true → Scans text bs r ts
+      → Scans text (b ∷ bs) r ts
   comment : {bs u r : List ℕ} {ts : List Token} → Comment bs u → Scans text u r ts → Scans text bs r ts
-  token : {bs u r : List ℕ} {ts : List Token} → (k : Kind) → opens_comment bs ≡ false → Longest k bs u → Scans text u r ts → Scans text bs r (token_from text k bs u ∷ ts)
+  token : {bs u r : List ℕ} {ts : List Token} → (k : Kind) → opens_comment bs ≡ false → Longest k bs u
+      → Scans text u r ts → Scans text bs r (token_from text k bs u ∷ ts)
 
 -- no token begins here
 abbrev pub NoToken : List ℕ → Type 0
@@ -86,7 +95,8 @@ pub record RealNumber (bs : List ℕ) : Type 0 where
 
 -- a byte that is no blank, opens no comment and begins no token, and breaks none of the rules S2, S3, U1 and U2
 pub data StrayByte : List ℕ → Type 0 where
-  stray : {bs : List ℕ} → (b : ℕ) → is_blank b ≡ false → opens_comment (b ∷ bs) ≡ false → b ≢ 39 → b ≢ 94 → b ≢ 64 → b ≢ 47 → NoToken (b ∷ bs) → StrayByte (b ∷ bs)
+  stray : {bs : List ℕ} → (b : ℕ) → is_blank b ≡ false → opens_comment (b ∷ bs) ≡ false → b ≢ 39 → b ≢ 94 → b ≢ 64
+      → b ≢ 47 → NoToken (b ∷ bs) → StrayByte (b ∷ bs)
 
 -- The rule is broken at these bytes.
 abbrev pub BreaksHere : Rule → List ℕ → Type 0

@@ -1,3 +1,4 @@
+-- All of this belongs to what the program promises (docs/promise.txt).
 -- The declarations that are visible at a place: those of the innermost block, and those of the blocks around it. The
 -- rules of names ask it, and the tables of `sp_scope` promise it.
 use Rattle.std.specs.Prelude.{ℕ, ◌+◌, nat_le, List, [], ◌∷◌, Option, Some, None, if◌then◌else◌, codes}
@@ -16,8 +17,8 @@ use Rattle.sp_tree.specs.declared.meaning.Sort.TheVariants as sort
 abbrev pub Scope : Type 0
 Scope = List (List ℕ × Meaning)
 
--- The innermost block as far as it is read; the number of the program, procedure or function that it belongs to, and that
--- of its result's variable; and what was declared so far.
+-- The innermost block as far as it is read; the number of the program, procedure or function that it belongs to, and
+-- that of its result's variable; and what was declared so far.
 pub record Local : Type 0 where
   pub here : Scope
   pub block : ℕ
@@ -64,13 +65,37 @@ count sort.Block c = c.blocks
 
 -- one more of a sort
 abbrev pub more : Sort → Counts → Counts
-more sort.Constant c = record { constants = c.constants + 1; kinds = c.kinds; variables = c.variables; results = c.results; blocks = c.blocks }
-more sort.Kind c = record { constants = c.constants; kinds = c.kinds + 1; variables = c.variables; results = c.results; blocks = c.blocks }
-more sort.Variable c = record { constants = c.constants; kinds = c.kinds; variables = c.variables + 1; results = c.results; blocks = c.blocks }
-more sort.Block c = record { constants = c.constants; kinds = c.kinds; variables = c.variables; results = c.results; blocks = c.blocks + 1 }
+more sort.Constant c = record {
+  constants = c.constants + 1;
+  kinds = c.kinds;
+  variables = c.variables;
+  results = c.results;
+  blocks = c.blocks;
+}
+more sort.Kind c = record {
+  constants = c.constants;
+  kinds = c.kinds + 1;
+  variables = c.variables;
+  results = c.results;
+  blocks = c.blocks;
+}
+more sort.Variable c = record {
+  constants = c.constants;
+  kinds = c.kinds;
+  variables = c.variables + 1;
+  results = c.results;
+  blocks = c.blocks;
+}
+more sort.Block c = record {
+  constants = c.constants;
+  kinds = c.kinds;
+  variables = c.variables;
+  results = c.results;
+  blocks = c.blocks + 1;
+}
 
--- The numbers that the next declarations get: behind the standard constants and types, the input and the output, and the
--- program. The results of functions are variables too.
+-- The numbers that the next declarations get: behind the standard constants and types, the input and the output, and
+-- the program. The results of functions are variables too.
 abbrev pub next_constant : Counts → ℕ
 next_constant c = c.constants + 3
 
@@ -106,7 +131,12 @@ closed outer inner = record { here = outer.here; block = outer.block; answer = o
 
 -- the program's block before anything is declared
 abbrev pub empty : Local
-empty = record { here = []; block = 0; answer = 0; counts = record { constants = 0; kinds = 0; variables = 0; results = 0; blocks = 0 } }
+empty = record {
+  here = [];
+  block = 0;
+  answer = 0;
+  counts = record { constants = 0; kinds = 0; variables = 0; results = 0; blocks = 0 };
+}
 
 -- the standard names, which stand in a block around the program
 abbrev pub standard : Scope

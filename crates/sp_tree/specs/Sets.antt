@@ -1,3 +1,4 @@
+-- All of this belongs to what the program promises (docs/promise.txt).
 -- The variables that a statement uses, by paths of calls: the meaning of the sets that `sp_varsets` computes. It is
 -- said by paths, and not by a closure, so that it shares nothing with the computation.
 use Rattle.std.specs.Prelude.{◌≡◌, ◌⊎◌, ℕ, zero, suc, List, [], ◌∷◌, Some, slice_get}
@@ -26,7 +27,8 @@ module _ (p : Program) where
   -- by a path of calls from where the uses Here stand, this use
   abbrev pub Reach : (Use → Type 0) → List ℕ → Use → Type 0
   Reach Here [] u = Here u
-  Reach Here (b ∷ bs) u = (args : Actuals) × Here (CallOf b args) × (k : Block) × (slice_get p.blocks b ≡ Some k) × Passes b u × Reach (In_stmt k.body) bs u
+  Reach Here (b ∷ bs) u = (args : Actuals) × Here (CallOf b args) × (k : Block) × (slice_get p.blocks b ≡ Some k)
+      × Passes b u × Reach (In_stmt k.body) bs u
 
   -- target and expression variables
   abbrev pub IsTarget : (Use → Type 0) → ℕ → Type 0

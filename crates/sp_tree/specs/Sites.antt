@@ -1,8 +1,14 @@
+-- All of this belongs to what the program promises (docs/promise.txt).
 -- Where the rules of interference look, by clauses on the tree with places: forks, loops, calls and what a function
 -- may not have. `Interferes.antt` tells the breaches at each site, and `sp_interfere` looks at the same ones.
 use Rattle.std.specs.Prelude.{ℕ, List, [], ◌∷◌, ◌++◌, Option, Some, None}
 use Rattle.sp_base.specs.declared.place.Place.{Place}
-use Rattle.sp_tree.specs.PlainChecked.{Expression, At, ExpressionForm, Number, Read, Unary, Binary, Apply, Standard, Variable, Entire, Selectors, Whole, Select, Index, Field, Actuals, Nothing, Pass, ByValue, ByReference, NoExpression, AndExpression, Statement, Does, Form, Empty, Assign, Call, Sequence, If, While, Repeat, For, Case, Parallel, Forall, Assume, ReadValue, ReadLine, WriteValue, WriteText, WriteLine, Open, Send, Receive, NoElse, Else, Statements, NoStatement, AndThen, On, Arms, NoArm, Or}
+use Rattle.sp_tree.specs.PlainChecked.{Expression, At, ExpressionForm, Number, Read, Unary, Binary, Apply, Standard}
+use Rattle.sp_tree.specs.PlainChecked.{Variable, Entire, Selectors, Whole, Select, Index, Field, Actuals, Nothing, Pass}
+use Rattle.sp_tree.specs.PlainChecked.{ByValue, ByReference, NoExpression, AndExpression, Statement, Does, Form, Empty}
+use Rattle.sp_tree.specs.PlainChecked.{Assign, Call, Sequence, If, While, Repeat, For, Case, Parallel, Forall, Assume}
+use Rattle.sp_tree.specs.PlainChecked.{ReadValue, ReadLine, WriteValue, WriteText, WriteLine, Open, Send, Receive}
+use Rattle.sp_tree.specs.PlainChecked.{NoElse, Else, Statements, NoStatement, AndThen, On, Arms, NoArm, Or}
 
 pub data Site : Type 0 where
   -- a parallel statement
@@ -59,10 +65,12 @@ abbrev mutual
   statement_form_sites at (If e s (Else t)) = expression_sites e ++ (statement_sites s ++ statement_sites t)
   statement_form_sites at (While e s) = expression_sites e ++ statement_sites s
   statement_form_sites at (Repeat s e) = expression_sites e ++ statement_sites s
-  statement_form_sites at (For x name from down to s) = LoopsAt x name s ∷ (expression_sites from ++ (expression_sites to ++ statement_sites s))
+  statement_form_sites at (For x name from down to s) = LoopsAt x name s
+      ∷ (expression_sites from ++ (expression_sites to ++ statement_sites s))
   statement_form_sites at (Case e arms) = expression_sites e ++ arms_sites arms
   statement_form_sites at (Parallel ss) = SplitsAt ss ∷ StopsAt at ∷ statements_sites ss
-  statement_form_sites at (Forall x from to s) = SpreadsAt at x s ∷ StopsAt at ∷ (expression_sites from ++ (expression_sites to ++ statement_sites s))
+  statement_form_sites at (Forall x from to s) = SpreadsAt at x s ∷ StopsAt at
+      ∷ (expression_sites from ++ (expression_sites to ++ statement_sites s))
   statement_form_sites at (Assume e) = expression_sites e
   statement_form_sites at (ReadValue v) = StopsAt at ∷ variable_sites v
   statement_form_sites at ReadLine = StopsAt at ∷ []

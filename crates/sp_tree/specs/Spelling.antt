@@ -1,3 +1,4 @@
+-- All of this belongs to what the program promises (docs/promise.txt).
 -- What a token of a text says: the number of digits, the text between quotes, the letters of a name. The grammar gives
 -- trees these values, and the scanner and the parser promise them.
 use Rattle.std.specs.Prelude.{ℕ, ◌+◌, ◌-◌, ◌*◌, ◌==◌, cond, List, [], ◌∷◌, map, take, drop}

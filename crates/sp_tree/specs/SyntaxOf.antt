@@ -1,3 +1,4 @@
+-- None of this belongs to what the program promises: it is for contracts between crates.
 -- The plain tree of a syntax tree in memory. The contracts of the parser, which makes such a tree, and of the
 -- resolution, which takes it, speak of plain trees by it.
 use Rattle.std.specs.Prelude.{List, [], ◌∷◌, map, Option, Some, None}
@@ -16,7 +17,13 @@ use Rattle.sp_tree.specs.declared.syntax.SynBranch as syn_branch
 use Rattle.sp_tree.specs.declared.syntax.SynBlock as syn_block
 use Rattle.sp_tree.specs.declared.syntax.SynPart as syn_part
 use Rattle.sp_tree.specs.declared.syntax.Syntax as syn
-use Rattle.sp_tree.specs.PlainSyntax.{Expression, At, ExpressionForm, Number, Quoted, Read, Apply, Unary, Binary, Variable, Entire, Selector, Index, Field, Selectors, Whole, Select, Argument, Pass, Width, NoWidth, Within, Arguments, NoArgument, AndArgument, Statement, Does, Form, Empty, Assign, Call, Sequence, If, While, Repeat, Case, For, Parallel, Forall, Assume, Other, NoElse, Else, Statements, NoStatement, AndThen, Arm, On, Arms, NoArm, Or, Branches, NoBranch, Beside, Part, Const, Kind, Var, Proc, Parts, NoPart, Declare, Block, Program}
+use Rattle.sp_tree.specs.PlainSyntax.{Expression, At, ExpressionForm, Number, Quoted, Read, Apply, Unary, Binary}
+use Rattle.sp_tree.specs.PlainSyntax.{Variable, Entire, Selector, Index, Field, Selectors, Whole, Select, Argument}
+use Rattle.sp_tree.specs.PlainSyntax.{Pass, Width, NoWidth, Within, Arguments, NoArgument, AndArgument, Statement, Does}
+use Rattle.sp_tree.specs.PlainSyntax.{Form, Empty, Assign, Call, Sequence, If, While, Repeat, Case, For, Parallel}
+use Rattle.sp_tree.specs.PlainSyntax.{Forall, Assume, Other, NoElse, Else, Statements, NoStatement, AndThen, Arm, On}
+use Rattle.sp_tree.specs.PlainSyntax.{Arms, NoArm, Or, Branches, NoBranch, Beside, Part, Const, Kind, Var, Proc, Parts}
+use Rattle.sp_tree.specs.PlainSyntax.{NoPart, Declare, Block, Program}
 
 -- lists of the plain tree
 abbrev pub selectors : List Selector → Selectors
@@ -54,19 +61,24 @@ abbrev pub variable_step : e.SynVar-F ExpressionForm Selector Argument Expressio
 variable_step v = Entire v.name (selectors v.selectors)
 
 abbrev pub expression_of : syn_expr.SynExpr → Expression
-expression_of = syn_expr.fold-SynExpr ExpressionForm Selector Argument Expression Variable form_step selector_step argument_step expression_step variable_step
+expression_of = syn_expr.fold-SynExpr ExpressionForm Selector Argument Expression Variable form_step selector_step
+    argument_step expression_step variable_step
 
 abbrev pub expression_form_of : syn_form.SynExprForm → ExpressionForm
-expression_form_of = syn_form.fold-SynExprForm ExpressionForm Selector Argument Expression Variable form_step selector_step argument_step expression_step variable_step
+expression_form_of = syn_form.fold-SynExprForm ExpressionForm Selector Argument Expression Variable form_step
+    selector_step argument_step expression_step variable_step
 
 abbrev pub variable_of : syn_var.SynVar → Variable
-variable_of = syn_var.fold-SynVar ExpressionForm Selector Argument Expression Variable form_step selector_step argument_step expression_step variable_step
+variable_of = syn_var.fold-SynVar ExpressionForm Selector Argument Expression Variable form_step selector_step
+    argument_step expression_step variable_step
 
 abbrev pub selector_of : syn_selector.SynSelector → Selector
-selector_of = syn_selector.fold-SynSelector ExpressionForm Selector Argument Expression Variable form_step selector_step argument_step expression_step variable_step
+selector_of = syn_selector.fold-SynSelector ExpressionForm Selector Argument Expression Variable form_step selector_step
+    argument_step expression_step variable_step
 
 abbrev pub argument_of : syn_arg.SynArg → Argument
-argument_of = syn_arg.fold-SynArg ExpressionForm Selector Argument Expression Variable form_step selector_step argument_step expression_step variable_step
+argument_of = syn_arg.fold-SynArg ExpressionForm Selector Argument Expression Variable form_step selector_step
+    argument_step expression_step variable_step
 
 abbrev pub arguments_of : List syn_arg.SynArg → Arguments
 arguments_of args = arguments (map argument_of args)
@@ -113,16 +125,19 @@ abbrev pub statement_step : s.SynStmt-F Form Arm Statements Statement → Statem
 statement_step a = Does a.at a.form
 
 abbrev pub statement_of : syn_stmt.SynStmt → Statement
-statement_of = syn_stmt.fold-SynStmt Form Arm Statements Statement statement_form_step arm_step branch_step statement_step
+statement_of = syn_stmt.fold-SynStmt Form Arm Statements Statement statement_form_step arm_step branch_step
+    statement_step
 
 abbrev pub statement_form_of : syn_stmt_form.SynForm → Form
-statement_form_of = syn_stmt_form.fold-SynForm Form Arm Statements Statement statement_form_step arm_step branch_step statement_step
+statement_form_of = syn_stmt_form.fold-SynForm Form Arm Statements Statement statement_form_step arm_step branch_step
+    statement_step
 
 abbrev pub arm_of : syn_arm.SynArm → Arm
 arm_of = syn_arm.fold-SynArm Form Arm Statements Statement statement_form_step arm_step branch_step statement_step
 
 abbrev pub branch_of : syn_branch.SynBranch → Statements
-branch_of = syn_branch.fold-SynBranch Form Arm Statements Statement statement_form_step arm_step branch_step statement_step
+branch_of = syn_branch.fold-SynBranch Form Arm Statements Statement statement_form_step arm_step branch_step
+    statement_step
 
 abbrev pub statements_of : List syn_stmt.SynStmt → Statements
 statements_of ss = statements (map statement_of ss)

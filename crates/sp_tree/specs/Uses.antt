@@ -1,12 +1,17 @@
+-- Some of this belongs to what the program promises (docs/promise.txt).
 -- What stands in a statement: the positions of variables, the calls, the forks. The sets, the rules of interference
 -- and the facts of code ask it by occurrence, so that each question is one relation on the tree. The index of a
 -- `forall` is taken out of what stands in the element statement, not out of what calls carry: a call never carries
 -- it.
 use Rattle.std.specs.Prelude.{◌≡◌, ◌≢◌, ◌⊎◌, ℕ, Option, Some, None}
-use Rattle.sp_tree.specs.Plain.{Expr, Typed, ExprForm, Number, Read, Unary, Binary, Apply, Standard, AtInput, Var, Entire, Index, Field, Selectors, Whole, Select, ByValue, ByReference, Actuals, Nothing, Pass, Stmt, Empty, Assign, Call, Sequence, If, IfElse, While, Repeat, For, Case, Parallel, Forall, Assume, ReadValue, ReadLine, WriteValue, WriteText, WriteLine, Open, Send, Receive, Stmts, No, And, On, Arms, NoArm, Or}
+use Rattle.sp_tree.specs.Plain.{Expr, Typed, ExprForm, Number, Read, Unary, Binary, Apply, Standard, AtInput, Var}
+use Rattle.sp_tree.specs.Plain.{Entire, Index, Field, Selectors, Whole, Select, ByValue, ByReference, Actuals, Nothing}
+use Rattle.sp_tree.specs.Plain.{Pass, Stmt, Empty, Assign, Call, Sequence, If, IfElse, While, Repeat, For, Case}
+use Rattle.sp_tree.specs.Plain.{Parallel, Forall, Assume, ReadValue, ReadLine, WriteValue, WriteText, WriteLine, Open}
+use Rattle.sp_tree.specs.Plain.{Send, Receive, Stmts, No, And, On, Arms, NoArm, Or}
 
--- what stands in a statement: a target position of a variable, an expression position of one, a call, a parallel or forall
--- statement, and (Stop) a statement that a function may not have: one that communicates, forks, reads or writes
+-- what stands in a statement: a target position of a variable, an expression position of one, a call, a parallel or
+-- forall statement, and (Stop) a statement that a function may not have: one that communicates, forks, reads or writes
 pub data Use : Type 0 where
   Target : (x : ℕ) → Use
   Seen : (x : ℕ) → Use
@@ -74,7 +79,8 @@ abbrev mutual
   In_stmt (For x from down to s) u = (u ≡ Target x) ⊎ (In_expr from u ⊎ (In_expr to u ⊎ In_stmt s u))
   In_stmt (Case e arms) u = In_expr e u ⊎ In_arms arms u
   In_stmt (Parallel ss) u = (u ≡ ParallelOf ss) ⊎ (In_stmts ss u ⊎ (u ≡ Stop))
-  In_stmt (Forall x from to s) u = (u ≡ ForallOf x s) ⊎ (In_expr from u ⊎ (In_expr to u ⊎ ((In_stmt s u × IsOther x u) ⊎ (u ≡ Stop))))
+  In_stmt (Forall x from to s) u = (u ≡ ForallOf x s)
+      ⊎ (In_expr from u ⊎ (In_expr to u ⊎ ((In_stmt s u × IsOther x u) ⊎ (u ≡ Stop))))
   In_stmt (Assume e) u = In_expr e u
   In_stmt (ReadValue v) u = (u ≡ Target 0) ⊎ (In_target v u ⊎ (u ≡ Stop))
   In_stmt ReadLine u = (u ≡ Target 0) ⊎ (u ≡ Stop)

@@ -1,3 +1,4 @@
+-- Some of this belongs to what the program promises (docs/promise.txt).
 -- Which tokens spell a program, and which are the beginning of some program. The first bad token is defined by it,
 -- for the parser's refusal. Where the grammar asks `Ok` of a part, `Any` asks nothing, and `Shallow` that a part
 -- which begins in the tokens so far lies inside fewer parts than the limit.
@@ -24,7 +25,8 @@ IsViable text ts = (rest : List Token) × (p : Program) × Spells text (ts ++ re
 
 -- The same, and no part that begins in these tokens lies inside limit others.
 abbrev pub IsShallow : List ℕ → ℕ → List Token → Type 0
-IsShallow text limit ts = (rest : List Token) × (p : Program) × IsProgram text (Shallow limit (length rest)) (ts ++ rest) [] p
+IsShallow text limit ts = (rest : List Token) × (p : Program)
+    × IsProgram text (Shallow limit (length rest)) (ts ++ rest) [] p
 
 -- This is the first token with which the tokens are not viable.
 pub record IsFirstBad (text : List ℕ) (ts : List Token) (front : List Token) (token : Token) : Type 0 where

@@ -1,3 +1,4 @@
+-- All of this belongs to what the program promises (docs/promise.txt).
 -- The reserved words and the signs, as kinds of tokens: a short name for each, which the lines of the grammar and the
 -- parser's tables write.
 use Rattle.sp_tree.specs.declared.token.Kind.{Kind}

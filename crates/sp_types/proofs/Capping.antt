@@ -1,5 +1,6 @@
 -- What is lost where cells are counted up to just above the limit is never asked for.
-use Rattle.std.proofs.Common.{◌≡◌, refl, ap, sym as back_of, ◌∙◌, ℕ, zero, suc, ◌+◌, ◌*◌, ◌≤◌, List, [], ◌∷◌, ◌++◌, map, Option, Some, None, inl, inr, arith}
+use Rattle.std.proofs.Common.{◌≡◌, refl, ap, sym as back_of, ◌∙◌, ℕ, zero, suc, ◌+◌, ◌*◌, ◌≤◌, List, [], ◌∷◌, ◌++◌, map}
+use Rattle.std.proofs.Common.{Option, Some, None, inl, inr, arith}
 use Rattle.std.specs.Prelude.{option_map, min, sum, slice_get, nat_lt, nat_eq, if◌then◌else◌, Bool, true, false}
 use Rattle.std.proofs.Math.Nat.{mul-le-mul_right, mul_comm, le_of_lt}
 use Rattle.std.proofs.lemmas.Option.{slice_get-map}
@@ -32,7 +33,8 @@ high m n (suc s) h =
     rw e (omega (arith, a))
 
 pub product_capped : (m n s : ℕ) → min (min n m * s) m ≡ min (n * s) m
-product_capped m n s = elim (leb_tells n m) as (λ _. min (min n m * s) m ≡ min (n * s) m) [ inl x ↦ low m n s x.1 | inr x ↦ high m n s (le_of_lt x.1) ]
+product_capped m n s = elim (leb_tells n m) as (λ _. min (min n m * s) m ≡ min (n * s) m)
+    [ inl x ↦ low m n s x.1 | inr x ↦ high m n s (le_of_lt x.1) ]
 
 pub counted : (n s : ℕ) → capped (capped n * s) ≡ capped (n * s)
 counted n s = product_capped (most_cells + 1) n s
@@ -64,8 +66,10 @@ first_capped : (o : Option ℕ) → capped (first_or 0 (option_map capped o)) �
 first_capped None = refl
 first_capped (Some n) = twice n
 
-at_capped : (known : List ℕ) (k : ℕ) → capped (first_or 0 (slice_get (map capped known) k)) ≡ capped (first_or 0 (slice_get known k))
-at_capped known k = ap (λ (o : Option ℕ). capped (first_or 0 o)) (slice_get-map capped known k) ∙ first_capped (slice_get known k)
+at_capped : (known : List ℕ) (k : ℕ) → capped (first_or 0 (slice_get (map capped known) k))
+    ≡ capped (first_or 0 (slice_get known k))
+at_capped known k = ap (λ (o : Option ℕ). capped (first_or 0 o)) (slice_get-map capped known k)
+    ∙ first_capped (slice_get known k)
 
 sum_on : (f : List ℕ × ℕ → ℕ) (x : List ℕ × ℕ) (xs : List (List ℕ × ℕ)) → sum (map f (x ∷ xs)) ≡ f x + sum (map f xs)
 sum_on f x xs = sum-map f (x ∷ xs) ∙ sum_by-cons f x xs ∙ ap (λ (s : ℕ). f x + s) (back_of (sum-map f xs))
@@ -73,16 +77,19 @@ sum_on f x xs = sum-map f (x ∷ xs) ∙ sum_by-cons f x xs ∙ ap (λ (s : ℕ)
 abbrev field_cells : List ℕ → List ℕ × ℕ → ℕ
 field_cells known f = first_or 0 (slice_get known f.1)
 
-fields_capped : (known : List ℕ) (fs : List (List ℕ × ℕ)) → capped (sum (map (field_cells (map capped known)) fs)) ≡ capped (sum (map (field_cells known) fs))
+fields_capped : (known : List ℕ) (fs : List (List ℕ × ℕ))
+    → capped (sum (map (field_cells (map capped known)) fs)) ≡ capped (sum (map (field_cells known) fs))
 fields_capped known [] = refl
 fields_capped known (f ∷ fs) =
     ap capped (sum_on (field_cells (map capped known)) f fs) ∙
     added _ _ _ _ (at_capped known f.1) (fields_capped known fs) ∙
     back_of (ap capped (sum_on (field_cells known) f fs))
 
-array_capped : (known : List ℕ) (n e : ℕ) → capped (n * first_or 0 (slice_get (map capped known) e)) ≡ capped (n * first_or 0 (slice_get known e))
+array_capped : (known : List ℕ) (n e : ℕ) → capped (n * first_or 0 (slice_get (map capped known) e))
+    ≡ capped (n * first_or 0 (slice_get known e))
 array_capped known n e =
-    back_of (counted_right n (first_or 0 (slice_get (map capped known) e))) ∙ ap (λ (s : ℕ). capped (n * s)) (at_capped known e) ∙ counted_right n (first_or 0 (slice_get known e))
+    back_of (counted_right n (first_or 0 (slice_get (map capped known) e)))
+    ∙ ap (λ (s : ℕ). capped (n * s)) (at_capped known e) ∙ counted_right n (first_or 0 (slice_get known e))
 
 size_capped : (known : List ℕ) (k : KindOf) → capped_by (map capped known) k ≡ capped (size_by known k)
 size_capped known kind.Integer = refl
@@ -96,7 +103,8 @@ size_capped known (kind.Channel ks) = refl
 one_more : (known : List ℕ) (n : ℕ) → map capped known ++ capped n ∷ [] ≡ map capped (known ++ n ∷ [])
 one_more known n = back_of (map-append capped known (n ∷ []))
 
-table_capped : (known : List ℕ) (kinds : List KindOf) → table capped_by (map capped known) kinds ≡ map capped (table size_by known kinds)
+table_capped : (known : List ℕ) (kinds : List KindOf)
+    → table capped_by (map capped known) kinds ≡ map capped (table size_by known kinds)
 table_capped known [] = refl
 table_capped known (k ∷ ks) =
     ap (λ (c : ℕ). table capped_by (map capped known ++ c ∷ []) ks) (size_capped known k) ∙
@@ -117,14 +125,17 @@ cells_rule_same at n = ap (λ (b : Bool). breaks_if rule.L3 at b) (above most_ce
 pub frame_rule_same : (at : Place) (n : ℕ) → frame_rule at (capped n) ≡ frame_rule at n
 frame_rule_same at n = ap (λ (b : Bool). breaks_if rule.L6 at b) (above most_cells n)
 
-pub cells_same : (places : List Place) (cells : List ℕ) (given : Found) → cells_first places (map capped cells) given ≡ cells_first places cells given
+pub cells_same : (places : List Place) (cells : List ℕ) (given : Found)
+    → cells_first places (map capped cells) given ≡ cells_first places cells given
 cells_same [] cells given = refl
 cells_same (at ∷ places) [] given = refl
 cells_same (at ∷ places) (n ∷ cells) given =
-    ap (λ (r : Found). cells_first places (map capped cells) (lesser given r)) (cells_rule_same at n) ∙ cells_same places cells (lesser given (cells_rule at n))
+    ap (λ (r : Found). cells_first places (map capped cells) (lesser given r)) (cells_rule_same at n)
+    ∙ cells_same places cells (lesser given (cells_rule at n))
 
 -- the cells of one variable
-variable_capped : (cells : List ℕ) (r : Role) (k : ℕ) → capped (cells_by (map capped cells) r k) ≡ capped (cells_by cells r k)
+variable_capped : (cells : List ℕ) (r : Role) (k : ℕ)
+    → capped (cells_by (map capped cells) r k) ≡ capped (cells_by cells r k)
 variable_capped cells role.Console k = refl
 variable_capped cells role.Local k = at_capped cells k
 variable_capped cells role.Value k = at_capped cells k
@@ -136,11 +147,15 @@ chosen_capped : (b : Bool) (x y : ℕ) → capped x ≡ capped y → capped (if 
 chosen_capped true x y e = e
 chosen_capped false x y e = refl
 
-frame_capped : (numbers cells : List ℕ) (b : ℕ) (xs : List checked.Variable) → capped (frame_cells numbers (map capped cells) b xs) ≡ capped (frame_cells numbers cells b xs)
+frame_capped : (numbers cells : List ℕ) (b : ℕ) (xs : List checked.Variable)
+    → capped (frame_cells numbers (map capped cells) b xs) ≡ capped (frame_cells numbers cells b xs)
 frame_capped numbers cells b [] = refl
 frame_capped numbers cells b (x ∷ xs) =
-    added _ _ _ _ (chosen_capped (nat_eq x.block b) _ _ (variable_capped cells x.role (type_number numbers x.kind))) (frame_capped numbers cells b xs)
+    added _ _ _ _ (chosen_capped (nat_eq x.block b) _ _ (variable_capped cells x.role (type_number numbers x.kind)))
+    (frame_capped numbers cells b xs)
 
-pub frame_same : (at : Place) (numbers cells : List ℕ) (b : ℕ) (xs : List checked.Variable) → frame_rule at (frame_cells numbers (map capped cells) b xs) ≡ frame_rule at (frame_cells numbers cells b xs)
+pub frame_same : (at : Place) (numbers cells : List ℕ) (b : ℕ) (xs : List checked.Variable)
+    → frame_rule at (frame_cells numbers (map capped cells) b xs) ≡ frame_rule at (frame_cells numbers cells b xs)
 frame_same at numbers cells b xs =
-    back_of (frame_rule_same at (frame_cells numbers (map capped cells) b xs)) ∙ ap (frame_rule at) (frame_capped numbers cells b xs) ∙ frame_rule_same at (frame_cells numbers cells b xs)
+    back_of (frame_rule_same at (frame_cells numbers (map capped cells) b xs))
+    ∙ ap (frame_rule at) (frame_capped numbers cells b xs) ∙ frame_rule_same at (frame_cells numbers cells b xs)

@@ -1,4 +1,5 @@
--- Worked rows of the rules of types on declarations, by computing: what breaks a rule, with the place, and the nearest that does not.
+-- Worked rows of the rules of types on declarations, by computing: what breaks a rule, with the place, and the nearest
+-- that does not.
 use Rattle.std.proofs.Common.{◌≡◌, ℕ, List, [], ◌∷◌, ◌++◌, Some, None, refl}
 use Rattle.std.specs.Prelude.{codes}
 use Rattle.sp_base.specs.declared.rule.Rule.TheVariants as rule
@@ -56,10 +57,12 @@ y14_integer : with_constant (minus_const 12 (given.Constant 2)) ≡ None
 y14_integer = refl
 
 -- const c = -'a', by a name: a char takes no sign
-y14_char_sign : with_declarations (constant.Value (given_const 12 (given.Quoted (codes "a"))) ∷ constant.Value (minus_const 20 (given.Constant 3)) ∷ []) [] [] [] ≡ breaks rule.Y14 (col 20)
+y14_char_sign : with_declarations (constant.Value (given_const 12 (given.Quoted (codes "a")))
+    ∷ constant.Value (minus_const 20 (given.Constant 3)) ∷ []) [] [] [] ≡ breaks rule.Y14 (col 20)
 y14_char_sign = refl
 
--- array [1..true]; array [2..1]; array [1..1]; array [false..true]; array [-maxint..-1] has too many cells, but its bounds stand
+-- array [1..true]; array [2..1]; array [1..1]; array [false..true]; array [-maxint..-1] has too many cells, but its
+-- bounds stand
 y13_types : with_array (number 22 1) (named 25 1) ≡ breaks rule.Y13 (col 25)
 y13_types = refl
 
@@ -100,7 +103,8 @@ l3_one = refl
 
 -- arrays of arrays: 1024 of 1024; 1025 of 1024
 abbrev square : ℕ → List NamedKind
-square n = type_at 17 (form.Array (number 18 1) (number 19 1024) 0) ∷ type_at 27 (form.Array (number 28 1) (number 29 n) 3) ∷ []
+square n = type_at 17 (form.Array (number 18 1) (number 19 1024) 0)
+    ∷ type_at 27 (form.Array (number 28 1) (number 29 n) 3) ∷ []
 
 l3_square : with_declarations [] (square 1024) [] [] ≡ None
 l3_square = refl
@@ -109,11 +113,13 @@ l3_too_wide : with_declarations [] (square 1025) [] [] ≡ breaks rule.L3 (col 2
 l3_too_wide = refl
 
 -- a record of such an array and an integer
-l3_record : with_declarations [] (type_at 17 (form.Array (number 18 1) (number 19 1048576) 0) ∷ type_at 27 (form.Fields ((codes "a", 3) ∷ (codes "b", 0) ∷ [])) ∷ []) [] [] ≡ breaks rule.L3 (col 27)
+l3_record : with_declarations [] (type_at 17 (form.Array (number 18 1) (number 19 1048576) 0)
+    ∷ type_at 27 (form.Fields ((codes "a", 3) ∷ (codes "b", 0) ∷ [])) ∷ []) [] [] ≡ breaks rule.L3 (col 27)
 l3_record = refl
 
 -- a channel of it has one cell
-l3_channel : with_declarations [] (type_at 17 (form.Array (number 18 1) (number 19 1048576) 0) ∷ type_at 27 (form.Channel (3 ∷ [])) ∷ []) [] [] ≡ None
+l3_channel : with_declarations [] (type_at 17 (form.Array (number 18 1) (number 19 1048576) 0)
+    ∷ type_at 27 (form.Channel (3 ∷ [])) ∷ []) [] [] ≡ None
 l3_channel = refl
 
 -- a type of so many cells, and another name of it
@@ -124,30 +130,42 @@ wide n = type_at 17 (form.Array (number 18 1) (number 19 n) 0) ∷ type_at 27 (f
 l6_most : with_declarations [] (wide 524288) (variable 3 0 role.Local ∷ variable 4 0 role.Local ∷ []) [] ≡ None
 l6_most = refl
 
-l6_program : with_declarations [] (wide 524288) (variable 3 0 role.Local ∷ variable 4 0 role.Local ∷ variable 0 0 role.Local ∷ []) [] ≡ breaks rule.L6 (col 9)
+l6_program : with_declarations [] (wide 524288)
+    (variable 3 0 role.Local ∷ variable 4 0 role.Local ∷ variable 0 0 role.Local ∷ []) [] ≡ breaks rule.L6 (col 9)
 l6_program = refl
 
--- a procedure at column 20: its variables are counted alone; a variable parameter has one cell; the index of a forall has none
-l6_procedure : with_declarations [] (wide 524288) (variable 3 0 role.Local ∷ variable 3 1 role.Value ∷ variable 4 1 role.Local ∷ variable 0 1 role.Local ∷ []) (block (Some 0) (3 ∷ []) None (does Empty) ∷ []) ≡ breaks rule.L6 (col 20)
+-- a procedure at column 20: its variables are counted alone; a variable parameter has one cell; the index of a forall
+-- has none
+l6_procedure : with_declarations [] (wide 524288)
+    (variable 3 0 role.Local ∷ variable 3 1 role.Value ∷ variable 4 1 role.Local ∷ variable 0 1 role.Local ∷ [])
+    (block (Some 0) (3 ∷ []) None (does Empty) ∷ []) ≡ breaks rule.L6 (col 20)
 l6_procedure = refl
 
-l6_apart : with_declarations [] (wide 524288) (variable 3 0 role.Local ∷ variable 3 1 role.Value ∷ variable 4 1 role.Local ∷ []) (block (Some 0) (3 ∷ []) None (does Empty) ∷ []) ≡ None
+l6_apart : with_declarations [] (wide 524288)
+    (variable 3 0 role.Local ∷ variable 3 1 role.Value ∷ variable 4 1 role.Local ∷ [])
+    (block (Some 0) (3 ∷ []) None (does Empty) ∷ []) ≡ None
 l6_apart = refl
 
-l6_reference : with_declarations [] (wide 1048575) (variable 3 1 role.Local ∷ variable 3 1 role.Reference ∷ []) (block (Some 0) (3 ∷ []) None (does Empty) ∷ []) ≡ None
+l6_reference : with_declarations [] (wide 1048575) (variable 3 1 role.Local ∷ variable 3 1 role.Reference ∷ [])
+    (block (Some 0) (3 ∷ []) None (does Empty) ∷ []) ≡ None
 l6_reference = refl
 
-l6_one_reference : with_declarations [] (wide 1048575) (variable 3 1 role.Local ∷ variable 3 1 role.Reference ∷ variable 3 1 role.Reference ∷ []) (block (Some 0) (3 ∷ 4 ∷ []) None (does Empty) ∷ []) ≡ breaks rule.L6 (col 20)
+l6_one_reference : with_declarations [] (wide 1048575)
+    (variable 3 1 role.Local ∷ variable 3 1 role.Reference ∷ variable 3 1 role.Reference ∷ [])
+    (block (Some 0) (3 ∷ 4 ∷ []) None (does Empty) ∷ []) ≡ breaks rule.L6 (col 20)
 l6_one_reference = refl
 
-l6_index : with_declarations [] (wide 1048576) (variable 3 1 role.Local ∷ variable 0 1 role.Index ∷ []) (block (Some 0) [] None (does Empty) ∷ []) ≡ None
+l6_index : with_declarations [] (wide 1048576) (variable 3 1 role.Local ∷ variable 0 1 role.Index ∷ [])
+    (block (Some 0) [] None (does Empty) ∷ []) ≡ None
 l6_index = refl
 
 -- the result is counted: of a function with a local of 1048576 and of 1048575 cells
-l6_result : with_declarations [] (wide 1048576) (variable 0 1 role.Answer ∷ variable 3 1 role.Local ∷ []) (block (Some 0) [] (Some (record { variable = 2; at = col 25 })) (does Empty) ∷ []) ≡ breaks rule.L6 (col 20)
+l6_result : with_declarations [] (wide 1048576) (variable 0 1 role.Answer ∷ variable 3 1 role.Local ∷ [])
+    (block (Some 0) [] (Some (record { variable = 2; at = col 25 })) (does Empty) ∷ []) ≡ breaks rule.L6 (col 20)
 l6_result = refl
 
-l6_result_kept : with_declarations [] (wide 1048575) (variable 0 1 role.Answer ∷ variable 3 1 role.Local ∷ []) (block (Some 0) [] (Some (record { variable = 2; at = col 25 })) (does Empty) ∷ []) ≡ None
+l6_result_kept : with_declarations [] (wide 1048575) (variable 0 1 role.Answer ∷ variable 3 1 role.Local ∷ [])
+    (block (Some 0) [] (Some (record { variable = 2; at = col 25 })) (does Empty) ∷ []) ≡ None
 l6_result_kept = refl
 
 -- the type of a procedure's variable is too large, and stands inside the procedure: L6 at the heading comes first
@@ -155,13 +173,16 @@ l6_first : types_first (record {
   constants = standard_constants (col 9);
   kinds = standard_kinds (col 9) ++ (type_at 40 (form.Array (number 41 1) (number 42 1048577) 0) ∷ []);
   variables = consoles (col 9) ++ (variable 3 1 role.Local ∷ []);
-  blocks = record { name = codes "g"; parent = None; formals = []; answer = None; body = does Empty; at = col 9 } ∷ block (Some 0) [] None (does Empty) ∷ [];
+  blocks = record { name = codes "g"; parent = None; formals = []; answer = None; body = does Empty; at = col 9 }
+      ∷ block (Some 0) [] None (does Empty) ∷ [];
 }) ≡ breaks rule.L6 (col 20)
 l6_first = refl
 
 -- function f: T, with the type's name at column 25: an array, and an enumeration
-y14_result : with_declarations [] (wide 3) (variable 3 1 role.Answer ∷ []) (block (Some 0) [] (Some (record { variable = 2; at = col 25 })) (does Empty) ∷ []) ≡ breaks rule.Y14 (col 25)
+y14_result : with_declarations [] (wide 3) (variable 3 1 role.Answer ∷ [])
+    (block (Some 0) [] (Some (record { variable = 2; at = col 25 })) (does Empty) ∷ []) ≡ breaks rule.Y14 (col 25)
 y14_result = refl
 
-y14_ordinal_result : with_declarations [] (type_at 17 (form.Enumeration 3) ∷ []) (variable 3 1 role.Answer ∷ []) (block (Some 0) [] (Some (record { variable = 2; at = col 25 })) (does Empty) ∷ []) ≡ None
+y14_ordinal_result : with_declarations [] (type_at 17 (form.Enumeration 3) ∷ []) (variable 3 1 role.Answer ∷ [])
+    (block (Some 0) [] (Some (record { variable = 2; at = col 25 })) (does Empty) ∷ []) ≡ None
 y14_ordinal_result = refl

@@ -1,5 +1,6 @@
 -- The rules at a list of declarations are those at the first, and then those at the others.
-use Rattle.std.proofs.Common.{◌≡◌, refl, ap, ◌∙◌, ℕ, ◌+◌, ◌<◌, List, [], ◌∷◌, ◌++◌, length, get_or, drop, add-one, append_assoc, Option, Result, Ok, sym as back_of}
+use Rattle.std.proofs.Common.{◌≡◌, refl, ap, ◌∙◌, ℕ, ◌+◌, ◌<◌, List, [], ◌∷◌, ◌++◌, length, get_or, drop, add-one}
+use Rattle.std.proofs.Common.{append_assoc, Option, Result, Ok, sym as back_of}
 use Rattle.sp_base.specs.declared.halt.Refusal.{Refusal}
 use Rattle.std.proofs.Math.Seq.{drop-cons}
 use Rattle.std.proofs.lemmas.List.{drop-drop}
@@ -39,11 +40,13 @@ pub drop_head : {A : Type 0} (xs : List A) (i : ℕ) (d : A) → i < length xs �
 drop_head xs i d lt = rw add-one (drop-cons xs i d lt)
 
 pub cells_step : (places : List Place) (cells : List ℕ) (i : ℕ) (d : Place) (given found all : Found) →
-    i < length places → cells_first (drop i places) (drop i cells) given ≡ all → found ≡ cells_first (get_or places i d ∷ []) (drop i cells) given →
+    i < length places → cells_first (drop i places) (drop i cells) given ≡ all
+    → found ≡ cells_first (get_or places i d ∷ []) (drop i cells) given →
     cells_first (drop (i + 1) places) (drop (i + 1) cells) found ≡ all
 cells_step places cells i d given found all lt invariant is =
     ap (cells_first (drop (i + 1) places) (drop (i + 1) cells)) is ∙
-    ap (λ (r : List ℕ). cells_first (drop (i + 1) places) r (cells_first (get_or places i d ∷ []) (drop i cells) given)) (back_of (drop-drop 1 i cells)) ∙
+    ap (λ (r : List ℕ). cells_first (drop (i + 1) places) r (cells_first (get_or places i d ∷ []) (drop i cells) given))
+    (back_of (drop-drop 1 i cells)) ∙
     back_of (cells_on (get_or places i d) (drop (i + 1) places) (drop i cells) given) ∙
     ap (λ (r : List Place). cells_first r (drop i cells) given) (back_of (drop_head places i d lt)) ∙
     invariant
@@ -59,16 +62,21 @@ variables_on x xs [] = back_of (no_variables xs)
 variables_on x xs (k ∷ kinds) = refl
 
 pub variables_next : (kinds : List (Option ℕ)) (i : ℕ) (x : checked.Variable) (xs : List checked.Variable) →
-    checked_variables (drop i kinds) (x ∷ xs) ≡ checked_variables (drop i kinds) (x ∷ []) ++ checked_variables (drop (i + 1) kinds) xs
+    checked_variables (drop i kinds) (x ∷ xs) ≡ checked_variables (drop i kinds) (x ∷ [])
+    ++ checked_variables (drop (i + 1) kinds) xs
 variables_next kinds i x xs =
-    variables_on x xs (drop i kinds) ∙ ap (λ (ks : List (Option ℕ)). checked_variables (drop i kinds) (x ∷ []) ++ checked_variables ks xs) (drop-drop 1 i kinds)
+    variables_on x xs (drop i kinds) ∙ ap (λ (ks : List (Option ℕ)). checked_variables (drop i kinds) (x ∷ [])
+    ++ checked_variables ks xs) (drop-drop 1 i kinds)
 
-pub variables_step : (kinds : List (Option ℕ)) (i j : ℕ) (x : checked.Variable) (xs ys out more all : List checked.Variable) →
-    out ++ checked_variables (drop i kinds) ys ≡ all → ys ≡ x ∷ xs → more ≡ out ++ checked_variables (drop i kinds) (x ∷ []) → ok (i + 1) ≡ ok j →
+pub variables_step : (kinds : List (Option ℕ)) (i j : ℕ) (x : checked.Variable)
+    (xs ys out more all : List checked.Variable) →
+    out ++ checked_variables (drop i kinds) ys ≡ all → ys ≡ x ∷ xs
+    → more ≡ out ++ checked_variables (drop i kinds) (x ∷ []) → ok (i + 1) ≡ ok j →
     more ++ checked_variables (drop j kinds) xs ≡ all
 variables_step kinds i j x xs ys out more all invariant front more_is next_is =
     ap (λ (m : List checked.Variable). m ++ checked_variables (drop j kinds) xs) more_is ∙
-    ap (λ (k : ℕ). (out ++ checked_variables (drop i kinds) (x ∷ [])) ++ checked_variables (drop k kinds) xs) (same (i + 1) j next_is) ∙
+    ap (λ (k : ℕ). (out ++ checked_variables (drop i kinds) (x ∷ [])) ++ checked_variables (drop k kinds) xs)
+    (same (i + 1) j next_is) ∙
     append_assoc out (checked_variables (drop i kinds) (x ∷ [])) (checked_variables (drop (i + 1) kinds) xs) ∙
     ap (λ (r : List checked.Variable). out ++ r) (back_of (variables_next kinds i x xs)) ∙
     ap (λ (r : List checked.Variable). out ++ checked_variables (drop i kinds) r) (back_of front) ∙

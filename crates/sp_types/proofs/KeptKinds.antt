@@ -1,9 +1,12 @@
 -- Statements and blocks change no type.
 use Rattle.std.proofs.Common.{◌≡◌, refl, ◌∙◌, ℕ, List, [], ◌∷◌}
-use Rattle.sp_tree.specs.PlainNamed.{Statement, Does, Form, Empty, Assign, Call, Perform, Sequence, If, While, Repeat, Case, For, Parallel, Forall, Assume, Other, NoElse, Else, Statements, NoStatement, AndThen, Arm, On, Arms, NoArm, Or, Branches, NoBranch, Beside, Block}
+use Rattle.sp_tree.specs.PlainNamed.{Statement, Does, Form, Empty, Assign, Call, Perform, Sequence, If, While, Repeat}
+use Rattle.sp_tree.specs.PlainNamed.{Case, For, Parallel, Forall, Assume, Other, NoElse, Else, Statements, NoStatement}
+use Rattle.sp_tree.specs.PlainNamed.{AndThen, Arm, On, Arms, NoArm, Or, Branches, NoBranch, Beside, Block}
 use Rattle.sp_types.specs.Tables.{Env, counted, indexed}
 use Rattle.sp_types.specs.Kinds.{expression_kind}
-use Rattle.sp_types.specs.TypeWalk.{statement_after, form_after, other_after, statements_after, arms_after, arm_after, branches_after, started, blocks_after}
+use Rattle.sp_types.specs.TypeWalk.{statement_after, form_after, other_after, statements_after, arms_after, arm_after}
+use Rattle.sp_types.specs.TypeWalk.{branches_after, started, blocks_after}
 
 mutual
   pub statement_kinds : (env : Env) (s : Statement) → (statement_after env s).kinds ≡ env.kinds
@@ -41,9 +44,11 @@ mutual
 
   branches_kinds : (env : Env) (bs : Branches) → (branches_after env bs).kinds ≡ env.kinds
   branches_kinds env NoBranch = refl
-  branches_kinds env (Beside ss rest) = branches_kinds (statements_after (counted env) ss) rest ∙ statements_kinds (counted env) ss
+  branches_kinds env (Beside ss rest) = branches_kinds (statements_after (counted env) ss) rest
+      ∙ statements_kinds (counted env) ss
 
 pub blocks_kinds : (env : Env) (starts : List ℕ) (bs : List Block) → (blocks_after env starts bs).kinds ≡ env.kinds
 blocks_kinds env starts [] = refl
 blocks_kinds env [] (b ∷ bs) = refl
-blocks_kinds env (n ∷ starts) (b ∷ bs) = blocks_kinds (statement_after (started env n) b.body) starts bs ∙ statement_kinds (started env n) b.body
+blocks_kinds env (n ∷ starts) (b ∷ bs) = blocks_kinds (statement_after (started env n) b.body) starts bs
+    ∙ statement_kinds (started env n) b.body

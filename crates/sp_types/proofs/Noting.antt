@@ -1,5 +1,6 @@
 -- A table of fields by name grows with the fields, and a set of numbers with the numbers.
-use Rattle.std.proofs.Common.{◌≡◌, refl, ap, sym, ◌∙◌, subst, rules, ℕ, ◌+◌, nat_eq, Bool, true, false, cond, ◌||◌, if◌then◌else◌, List, ◌∷◌, Option, Some, None, arith}
+use Rattle.std.proofs.Common.{◌≡◌, refl, ap, sym, ◌∙◌, subst, rules, ℕ, ◌+◌, nat_eq, Bool, true, false, cond, ◌||◌}
+use Rattle.std.proofs.Common.{if◌then◌else◌, List, ◌∷◌, Option, Some, None, arith}
 use Rattle.std.specs.List.{list_any}
 use Rattle.std.specs.Option.{option_or, is_some}
 use Rattle.std.specs.Str.{bytes_eq}
@@ -12,19 +13,23 @@ use Rattle.std.proofs.lemmas.Bool.{true≢false}
 use Rattle.sp_base.proofs.Facts.{tie_is_equal}
 use Rattle.sp_types.specs.Entries.{Index, under, Notes, IsIndex, IsNumbers, field_from}
 
-by_test : (b : Bool) (x : ℕ × ℕ) (rest : Option (ℕ × ℕ)) → option_or (if b then Some x else None) rest ≡ (if b then Some x else rest)
+by_test : (b : Bool) (x : ℕ × ℕ) (rest : Option (ℕ × ℕ))
+    → option_or (if b then Some x else None) rest ≡ (if b then Some x else rest)
 by_test true x rest = refl
 by_test false x rest = refl
 
 one_field : (found : Option (ℕ × ℕ)) (n : ℕ) (f : List ℕ × ℕ) (rest : List (List ℕ × ℕ)) (name : List ℕ)
-    → option_or (option_or found (if bytes_eq name f.0 then Some (n, f.1) else None)) (field_from (n + 1) name rest) ≡ option_or found (field_from n name (f ∷ rest))
+    → option_or (option_or found (if bytes_eq name f.0 then Some (n, f.1) else None)) (field_from (n + 1) name rest)
+    ≡ option_or found (field_from n name (f ∷ rest))
 one_field (Some x) n f rest name = refl
 one_field None n f rest name = by_test (bytes_eq name f.0) (n, f.1) (field_from (n + 1) name rest)
 
 -- a field that is noted is no longer ahead
 pub noted : (old new : Index) (n : ℕ) (f : List ℕ × ℕ) (rest : List (List ℕ × ℕ)) → Notes old new n f → (name : List ℕ)
-    → option_or (under new name) (field_from (n + 1) name rest) ≡ option_or (under old name) (field_from n name (f ∷ rest))
-noted old new n f rest h name = ap (λ u. option_or u (field_from (n + 1) name rest)) (h name) ∙ one_field (under old name) n f rest name
+    → option_or (under new name) (field_from (n + 1) name rest)
+    ≡ option_or (under old name) (field_from n name (f ∷ rest))
+noted old new n f rest h name = ap (λ u. option_or u (field_from (n + 1) name rest)) (h name)
+    ∙ one_field (under old name) n f rest name
 
 is_name : (name other : List ℕ) → bytes_eq name other ≡ true → name ≡ other
 is_name name other e = (bytes_eq-Decides name other).0 e
@@ -34,16 +39,19 @@ swapped name other = search (rules, bytes_eq-Decides)
 
 -- a field whose name is not there is put there
 pub put : (old new : Index) (n : ℕ) (f : List ℕ × ℕ) → is_some (under old f.0) ≡ false
-    → ((q : List ℕ) → under new q ≡ cond (is_eq (slice_cmp nat_cmp f.0 q)) (Some (n, f.1)) (under old q)) → Notes old new n f
+    → ((q : List ℕ) → under new q ≡ cond (is_eq (slice_cmp nat_cmp f.0 q)) (Some (n, f.1)) (under old q))
+    → Notes old new n f
 put old new n f h up name =
     up name ∙ ap (λ b. cond b (Some (n, f.1)) (under old name)) (is_eq-slice_cmp f.0 name ∙ swapped f.0 name)
     ∙ by (under old name) (bytes_eq name f.0) refl refl
   where
-    by : (u : Option (ℕ × ℕ)) (b : Bool) → under old name ≡ u → bytes_eq name f.0 ≡ b → cond b (Some (n, f.1)) u ≡ option_or u (if b then Some (n, f.1) else None)
+    by : (u : Option (ℕ × ℕ)) (b : Bool) → under old name ≡ u → bytes_eq name f.0 ≡ b
+        → cond b (Some (n, f.1)) u ≡ option_or u (if b then Some (n, f.1) else None)
     by None true e k = refl
     by None false e k = refl
     by (Some x) false e k = refl
-    by (Some x) true e k = absurd (true≢false (sym (ap is_some e) ∙ ap (λ x. is_some (under old x)) (is_name name f.0 k) ∙ h))
+    by (Some x) true e k = absurd (true≢false
+        (sym (ap is_some e) ∙ ap (λ x. is_some (under old x)) (is_name name f.0 k) ∙ h))
 
 abbrev pub has : List ℕ → ℕ → Bool
 has numbers k = list_any (λ j. is_eq (nat_cmp k j)) numbers
@@ -54,7 +62,8 @@ or_test true false c = refl
 or_test false b c = refl
 
 -- a number that is put in the set is no longer ahead
-pub counted : (old new : List ℕ) (j : ℕ) (rest : List ℕ) → ((k : ℕ) → has new k ≡ cond (is_eq (nat_cmp j k)) true (has old k)) → (k : ℕ)
+pub counted : (old new : List ℕ) (j : ℕ) (rest : List ℕ)
+    → ((k : ℕ) → has new k ≡ cond (is_eq (nat_cmp j k)) true (has old k)) → (k : ℕ)
     → has new k || list_any (nat_eq k) rest ≡ has old k || list_any (nat_eq k) (j ∷ rest)
 counted old new j rest h k =
     ap (λ b. b || list_any (nat_eq k) rest) (h k ∙ ap (λ b. cond b true (has old k)) (tie_is_equal j k))

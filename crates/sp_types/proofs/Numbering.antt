@@ -1,9 +1,14 @@
--- Behind a statement the next number is the one that counting its statements gives: numbers have no gap and none comes twice.
+-- Behind a statement the next number is the one that counting its statements gives: numbers have no gap and none comes
+-- twice.
 use Rattle.std.proofs.Common.{◌≡◌, refl, ap, ◌∙◌, ℕ}
-use Rattle.sp_tree.specs.PlainNamed.{Statement, Does, Form, Empty, Assign, Call, Perform, Sequence, If, While, Repeat, Case, For, Parallel, Forall, Assume, Other, NoElse, Else, Statements, NoStatement, AndThen, Arm, On, Arms, NoArm, Or, Branches, NoBranch, Beside}
+use Rattle.sp_tree.specs.PlainNamed.{Statement, Does, Form, Empty, Assign, Call, Perform, Sequence, If, While, Repeat}
+use Rattle.sp_tree.specs.PlainNamed.{Case, For, Parallel, Forall, Assume, Other, NoElse, Else, Statements, NoStatement}
+use Rattle.sp_tree.specs.PlainNamed.{AndThen, Arm, On, Arms, NoArm, Or, Branches, NoBranch, Beside}
 use Rattle.sp_types.specs.Tables.{Env, counted, indexed}
 use Rattle.sp_types.specs.Kinds.{expression_kind}
-use Rattle.sp_types.specs.TypeWalk.{statement_after, form_after, other_after, statements_after, arms_after, arm_after, branches_after, statement_counted, form_counted, other_counted, statements_counted, arms_counted, arm_counted, branches_counted}
+use Rattle.sp_types.specs.TypeWalk.{statement_after, form_after, other_after, statements_after, arms_after, arm_after}
+use Rattle.sp_types.specs.TypeWalk.{branches_after, statement_counted, form_counted, other_counted, statements_counted}
+use Rattle.sp_types.specs.TypeWalk.{arms_counted, arm_counted, branches_counted}
 
 mutual
   pub statement_next : (env : Env) (s : Statement) → (statement_after env s).next ≡ statement_counted env.next s
@@ -15,7 +20,8 @@ mutual
   form_next env (Call f args) = refl
   form_next env (Perform p args) = refl
   form_next env (Sequence ss) = statements_next env ss
-  form_next env (If e s o) = other_next (statement_after env s) o ∙ ap (λ (k : ℕ). other_counted k o) (statement_next env s)
+  form_next env (If e s o) = other_next (statement_after env s) o
+      ∙ ap (λ (k : ℕ). other_counted k o) (statement_next env s)
   form_next env (While e s) = statement_next env s
   form_next env (Repeat ss e) = statements_next (counted env) ss
   form_next env (Case e choices) = arms_next env choices
@@ -30,7 +36,8 @@ mutual
 
   statements_next : (env : Env) (ss : Statements) → (statements_after env ss).next ≡ statements_counted env.next ss
   statements_next env NoStatement = refl
-  statements_next env (AndThen s rest) = statements_next (statement_after env s) rest ∙ ap (λ (k : ℕ). statements_counted k rest) (statement_next env s)
+  statements_next env (AndThen s rest) = statements_next (statement_after env s) rest
+      ∙ ap (λ (k : ℕ). statements_counted k rest) (statement_next env s)
 
   arms_next : (env : Env) (xs : Arms) → (arms_after env xs).next ≡ arms_counted env.next xs
   arms_next env NoArm = refl
@@ -41,4 +48,5 @@ mutual
 
   branches_next : (env : Env) (bs : Branches) → (branches_after env bs).next ≡ branches_counted env.next bs
   branches_next env NoBranch = refl
-  branches_next env (Beside ss rest) = branches_next (statements_after (counted env) ss) rest ∙ ap (λ (k : ℕ). branches_counted k rest) (statements_next (counted env) ss)
+  branches_next env (Beside ss rest) = branches_next (statements_after (counted env) ss) rest
+      ∙ ap (λ (k : ℕ). branches_counted k rest) (statements_next (counted env) ss)

@@ -1,5 +1,5 @@
--- Worked rows of the rules of types, by computing: for each rule a statement or declaration that breaks it, with the place, and
--- beside it the nearest one that does not.
+-- Worked rows of the rules of types, by computing: for each rule a statement or declaration that breaks it, with the
+-- place, and beside it the nearest one that does not.
 use Rattle.std.proofs.Common.{◌≡◌, ℕ, List, [], ◌∷◌, ◌++◌, Option, Some, None, true, false, refl}
 use Rattle.std.specs.Prelude.{codes}
 use Rattle.sp_base.specs.declared.place.Place.{Place}
@@ -26,7 +26,10 @@ use Rattle.sp_tree.specs.declared.named.NamedAnswer.{NamedAnswer}
 use Rattle.sp_tree.specs.Found.{Found, breaks}
 use Rattle.sp_tree.specs.NamedTree.{standard_constants, standard_kinds, consoles}
 use Rattle.sp_tree.specs.NamedOf.{arguments, selectors, statements, arms}
-use Rattle.sp_tree.specs.PlainNamed.{Expression, At, Number, Quoted, Constant, Read, Standard, Unary, Binary, Variable, Entire, Selector, Index, Field, Argument, Pass, NoWidth, Within, Statement, Does, Form, Empty, Assign, Call, Perform, Sequence, If, While, Repeat, Case, For, Forall, Assume, NoElse, Arm, On, Block, Program}
+use Rattle.sp_tree.specs.PlainNamed.{Expression, At, Number, Quoted, Constant, Read, Standard, Unary, Binary, Variable}
+use Rattle.sp_tree.specs.PlainNamed.{Entire, Selector, Index, Field, Argument, Pass, NoWidth, Within, Statement, Does}
+use Rattle.sp_tree.specs.PlainNamed.{Form, Empty, Assign, Call, Perform, Sequence, If, While, Repeat, Case, For, Forall}
+use Rattle.sp_tree.specs.PlainNamed.{Assume, NoElse, Arm, On, Block, Program}
 use Rattle.sp_types.specs.TypeFirst.{types_first}
 
 -- a place of the first line
@@ -45,24 +48,28 @@ type_at n f = record { at = col n; form = f }
 abbrev pub variable : ℕ → ℕ → Role → checked.Variable
 variable k b r = record { name = codes "x"; kind = k; block = b; role = r; at = col 30 }
 
--- type colour = (red, green); row = array [1..3] of integer; pair = record a: integer; b: char end; line = *(integer); other =
--- (blue); t = colour; stream = *(char)
+-- type colour = (red, green); row = array [1..3] of integer; pair = record a: integer; b: char end; line = *(integer);
+-- other = (blue); t = colour; stream = *(char)
 abbrev pub types : List NamedKind
 types =
-    type_at 11 (form.Enumeration 2) ∷ type_at 12 (form.Array (given_const 1 (given.Number 1)) (given_const 2 (given.Number 3)) 0) ∷
-    type_at 13 (form.Fields ((codes "a", 0) ∷ (codes "b", 2) ∷ [])) ∷ type_at 14 (form.Channel (0 ∷ [])) ∷ type_at 15 (form.Enumeration 1) ∷
+    type_at 11 (form.Enumeration 2) ∷ type_at 12
+    (form.Array (given_const 1 (given.Number 1)) (given_const 2 (given.Number 3)) 0) ∷
+    type_at 13 (form.Fields ((codes "a", 0) ∷ (codes "b", 2) ∷ [])) ∷ type_at 14 (form.Channel (0 ∷ []))
+    ∷ type_at 15 (form.Enumeration 1) ∷
     type_at 16 (form.Alias 3) ∷ type_at 17 (form.Channel (2 ∷ [])) ∷ []
 
 -- red, green, blue
 abbrev pub constants : List NamedConstant
 constants = constant.Enumerated 3 0 ∷ constant.Enumerated 3 1 ∷ constant.Enumerated 7 0 ∷ []
 
--- i: integer; b: boolean; k: colour; v: row; r: pair; c: line; t: t; d: other; s: stream; ch: char; a forall's index; p's x:
--- integer and var y: colour; f's result: integer
+-- i: integer; b: boolean; k: colour; v: row; r: pair; c: line; t: t; d: other; s: stream; ch: char; a forall's index;
+-- p's x: integer and var y: colour; f's result: integer
 abbrev pub variables : List checked.Variable
 variables =
-    variable 0 0 role.Local ∷ variable 1 0 role.Local ∷ variable 3 0 role.Local ∷ variable 4 0 role.Local ∷ variable 5 0 role.Local ∷
-    variable 6 0 role.Local ∷ variable 8 0 role.Local ∷ variable 7 0 role.Local ∷ variable 9 0 role.Local ∷ variable 2 0 role.Local ∷
+    variable 0 0 role.Local ∷ variable 1 0 role.Local ∷ variable 3 0 role.Local ∷ variable 4 0 role.Local
+    ∷ variable 5 0 role.Local ∷
+    variable 6 0 role.Local ∷ variable 8 0 role.Local ∷ variable 7 0 role.Local ∷ variable 9 0 role.Local
+    ∷ variable 2 0 role.Local ∷
     variable 0 0 role.Index ∷ variable 0 1 role.Value ∷ variable 3 1 role.Reference ∷ variable 0 2 role.Answer ∷ []
 
 -- a statement at column 3, whose parts have places of their own
@@ -70,7 +77,14 @@ abbrev pub does : Form → Statement
 does f = Does (col 3) f
 
 abbrev pub block : Option ℕ → List ℕ → Option NamedAnswer → Statement → Block
-block parent formals answer body = record { name = codes "p"; parent = parent; formals = formals; answer = answer; body = body; at = col 20 }
+block parent formals answer body = record {
+  name = codes "p";
+  parent = parent;
+  formals = formals;
+  answer = answer;
+  body = body;
+  at = col 20;
+}
 
 -- a program with this statement, a procedure p(x: integer; var y: colour), block 1, and a function f: integer, block 2
 abbrev pub with_statement : Form → Program
@@ -212,7 +226,8 @@ y2_index : first (counts (get_from 9 v (Index (get 11 b) ∷ []))) ≡ breaks ru
 y2_index = refl
 
 -- b := v[i[1]], where the index has no type: the element's type is known, and Y5 at v comes first
-y2_untyped_index : first (sets (get_from 9 v (Index (get_from 11 i (Index (num 13 1) ∷ [])) ∷ []))) ≡ breaks rule.Y5 (col 9)
+y2_untyped_index : first (sets (get_from 9 v (Index (get_from 11 i (Index (num 13 1) ∷ [])) ∷ [])))
+    ≡ breaks rule.Y5 (col 9)
 y2_untyped_index = refl
 
 -- Y3. i := i.a; i := r.c; i := r.a; i := r.b
@@ -241,7 +256,8 @@ y4_until = refl
 y4_assume : first (Assume (get 9 i)) ≡ breaks rule.Y4 (col 9)
 y4_assume = refl
 
-y4_kept : first (Sequence (statements (does (If (get 9 b) (does Empty) NoElse) ∷ does (While (get 9 b) (does Empty)) ∷ does (Repeat (statements (does Empty ∷ [])) (get 9 b)) ∷ does (Assume (get 9 b)) ∷ []))) ≡ None
+y4_kept : first (Sequence (statements (does (If (get 9 b) (does Empty) NoElse) ∷ does (While (get 9 b) (does Empty))
+    ∷ does (Repeat (statements (does Empty ∷ [])) (get 9 b)) ∷ does (Assume (get 9 b)) ∷ []))) ≡ None
 y4_kept = refl
 
 -- Y5. i := b; i := i; i := -b, whose type is integer all the same
@@ -267,14 +283,15 @@ y7_alias = refl
 y7_type : first (Call 1 (arguments (pass (get 9 i) ∷ pass (get 12 d) ∷ []))) ≡ breaks rule.Y7 (col 12)
 y7_type = refl
 
-y7_parentheses : first (Call 1 (arguments (pass (get 9 i) ∷ pass (At (col 12) (Read (var 13 k))) ∷ []))) ≡ breaks rule.Y7 (col 12)
+y7_parentheses : first (Call 1 (arguments (pass (get 9 i) ∷ pass (At (col 12) (Read (var 13 k))) ∷ [])))
+    ≡ breaks rule.Y7 (col 12)
 y7_parentheses = refl
 
 y7_value : first (Call 1 (arguments (pass (get 9 i) ∷ pass (num 12 1) ∷ []))) ≡ breaks rule.Y7 (col 12)
 y7_value = refl
 
--- Y8. i := ord(v); i := ord(k); i := abs(k); k := succ(k); read(k); read(i, ch); write(k); write(i, ch, b, 'ab'); write(i: b),
--- at i; open(i); open(c); send(i, 1)
+-- Y8. i := ord(v); i := ord(k); i := abs(k); k := succ(k); read(k); read(i, ch); write(k); write(i, ch, b, 'ab');
+-- write(i: b), at i; open(i); open(c); send(i, 1)
 y8_ord : first (counts (standard 9 fn.Ord (pass (get 13 v) ∷ []))) ≡ breaks rule.Y8 (col 13)
 y8_ord = refl
 
@@ -300,7 +317,8 @@ y8_read_kept = refl
 y8_write : first (perform procedure.Write (pass (get 9 k) ∷ [])) ≡ breaks rule.Y8 (col 9)
 y8_write = refl
 
-y8_write_kept : first (perform procedure.Write (pass (get 9 i) ∷ pass (get 12 ch) ∷ pass (get 15 b) ∷ pass (text 18 (codes "ab")) ∷ [])) ≡ None
+y8_write_kept : first (perform procedure.Write
+    (pass (get 9 i) ∷ pass (get 12 ch) ∷ pass (get 15 b) ∷ pass (text 18 (codes "ab")) ∷ [])) ≡ None
 y8_write_kept = refl
 
 y8_width : first (perform procedure.Write (Pass (get 9 i) (Within (get 12 b)) ∷ [])) ≡ breaks rule.Y8 (col 9)
@@ -354,7 +372,8 @@ y10_second_limit = refl
 y10_index : first (Forall index (constant_at 9 3) (get 14 k) (does (Assign (var 18 t) (get 23 index)))) ≡ None
 y10_index = refl
 
-y10_index_type : first (Forall index (constant_at 9 3) (get 14 k) (does (Assign (var 18 i) (get 23 index)))) ≡ breaks rule.Y5 (col 23)
+y10_index_type : first (Forall index (constant_at 9 3) (get 14 k) (does (Assign (var 18 i) (get 23 index))))
+    ≡ breaks rule.Y5 (col 23)
 y10_index_type = refl
 
 -- one choice of a `case` statement
@@ -365,31 +384,37 @@ on cs = On cs (does Empty)
 y11_selector : first (Case (get 8 v) (arms (on (given_const 13 (given.Number 1) ∷ []) ∷ []))) ≡ breaks rule.Y11 (col 8)
 y11_selector = refl
 
-y11_constant : first (Case (get 8 i) (arms (on (given_const 13 (given.Constant 1) ∷ []) ∷ []))) ≡ breaks rule.Y11 (col 13)
+y11_constant : first (Case (get 8 i) (arms (on (given_const 13 (given.Constant 1) ∷ []) ∷ [])))
+    ≡ breaks rule.Y11 (col 13)
 y11_constant = refl
 
 y11_kept : first (Case (get 8 k) (arms (on (given_const 13 (given.Constant 3) ∷ []) ∷ []))) ≡ None
 y11_kept = refl
 
 -- Y12. case i of 1: ; 1: ; the same in one list; case i of 1: ; -1:
-y12_arms : first (Case (get 8 i) (arms (on (given_const 13 (given.Number 1) ∷ []) ∷ on (given_const 18 (given.Number 1) ∷ []) ∷ []))) ≡ breaks rule.Y12 (col 18)
+y12_arms : first (Case (get 8 i) (arms (on (given_const 13 (given.Number 1) ∷ [])
+    ∷ on (given_const 18 (given.Number 1) ∷ []) ∷ []))) ≡ breaks rule.Y12 (col 18)
 y12_arms = refl
 
-y12_list : first (Case (get 8 i) (arms (on (given_const 13 (given.Number 1) ∷ given_const 16 (given.Number 2) ∷ given_const 19 (given.Number 1) ∷ []) ∷ []))) ≡ breaks rule.Y12 (col 19)
+y12_list : first (Case (get 8 i) (arms (on (given_const 13 (given.Number 1) ∷ given_const 16 (given.Number 2)
+    ∷ given_const 19 (given.Number 1) ∷ []) ∷ []))) ≡ breaks rule.Y12 (col 19)
 y12_list = refl
 
-y12_kept : first (Case (get 8 i) (arms (on (given_const 13 (given.Number 1) ∷ []) ∷ on (minus_const 18 (given.Number 1) ∷ []) ∷ []))) ≡ None
+y12_kept : first (Case (get 8 i) (arms (on (given_const 13 (given.Number 1) ∷ [])
+    ∷ on (minus_const 18 (given.Number 1) ∷ []) ∷ []))) ≡ None
 y12_kept = refl
 
 -- case b of true: ; -true: keeps the name's type and number, so the repeat comes before the sign
-y12_sign : first (Case (get 8 b) (arms (on (given_const 13 (given.Constant 1) ∷ []) ∷ on (minus_const 18 (given.Constant 1) ∷ []) ∷ []))) ≡ breaks rule.Y12 (col 18)
+y12_sign : first (Case (get 8 b) (arms (on (given_const 13 (given.Constant 1) ∷ [])
+    ∷ on (minus_const 18 (given.Constant 1) ∷ []) ∷ []))) ≡ breaks rule.Y12 (col 18)
 y12_sign = refl
 
 -- Y14. case b of -true: ; case ch of 'ab': has no type; i := 'ab'; ch := 'a'; write('ab' + 1)
 y14_sign : first (Case (get 8 b) (arms (on (minus_const 13 (given.Constant 1) ∷ []) ∷ []))) ≡ breaks rule.Y14 (col 13)
 y14_sign = refl
 
-y14_choice : first (Case (get 8 ch) (arms (on (given_const 13 (given.Quoted (codes "ab")) ∷ []) ∷ []))) ≡ breaks rule.Y14 (col 13)
+y14_choice : first (Case (get 8 ch) (arms (on (given_const 13 (given.Quoted (codes "ab")) ∷ []) ∷ [])))
+    ≡ breaks rule.Y14 (col 13)
 y14_choice = refl
 
 y14_text : first (counts (text 9 (codes "ab"))) ≡ breaks rule.Y14 (col 9)
@@ -401,5 +426,6 @@ y14_char = refl
 y14_empty : first (Assign (var 4 ch) (text 9 [])) ≡ breaks rule.Y14 (col 9)
 y14_empty = refl
 
-y14_operand : first (perform procedure.Write (pass (op binary.Add (text 9 (codes "ab")) 9 (num 16 1)) ∷ [])) ≡ breaks rule.Y14 (col 9)
+y14_operand : first (perform procedure.Write (pass (op binary.Add (text 9 (codes "ab")) 9 (num 16 1)) ∷ []))
+    ≡ breaks rule.Y14 (col 9)
 y14_operand = refl

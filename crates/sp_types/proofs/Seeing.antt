@@ -1,5 +1,6 @@
 -- A list of constants and a set of their keys grow together.
-use Rattle.std.proofs.Common.{◌≡◌, refl, ap, sym, ◌∙◌, ℕ, ℤ, pos, negsuc, Bool, true, false, cond, ◌||◌, ◌&&◌, ltb, leb, List, [], ◌∷◌, ◌++◌, nat_eq, arith}
+use Rattle.std.proofs.Common.{◌≡◌, refl, ap, sym, ◌∙◌, ℕ, ℤ, pos, negsuc, Bool, true, false, cond, ◌||◌, ◌&&◌, ltb, leb}
+use Rattle.std.proofs.Common.{List, [], ◌∷◌, ◌++◌, nat_eq, arith}
 use Rattle.std.specs.Prelude.{int_le}
 use Rattle.std.specs.List.{list_any}
 use Rattle.std.specs.declared.cmp.Ordering.{Ordering}
@@ -34,14 +35,16 @@ or_if true false = refl
 or_if false true = refl
 or_if false false = refl
 
-last_any : (p : Ordinal → Bool) (xs : List Ordinal) (y : Ordinal) → list_any p (xs ++ y ∷ []) ≡ cond (p y) true (list_any p xs)
+last_any : (p : Ordinal → Bool) (xs : List Ordinal) (y : Ordinal)
+    → list_any p (xs ++ y ∷ []) ≡ cond (p y) true (list_any p xs)
 last_any p xs y = list_any-append p xs (y ∷ []) ∙ or_if (list_any p xs) (p y)
 
 abbrev among : List (ℕ × ℤ) → ℕ × ℤ → Bool
 among keys q = list_any (λ (k : ℕ × ℤ). is_eq (key_cmp q k)) keys
 
 pub grown :
-    (constants : List Ordinal) (keys new : List (ℕ × ℤ)) (o : Ordinal) (key : ℕ × ℤ) → key ≡ (o.kind, o.number) → IsSet constants keys →
+    (constants : List Ordinal) (keys new : List (ℕ × ℤ)) (o : Ordinal) (key : ℕ × ℤ) → key ≡ (o.kind, o.number)
+    → IsSet constants keys →
     ((q : ℕ × ℤ) → among new q ≡ cond (is_eq (key_cmp key q)) true (among keys q)) →
     IsSet (constants ++ o ∷ []) new
 grown constants keys new o key key_is is_set added p =
@@ -53,6 +56,7 @@ grown constants keys new o key key_is is_set added p =
 
 -- a constant is looked up by its key
 pub found_by :
-    (constants : List Ordinal) (keys : List (ℕ × ℤ)) (o : Ordinal) (key : ℕ × ℤ) → key ≡ (o.kind, o.number) → IsSet constants keys →
+    (constants : List Ordinal) (keys : List (ℕ × ℤ)) (o : Ordinal) (key : ℕ × ℤ) → key ≡ (o.kind, o.number)
+    → IsSet constants keys →
     among keys key ≡ list_any (same o) constants
 found_by constants keys o key key_is is_set = ap (among keys) key_is ∙ is_set o

@@ -1,6 +1,7 @@
--- The numbers of a statement's tree are those from its own up to the one behind it, in this order; so blocks whose statement
--- parts stand at different places have different numbers.
-use Rattle.std.proofs.Common.{◌≡◌, refl, ap, sym, subst, ◌∙◌, ℕ, zero, suc, ◌+◌, ◌<◌, ◌≤◌, List, [], ◌∷◌, ◌++◌, Bool, true, false, ◌⊎◌, inl, inr, arith}
+-- The numbers of a statement's tree are those from its own up to the one behind it, in this order; so blocks whose
+-- statement parts stand at different places have different numbers.
+use Rattle.std.proofs.Common.{◌≡◌, refl, ap, sym, subst, ◌∙◌, ℕ, zero, suc, ◌+◌, ◌<◌, ◌≤◌, List, [], ◌∷◌, ◌++◌, Bool}
+use Rattle.std.proofs.Common.{true, false, ◌⊎◌, inl, inr, arith}
 use Rattle.std.specs.Prelude.{◌≢◌, if◌then◌else◌, Option, Some, None}
 use Rattle.std.specs.Bool.{Decides}
 use Rattle.std.proofs.lemmas.Bool.Decides.{Decides-or, Decides-and, Decides-ltb, Decides-eqb}
@@ -8,15 +9,26 @@ use Rattle.sp_base.specs.declared.place.Place.{Place}
 use Rattle.sp_base.proofs.Facts.{less_same_or_more}
 use Rattle.sp_tree.specs.declared.meaning.StandardProcedure.{StandardProcedure}
 use Rattle.sp_tree.specs.declared.meaning.StandardProcedure.TheVariants as procedure
-use Rattle.sp_tree.specs.PlainNamed.{Expression, At, Number, Quoted, Constant, Read, Apply, Standard, Unary, Binary, Pass, Arguments, NoArgument, AndArgument, Statement, Does, Form, Empty, Assign, Call, Perform, Sequence, If, While, Repeat, Case, For, Parallel, Forall, Assume, Other, NoElse, Else, Statements, NoStatement, AndThen, On, Arms, NoArm, Or, Branches, NoBranch, Beside, Block, Program}
+use Rattle.sp_tree.specs.PlainNamed.{Expression, At, Number, Quoted, Constant, Read, Apply, Standard, Unary, Binary}
+use Rattle.sp_tree.specs.PlainNamed.{Pass, Arguments, NoArgument, AndArgument, Statement, Does, Form, Empty, Assign}
+use Rattle.sp_tree.specs.PlainNamed.{Call, Perform, Sequence, If, While, Repeat, Case, For, Parallel, Forall, Assume}
+use Rattle.sp_tree.specs.PlainNamed.{Other, NoElse, Else, Statements, NoStatement, AndThen, On, Arms, NoArm, Or}
+use Rattle.sp_tree.specs.PlainNamed.{Branches, NoBranch, Beside, Block, Program}
 use Rattle.sp_tree.specs.PlainChecked as c
 use Rattle.sp_tree.specs.CheckedOf as of_
 use Rattle.sp_types.specs.declared.tables.Ordinal.{Ordinal}
 use Rattle.sp_types.specs.Tables.{Env, char_of, counted, indexed, env_of}
 use Rattle.sp_types.specs.Kinds.{expression_kind}
-use Rattle.sp_types.specs.TypeWalk.{count, single_count, parts_count, statement_after, form_after, other_after, statements_after, arms_after, branches_after, statement_counted, form_counted, other_counted, statements_counted, arms_counted, branches_counted, statement_place, bodies, earlier, count_before, starts_from, started}
-use Rattle.sp_types.specs.CheckedTree.{written, written_form, written_text, reads, writes, opens, sends, receives, singles, argument_variable, checked_argument, checked_width, expanded, numbered, checked_statement, checked_statement_form, checked_other, checked_statements, checked_arms, checked_branches, checked_blocks, program_checked}
-use Rattle.sp_types.specs.StatementNumbers.{statement_numbers, form_numbers, other_numbers, statements_numbers, arms_numbers, blocks_numbers, body_places, DiffersFrom, AllDiffer}
+use Rattle.sp_types.specs.TypeWalk.{count, single_count, parts_count, statement_after, form_after, other_after}
+use Rattle.sp_types.specs.TypeWalk.{statements_after, arms_after, branches_after, statement_counted, form_counted}
+use Rattle.sp_types.specs.TypeWalk.{other_counted, statements_counted, arms_counted, branches_counted, statement_place}
+use Rattle.sp_types.specs.TypeWalk.{bodies, earlier, count_before, starts_from, started}
+use Rattle.sp_types.specs.CheckedTree.{written, written_form, written_text, reads, writes, opens, sends, receives}
+use Rattle.sp_types.specs.CheckedTree.{singles, argument_variable, checked_argument, checked_width, expanded, numbered}
+use Rattle.sp_types.specs.CheckedTree.{checked_statement, checked_statement_form, checked_other, checked_statements}
+use Rattle.sp_types.specs.CheckedTree.{checked_arms, checked_branches, checked_blocks, program_checked}
+use Rattle.sp_types.specs.StatementNumbers.{statement_numbers, form_numbers, other_numbers, statements_numbers}
+use Rattle.sp_types.specs.StatementNumbers.{arms_numbers, blocks_numbers, body_places, DiffersFrom, AllDiffer}
 use Rattle.sp_types.proofs.Numbering.{statement_next}
 
 -- ---- one number after the other
@@ -41,7 +53,8 @@ abbrev sized : List c.Form → ℕ
 sized [] = 0
 sized (f ∷ fs) = suc (sized fs)
 
-text_single : (at : Place) (t : List ℕ) (o : Option Ordinal) (w : Option c.Expression) → form_numbers (written_text at t o w) ≡ []
+text_single : (at : Place) (t : List ℕ) (o : Option Ordinal) (w : Option c.Expression)
+    → form_numbers (written_text at t o w) ≡ []
 text_single at t None w = refl
 text_single at t (Some o) w = refl
 
@@ -68,7 +81,8 @@ reads_are env (AndArgument a rest) = one_more (c.ReadValue (argument_variable en
 
 writes_are : (env : Env) (xs : Arguments) → Are (writes env xs) (count xs)
 writes_are env NoArgument = (tt, refl)
-writes_are env (AndArgument (Pass e w) rest) = one_more (written env (Pass e w)) _ _ (written_single env e (checked_width env w)) (writes_are env rest)
+writes_are env (AndArgument (Pass e w) rest) =
+    one_more (written env (Pass e w)) _ _ (written_single env e (checked_width env w)) (writes_are env rest)
 
 opens_are : (env : Env) (xs : Arguments) → Are (opens env xs) (count xs)
 opens_are env NoArgument = (tt, refl)
@@ -80,7 +94,8 @@ sends_are env e (AndArgument a rest) = one_more (c.Send e (checked_argument env 
 
 receives_are : (env : Env) (e : c.Expression) (xs : Arguments) → Are (receives env e xs) (count xs)
 receives_are env e NoArgument = (tt, refl)
-receives_are env e (AndArgument a rest) = one_more (c.Receive e (argument_variable env a)) _ _ refl (receives_are env e rest)
+receives_are env e (AndArgument a rest) = one_more (c.Receive e (argument_variable env a)) _ _ refl
+    (receives_are env e rest)
 
 with_last : (fs : List c.Form) (f : c.Form) (n : ℕ) → form_numbers f ≡ [] → Are fs n → Are (fs ++ f ∷ []) (n + 1)
 with_last [] f n e h = let l = h.1 in ((e, tt), omega (arith, l))
@@ -101,14 +116,21 @@ singles_are env procedure.Send (AndArgument a rest) = sends_are env (checked_arg
 singles_are env procedure.Receive NoArgument = (tt, refl)
 singles_are env procedure.Receive (AndArgument a rest) = receives_are env (checked_argument env a) rest
 
-single_numbers : (n k : ℕ) (at : Place) (fs : List c.Form) → Are fs k → Rise n (statements_numbers (of_.statements (numbered n at fs))) (n + k)
+single_numbers : (n k : ℕ) (at : Place) (fs : List c.Form) → Are fs k
+    → Rise n (statements_numbers (of_.statements (numbered n at fs))) (n + k)
 single_numbers n k at [] h = omega (arith, h.1)
 single_numbers n zero at (f ∷ fs) h = absurd (omega (arith, h.1))
 single_numbers n (suc k) at (f ∷ fs) h =
-    let rest : Rise (n + 1) (statements_numbers (of_.statements (numbered (n + 1) at fs))) (n + 1 + k) = single_numbers (n + 1) k at fs (h.0.1, omega (arith, h.1)) in
-    (refl, subst (λ m. Rise (n + 1) (m ++ statements_numbers (of_.statements (numbered (n + 1) at fs))) (n + suc k)) (sym h.0.0) (subst (Rise (n + 1) (statements_numbers (of_.statements (numbered (n + 1) at fs)))) (omega arith) rest))
+    let rest : Rise (n + 1) (statements_numbers (of_.statements (numbered (n + 1) at fs))) (n + 1 + k) =
+    single_numbers (n + 1) k at fs (h.0.1, omega (arith, h.1)) in (
+      refl,
+      subst (λ m. Rise (n + 1) (m ++ statements_numbers (of_.statements (numbered (n + 1) at fs))) (n + suc k))
+          (sym h.0.0) (subst (Rise (n + 1) (statements_numbers (of_.statements (numbered (n + 1) at fs)))) (omega arith)
+          rest),
+    )
 
-expanded_numbers : (n k : ℕ) (at : Place) (fs : List c.Form) → Are fs k → Rise n (form_numbers (expanded n at fs)) (n + parts_count k)
+expanded_numbers : (n k : ℕ) (at : Place) (fs : List c.Form) → Are fs k
+    → Rise n (form_numbers (expanded n at fs)) (n + parts_count k)
 expanded_numbers n zero at [] h = omega arith
 expanded_numbers n (suc k) at [] h = absurd (omega (arith, h.1))
 expanded_numbers n zero at (f ∷ fs) h = absurd (omega (arith, h.1))
@@ -120,14 +142,17 @@ expanded_numbers n (suc (suc k)) at (f ∷ g ∷ fs) h = single_numbers n (suc (
 -- ---- statements
 
 mutual
-  statement_rise : (env : Env) (s : Statement) → Rise env.next (statement_numbers (checked_statement env s)) (statement_after env s).next
+  statement_rise : (env : Env) (s : Statement)
+      → Rise env.next (statement_numbers (checked_statement env s)) (statement_after env s).next
   statement_rise env (Does at form) = (refl, form_rise (counted env) at form)
 
-  form_rise : (env : Env) (at : Place) (s : Form) → Rise env.next (form_numbers (checked_statement_form env at s)) (form_after env s).next
+  form_rise : (env : Env) (at : Place) (s : Form)
+      → Rise env.next (form_numbers (checked_statement_form env at s)) (form_after env s).next
   form_rise env at Empty = refl
   form_rise env at (Assign v e) = refl
   form_rise env at (Call f args) = refl
-  form_rise env at (Perform p args) = expanded_numbers env.next (single_count p args) at (singles env p args) (singles_are env p args)
+  form_rise env at (Perform p args) = expanded_numbers env.next (single_count p args) at (singles env p args)
+      (singles_are env p args)
   form_rise env at (Sequence ss) = statements_rise env ss
   form_rise env at (If e s o) = joined _ _ _ _ _ (statement_rise env s) (other_rise (statement_after env s) o)
   form_rise env at (While e s) = statement_rise env s
@@ -142,17 +167,24 @@ mutual
   other_rise env NoElse = refl
   other_rise env (Else s) = statement_rise env s
 
-  statements_rise : (env : Env) (ss : Statements) → Rise env.next (statements_numbers (of_.statements (checked_statements env ss))) (statements_after env ss).next
+  statements_rise : (env : Env) (ss : Statements)
+      → Rise env.next (statements_numbers (of_.statements (checked_statements env ss))) (statements_after env ss).next
   statements_rise env NoStatement = refl
-  statements_rise env (AndThen s rest) = joined _ _ _ _ _ (statement_rise env s) (statements_rise (statement_after env s) rest)
+  statements_rise env (AndThen s rest) = joined _ _ _ _ _ (statement_rise env s)
+      (statements_rise (statement_after env s) rest)
 
-  arms_rise : (env : Env) (xs : Arms) → Rise env.next (arms_numbers (of_.arms (checked_arms env xs))) (arms_after env xs).next
+  arms_rise : (env : Env) (xs : Arms) → Rise env.next (arms_numbers (of_.arms (checked_arms env xs)))
+      (arms_after env xs).next
   arms_rise env NoArm = refl
   arms_rise env (Or (On cs s) rest) = joined _ _ _ _ _ (statement_rise env s) (arms_rise (statement_after env s) rest)
 
-  branches_rise : (env : Env) (at : Place) (bs : Branches) → Rise env.next (statements_numbers (of_.statements (checked_branches env at bs))) (branches_after env bs).next
+  branches_rise : (env : Env) (at : Place) (bs : Branches)
+      → Rise env.next (statements_numbers (of_.statements (checked_branches env at bs))) (branches_after env bs).next
   branches_rise env at NoBranch = refl
-  branches_rise env at (Beside ss rest) = (refl, joined _ _ _ _ _ (statements_rise (counted env) ss) (branches_rise (statements_after (counted env) ss) at rest))
+  branches_rise env at (Beside ss rest) = (
+    refl,
+    joined _ _ _ _ _ (statements_rise (counted env) ss) (branches_rise (statements_after (counted env) ss) at rest),
+  )
 
 -- counting goes on from where it begins
 next_on : (k j : ℕ) → k + j + 1 ≡ k + (j + 1)
@@ -183,15 +215,19 @@ mutual
 
   statements_on : (k j : ℕ) (ss : Statements) → statements_counted (k + j) ss ≡ k + statements_counted j ss
   statements_on k j NoStatement = refl
-  statements_on k j (AndThen s rest) = ap (λ (m : ℕ). statements_counted m rest) (statement_on k j s) ∙ statements_on k (statement_counted j s) rest
+  statements_on k j (AndThen s rest) = ap (λ (m : ℕ). statements_counted m rest) (statement_on k j s)
+      ∙ statements_on k (statement_counted j s) rest
 
   arms_on : (k j : ℕ) (xs : Arms) → arms_counted (k + j) xs ≡ k + arms_counted j xs
   arms_on k j NoArm = refl
-  arms_on k j (Or (On cs s) rest) = ap (λ (m : ℕ). arms_counted m rest) (statement_on k j s) ∙ arms_on k (statement_counted j s) rest
+  arms_on k j (Or (On cs s) rest) = ap (λ (m : ℕ). arms_counted m rest) (statement_on k j s)
+      ∙ arms_on k (statement_counted j s) rest
 
   branches_on : (k j : ℕ) (bs : Branches) → branches_counted (k + j) bs ≡ k + branches_counted j bs
   branches_on k j NoBranch = refl
-  branches_on k j (Beside ss rest) = ap (λ (m : ℕ). branches_counted (statements_counted m ss) rest) (next_on k j) ∙ ap (λ (m : ℕ). branches_counted m rest) (statements_on k (j + 1) ss) ∙ branches_on k (statements_counted (j + 1) ss) rest
+  branches_on k j (Beside ss rest) = ap (λ (m : ℕ). branches_counted (statements_counted m ss) rest) (next_on k j)
+      ∙ ap (λ (m : ℕ). branches_counted m rest) (statements_on k (j + 1) ss)
+      ∙ branches_on k (statements_counted (j + 1) ss) rest
 
 -- ---- numbers of two parts
 
@@ -215,7 +251,8 @@ widened a b (x ∷ xs) h = (omega (arith, h.0), h.1, widened a b xs h.2)
 
 within : (a b : ℕ) (xs : List ℕ) → Rise a xs b → Within a b xs
 within a b [] h = tt
-within a b (x ∷ xs) h = let l = no_more (a + 1) b xs h.1 in (omega (arith, h.0), omega (arith, h.0, l), widened a b xs (within (a + 1) b xs h.1))
+within a b (x ∷ xs) h = let l = no_more (a + 1) b xs h.1 in
+    (omega (arith, h.0), omega (arith, h.0, l), widened a b xs (within (a + 1) b xs h.1))
 
 -- numbers above one differ from it
 above : (a b x : ℕ) (xs : List ℕ) → x < a → Within a b xs → DiffersFrom x xs
@@ -224,7 +261,10 @@ above a b x (y ∷ ys) l h = (λ e. absurd (omega (arith, e, l, h.0)), above a b
 
 rising_differ : (a b : ℕ) (xs : List ℕ) → Rise a xs b → AllDiffer xs
 rising_differ a b [] h = tt
-rising_differ a b (x ∷ xs) h = (above (a + 1) b x xs (omega (arith, h.0)) (within (a + 1) b xs h.1), rising_differ (a + 1) b xs h.1)
+rising_differ a b (x ∷ xs) h = (
+  above (a + 1) b x xs (omega (arith, h.0)) (within (a + 1) b xs h.1),
+  rising_differ (a + 1) b xs h.1,
+)
 
 outside : (a b x : ℕ) (xs : List ℕ) → a ≤ x → x < b → Without a b xs → DiffersFrom x xs
 outside a b x [] l g h = tt
@@ -238,9 +278,13 @@ differs_both : (x : ℕ) (xs ys : List ℕ) → DiffersFrom x xs → DiffersFrom
 differs_both x [] ys h g = g
 differs_both x (z ∷ xs) ys h g = (h.0, differs_both x xs ys h.1 g)
 
-all_differ_both : (a b : ℕ) (xs ys : List ℕ) → Within a b xs → AllDiffer xs → Without a b ys → AllDiffer ys → AllDiffer (xs ++ ys)
+all_differ_both : (a b : ℕ) (xs ys : List ℕ) → Within a b xs → AllDiffer xs → Without a b ys → AllDiffer ys
+    → AllDiffer (xs ++ ys)
 all_differ_both a b [] ys w h o g = g
-all_differ_both a b (x ∷ xs) ys w h o g = (differs_both x xs ys h.0 (outside a b x ys w.0 w.1 o), all_differ_both a b xs ys w.2 h.1 o g)
+all_differ_both a b (x ∷ xs) ys w h o g = (
+  differs_both x xs ys h.0 (outside a b x ys w.0 w.1 o),
+  all_differ_both a b xs ys w.2 h.1 o g,
+)
 
 without_both : (a b : ℕ) (xs ys : List ℕ) → Without a b xs → Without a b ys → Without a b (xs ++ ys)
 without_both a b [] ys h g = g
@@ -261,7 +305,8 @@ abbrev Earlier : Place → Place → Type 0
 Earlier p q = (p.line < q.line) ⊎ ((p.line ≡ q.line) × (p.column < q.column))
 
 tells : (p q : Place) → Decides (earlier p q) (Earlier p q)
-tells p q = Decides-or _ _ (Decides-ltb p.line q.line) (Decides-and _ _ (Decides-eqb p.line q.line) (Decides-ltb p.column q.column))
+tells p q = Decides-or _ _ (Decides-ltb p.line q.line)
+    (Decides-and _ _ (Decides-eqb p.line q.line) (Decides-ltb p.column q.column))
 
 earlier_then : (p q r : Place) → Earlier p q → Earlier q r → Earlier p r
 earlier_then p q r (inl a) (inl b) = inl (omega (arith, a, b))
@@ -279,7 +324,8 @@ ordered p q d = by (less_same_or_more p.line q.line) (less_same_or_more p.column
     same : p.line ≡ q.line → p.column ≡ q.column → p ≡ q
     same e f = λ i. record { line = e i; column = f i }
 
-    by : (p.line < q.line) ⊎ ((p.line ≡ q.line) ⊎ (q.line < p.line)) → (p.column < q.column) ⊎ ((p.column ≡ q.column) ⊎ (q.column < p.column)) → Earlier p q ⊎ Earlier q p
+    by : (p.line < q.line) ⊎ ((p.line ≡ q.line) ⊎ (q.line < p.line)) → (p.column < q.column)
+        ⊎ ((p.column ≡ q.column) ⊎ (q.column < p.column)) → Earlier p q ⊎ Earlier q p
     by (inl l) o = inl (inl l)
     by (inr (inr l)) o = inr (inl l)
     by (inr (inl e)) (inl l) = inl (inr (e, l))
@@ -308,12 +354,14 @@ share_grows : (p q : Place) (b : Place × ℕ) → Earlier p q → share p b ≤
 share_grows p q b l = by (earlier b.0 p) refl
   where
     by : (t : Bool) → earlier b.0 p ≡ t → (if t then b.1 else 0) ≤ share q b
-    by true e = subst (λ t. b.1 ≤ (if t then b.1 else 0)) (sym ((tells b.0 q).1 (earlier_then b.0 p q ((tells b.0 p).0 e) l))) (omega arith)
+    by true e = subst (λ t. b.1 ≤ (if t then b.1 else 0))
+        (sym ((tells b.0 q).1 (earlier_then b.0 p q ((tells b.0 p).0 e) l))) (omega arith)
     by false e = omega arith
 
 shares_grow : (p q : Place) (bs : List (Place × ℕ)) → Earlier p q → shares p bs ≤ shares q bs
 shares_grow p q [] l = omega arith
-shares_grow p q (b ∷ bs) l = let one = share_grows p q b l in let rest = shares_grow p q bs l in omega (arith, one, rest)
+shares_grow p q (b ∷ bs) l = let one = share_grows p q b l in let rest = shares_grow p q bs l in
+    omega (arith, one, rest)
 
 abbrev IsPart : Place × ℕ → List (Place × ℕ) → Type 0
 IsPart x [] = ⊥
@@ -342,7 +390,8 @@ later_share : (x : Place × ℕ) (q : Place) → Earlier x.0 q → share q x ≡
 later_share x q l = ap (λ (t : Bool). if t then x.1 else 0) ((tells x.0 q).1 l)
 
 -- before a later place a part is counted whole
-counts_whole : (x : Place × ℕ) (q : Place) (bs : List (Place × ℕ)) → IsPart x bs → Earlier x.0 q → shares x.0 bs + x.1 ≤ shares q bs
+counts_whole : (x : Place × ℕ) (q : Place) (bs : List (Place × ℕ)) → IsPart x bs → Earlier x.0 q
+    → shares x.0 bs + x.1 ≤ shares q bs
 counts_whole x q [] h l = elim h [ ]
 counts_whole x q (b ∷ bs) (inl e) l =
     let own = subst (λ z. share x.0 z ≡ 0) e (own_share x) in
@@ -366,7 +415,8 @@ module _ (all : List (Place × ℕ)) where
       let whole = counts_whole x q all h l in
       omega (arith, a, b, whole)
 
-  parts_apart : (x y : Place × ℕ) → IsPart x all → IsPart y all → x.0 ≢ y.0 → (first_at y.0 + y.1 ≤ first_at x.0) ⊎ (first_at x.0 + x.1 ≤ first_at y.0)
+  parts_apart : (x y : Place × ℕ) → IsPart x all → IsPart y all → x.0 ≢ y.0 → (first_at y.0 + y.1 ≤ first_at x.0)
+      ⊎ (first_at x.0 + x.1 ≤ first_at y.0)
   parts_apart x y h g d = by (ordered x.0 y.0 d)
     where
       by : Earlier x.0 y.0 ⊎ Earlier y.0 x.0 → (first_at y.0 + y.1 ≤ first_at x.0) ⊎ (first_at x.0 + x.1 ≤ first_at y.0)
@@ -376,22 +426,28 @@ module _ (all : List (Place × ℕ)) where
   abbrev part : Block → Place × ℕ
   part b = (statement_place b.body, statement_counted 0 b.body)
 
-  block_rise : (env : Env) (b : Block) (k : ℕ) → Rise k (statement_numbers (checked_statement (started env k) b.body)) (k + statement_counted 0 b.body)
+  block_rise : (env : Env) (b : Block) (k : ℕ)
+      → Rise k (statement_numbers (checked_statement (started env k) b.body)) (k + statement_counted 0 b.body)
   block_rise env b k =
       let nothing : k ≡ k + 0 = omega arith in
       subst (Rise k (statement_numbers (checked_statement (started env k) b.body)))
-      (statement_next (started env k) b.body ∙ ap (λ (m : ℕ). statement_counted m b.body) nothing ∙ statement_on k 0 b.body)
+      (statement_next (started env k) b.body ∙ ap (λ (m : ℕ). statement_counted m b.body) nothing
+      ∙ statement_on k 0 b.body)
       (statement_rise (started env k) b.body)
 
-  others_without : (env : Env) (x : Place × ℕ) (bs : List Block) → IsPart x all → AreParts (bodies bs) all → DiffersFrom x.0 (body_places bs) → Without (first_at x.0) (first_at x.0 + x.1) (blocks_numbers (checked_blocks env (starts_from all (bodies bs)) bs))
+  others_without : (env : Env) (x : Place × ℕ) (bs : List Block) → IsPart x all → AreParts (bodies bs) all
+      → DiffersFrom x.0 (body_places bs) → Without (first_at x.0) (first_at x.0 + x.1)
+      (blocks_numbers (checked_blocks env (starts_from all (bodies bs)) bs))
   others_without env x [] h g d = tt
   others_without env x (b ∷ bs) h g d =
       let k : ℕ = first_at (statement_place b.body) in
       without_both _ _ _ _
-      (apart _ _ k (k + statement_counted 0 b.body) _ (parts_apart x (part b) h g.0 d.0) (within _ _ _ (block_rise env b k)))
+      (apart _ _ k (k + statement_counted 0 b.body) _ (parts_apart x (part b) h g.0 d.0)
+      (within _ _ _ (block_rise env b k)))
       (others_without (statement_after (started env k) b.body) x bs h g.1 d.1)
 
-  blocks_differ : (env : Env) (bs : List Block) → AreParts (bodies bs) all → AllDiffer (body_places bs) → AllDiffer (blocks_numbers (checked_blocks env (starts_from all (bodies bs)) bs))
+  blocks_differ : (env : Env) (bs : List Block) → AreParts (bodies bs) all → AllDiffer (body_places bs)
+      → AllDiffer (blocks_numbers (checked_blocks env (starts_from all (bodies bs)) bs))
   blocks_differ env [] g d = tt
   blocks_differ env (b ∷ bs) g d =
       let k : ℕ = first_at (statement_place b.body) in
@@ -400,5 +456,6 @@ module _ (all : List (Place × ℕ)) where
       (others_without (statement_after (started env k) b.body) (part b) bs g.0 g.1 d.0)
       (blocks_differ (statement_after (started env k) b.body) bs g.1 d.1)
 
-pub numbers_differ : (p : Program) → AllDiffer (body_places p.blocks) → AllDiffer (blocks_numbers (program_checked p).blocks)
+pub numbers_differ : (p : Program) → AllDiffer (body_places p.blocks)
+    → AllDiffer (blocks_numbers (program_checked p).blocks)
 numbers_differ p d = blocks_differ (bodies p.blocks) (env_of p) p.blocks (own_parts (bodies p.blocks)) d

@@ -45,7 +45,8 @@ number at n = record { at = col at; negative = None; value = value.Number n }
 -- program g; begin case 1 of 1: ; 1: end end.
 abbrev twice : ℕ → p.Program
 twice n = program p.NoPart 12 (p.Does (col 18) (p.Case (p.At (col 23) (p.Number 1))
-    (p.Or (p.On (number 28 1 ∷ []) (p.Does (col 31) p.Empty)) (p.Or (p.On (number 33 n ∷ []) (p.Does (col 36) p.Empty)) p.NoArm))))
+    (p.Or (p.On (number 28 1 ∷ []) (p.Does (col 31) p.Empty))
+    (p.Or (p.On (number 33 n ∷ []) (p.Does (col 36) p.Empty)) p.NoArm))))
 
 repeated : first (twice 1) ≡ breaks rule.Y12 (col 33)
 repeated = refl
@@ -55,7 +56,8 @@ not_repeated = refl
 
 -- program g; type a = array [1..1048577] of integer; begin end.
 abbrev with_type : SynConst → SynConst → p.Program
-with_type low high = program (p.Declare (p.Kind (name 17 (codes "a")) (kinds.Array low high (name 43 (codes "integer")))) p.NoPart) 52 (p.Does (col 58) p.Empty)
+with_type low high = program (p.Declare (p.Kind (name 17 (codes "a"))
+    (kinds.Array low high (name 43 (codes "integer")))) p.NoPart) 52 (p.Does (col 58) p.Empty)
 
 too_large : first (with_type (number 28 1) (number 31 1048577)) ≡ breaks rule.L3 (col 17)
 too_large = refl
@@ -64,8 +66,14 @@ large : first (with_type (number 28 1) (number 31 1048576)) ≡ None
 large = refl
 
 -- program h; type t = array [0..maxint] of char; begin end.
-both_ends : first (with_type (number 28 0) (record { at = col 31; negative = None; value = value.Named (name 31 (codes "maxint")) })) ≡ breaks rule.L3 (col 17)
+both_ends : first (with_type (number 28 0) (record
+    { at = col 31; negative = None; value = value.Named (name 31 (codes "maxint")) })) ≡ breaks rule.L3 (col 17)
 both_ends = refl
 
-all_integers : first (with_type (record { at = col 28; negative = Some true; value = value.Named (name 29 (codes "maxint")) }) (record { at = col 37; negative = None; value = value.Named (name 37 (codes "maxint")) })) ≡ breaks rule.L3 (col 17)
+all_integers : first (with_type (record {
+  at = col 28;
+  negative = Some true;
+  value = value.Named (name 29 (codes "maxint"));
+})
+    (record { at = col 37; negative = None; value = value.Named (name 37 (codes "maxint")) })) ≡ breaks rule.L3 (col 17)
 all_integers = refl

@@ -14,48 +14,72 @@ use Rattle.sp_types.specs.Tables.{Env, numbers_from, constants_from, kinds_from}
 use Rattle.sp_types.specs.TypeWalk.{places_of, started, starts_of, statement_after}
 use Rattle.sp_types.specs.TypeFirst.{typed}
 use Rattle.sp_types.specs.Firsts.{statement_first}
-use Rattle.sp_types.specs.DeclarationFirsts.{constants_first, kinds_first, cells_first, answer_first, block_first, blocks_first}
+use Rattle.sp_types.specs.DeclarationFirsts.{constants_first, kinds_first, cells_first, answer_first, block_first}
+use Rattle.sp_types.specs.DeclarationFirsts.{blocks_first}
 use Rattle.sp_types.specs.Entered.{tabled, checked_by, typed_blocks, typed_kinds}
 use Rattle.sp_types.proofs.Declared.{ok, same}
 use Rattle.sp_types.proofs.Capping.{sizes_capped, cells_same, frame_same}
 
 -- frames counted up to just above the limit break the same rules
-blocks_same : (numbers cells : List ℕ) (variables : List checked.Variable) (b : ℕ) (env : Env) (starts : List ℕ) (bs : List n.Block) (given : Found) →
-    blocks_first numbers (map capped cells) variables b env starts bs given ≡ blocks_first numbers cells variables b env starts bs given
+blocks_same : (numbers cells : List ℕ) (variables : List checked.Variable) (b : ℕ) (env : Env) (starts : List ℕ)
+    (bs : List n.Block) (given : Found) →
+    blocks_first numbers (map capped cells) variables b env starts bs given
+    ≡ blocks_first numbers cells variables b env starts bs given
 blocks_same numbers cells variables b env starts [] given = refl
 blocks_same numbers cells variables b env [] (x ∷ xs) given = refl
 blocks_same numbers cells variables b env (k ∷ starts) (x ∷ xs) given =
-    ap (λ (r : Found). blocks_first numbers (map capped cells) variables (b + 1) (statement_after (started env k) x.body) starts xs (statement_first (started env k) x.body (answer_first (started env k) x.answer (lesser given r)))) (frame_same x.at numbers cells b variables) ∙
-    blocks_same numbers cells variables (b + 1) (statement_after (started env k) x.body) starts xs (block_first numbers cells variables b (started env k) x given)
+    ap (λ (r : Found). blocks_first numbers (map capped cells) variables (b + 1)
+    (statement_after (started env k) x.body) starts xs
+    (statement_first (started env k) x.body (answer_first (started env k) x.answer (lesser given r))))
+    (frame_same x.at numbers cells b variables) ∙
+    blocks_same numbers cells variables (b + 1) (statement_after (started env k) x.body) starts xs
+    (block_first numbers cells variables b (started env k) x given)
 
-counted_same : (numbers cells : List ℕ) (places : List Place) (env : Env) (variables : List checked.Variable) (bs : List n.Block) (given : Found) →
-    typed_kinds numbers (map capped cells) places env variables bs given ≡ typed_kinds numbers cells places env variables bs given
+counted_same : (numbers cells : List ℕ) (places : List Place) (env : Env) (variables : List checked.Variable)
+    (bs : List n.Block) (given : Found) →
+    typed_kinds numbers (map capped cells) places env variables bs given
+    ≡ typed_kinds numbers cells places env variables bs given
 counted_same numbers cells places env variables bs given =
     ap (typed_blocks numbers (map capped cells) env variables bs) (cells_same places cells given) ∙
-    ap (λ (f : Found). outcome f (checked_by env variables bs)) (blocks_same numbers cells variables 0 env (starts_of bs) bs (cells_first places cells given))
+    ap (λ (f : Found). outcome f (checked_by env variables bs))
+    (blocks_same numbers cells variables 0 env (starts_of bs) bs (cells_first places cells given))
 
 -- the types and the blocks, from the counted cells and the tables
-pub kinds_typed : (numbers : List ℕ) (kinds : List KindOf) (places : List Place) (env t : Env) (variables : List checked.Variable) (bs : List n.Block) (given found : Found) (cells : List ℕ) →
+pub kinds_typed : (numbers : List ℕ) (kinds : List KindOf) (places : List Place) (env t : Env)
+    (variables : List checked.Variable) (bs : List n.Block) (given found : Found) (cells : List ℕ) →
     ok (capped_sizes kinds) ≡ ok cells → found ≡ cells_first places cells given → ok env ≡ ok t →
     typed_blocks numbers cells t variables bs found ≡ typed_kinds numbers (sizes kinds) places env variables bs given
 kinds_typed numbers kinds places env t variables bs given found cells cells_are found_is tables_are =
     ap (typed_blocks numbers cells t variables bs) found_is ∙
-    ap (λ (cs : List ℕ). typed_kinds numbers cs places t variables bs given) (same (capped_sizes kinds) cells cells_are ∙ sizes_capped kinds) ∙
-    ap (λ (e : Env). typed_kinds numbers (map capped (sizes kinds)) places e variables bs given) (same env t tables_are) ∙
+    ap (λ (cs : List ℕ). typed_kinds numbers cs places t variables bs given)
+    (same (capped_sizes kinds) cells cells_are ∙ sizes_capped kinds) ∙
+    ap (λ (e : Env). typed_kinds numbers (map capped (sizes kinds)) places e variables bs given) (same env t tables_are)
+    ∙
     counted_same numbers (sizes kinds) places env variables bs given
 
 -- the program, by the types that its names stand for, its constants and the places of its types
 abbrev by_names : n.Program → List ℕ → List (Option Ordinal) → List Place → Result c.Program Refusal
-by_names p m k ps = typed_kinds m (sizes (kinds_from m k p.kinds)) ps (tabled m k (kinds_from m k p.kinds) p.variables p.blocks) p.variables p.blocks (kinds_first k p.kinds (constants_first k p.constants None))
+by_names p m k ps = typed_kinds m (sizes (kinds_from m k p.kinds)) ps
+    (tabled m k (kinds_from m k p.kinds) p.variables p.blocks) p.variables p.blocks
+    (kinds_first k p.kinds (constants_first k p.constants None))
 
 -- the program, from what its declared names stand for
-pub program_typed : (p : n.Program) (numbers : List ℕ) (known : List (Option Ordinal)) (found : Found) (places : List Place) (kinds : List KindOf) →
+pub program_typed : (p : n.Program) (numbers : List ℕ) (known : List (Option Ordinal)) (found : Found)
+    (places : List Place) (kinds : List KindOf) →
     ok (numbers_from [] 0 p.kinds) ≡ ok numbers → ok (constants_from numbers [] p.constants) ≡ ok known →
-    ok (kinds_first known p.kinds (constants_first known p.constants None)) ≡ ok found → ok (places_of p.kinds) ≡ ok places → ok (kinds_from numbers known p.kinds) ≡ ok kinds →
-    typed_kinds numbers (sizes kinds) places (tabled numbers known kinds p.variables p.blocks) p.variables p.blocks found ≡ typed p
+    ok (kinds_first known p.kinds (constants_first known p.constants None)) ≡ ok found
+    → ok (places_of p.kinds) ≡ ok places → ok (kinds_from numbers known p.kinds) ≡ ok kinds →
+    typed_kinds numbers (sizes kinds) places (tabled numbers known kinds p.variables p.blocks) p.variables p.blocks
+    found ≡ typed p
 program_typed p numbers known found places kinds numbers_are known_are found_is places_are kinds_are =
-    ap (λ (f : Found). typed_kinds numbers (sizes kinds) places (tabled numbers known kinds p.variables p.blocks) p.variables p.blocks f) (same (kinds_first known p.kinds (constants_first known p.constants None)) found found_is) ∙
-    ap (λ (ks : List KindOf). typed_kinds numbers (sizes ks) places (tabled numbers known ks p.variables p.blocks) p.variables p.blocks (kinds_first known p.kinds (constants_first known p.constants None))) (same (kinds_from numbers known p.kinds) kinds kinds_are) ∙
+    ap (λ (f : Found). typed_kinds numbers (sizes kinds) places (tabled numbers known kinds p.variables p.blocks)
+    p.variables p.blocks f) (same (kinds_first known p.kinds (constants_first known p.constants None)) found
+    found_is) ∙
+    ap (λ (ks : List KindOf). typed_kinds numbers (sizes ks) places (tabled numbers known ks p.variables p.blocks)
+    p.variables p.blocks (kinds_first known p.kinds (constants_first known p.constants None)))
+    (same (kinds_from numbers known p.kinds) kinds kinds_are) ∙
     ap (λ (ps : List Place). by_names p numbers known ps) (same (places_of p.kinds) places places_are) ∙
-    ap (λ (k : List (Option Ordinal)). by_names p numbers k (places_of p.kinds)) (same (constants_from numbers [] p.constants) known known_are) ∙
-    ap (λ (m : List ℕ). by_names p m (constants_from m [] p.constants) (places_of p.kinds)) (same (numbers_from [] 0 p.kinds) numbers numbers_are)
+    ap (λ (k : List (Option Ordinal)). by_names p numbers k (places_of p.kinds))
+    (same (constants_from numbers [] p.constants) known known_are) ∙
+    ap (λ (m : List ℕ). by_names p m (constants_from m [] p.constants) (places_of p.kinds))
+    (same (numbers_from [] 0 p.kinds) numbers numbers_are)

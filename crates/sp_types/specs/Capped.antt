@@ -1,3 +1,4 @@
+-- None of this belongs to what the program promises: it is for contracts between crates.
 -- Cells counted up to just above the limit: of a larger count no more is known than that it is larger. The contracts
 -- of `sizes` cite it, since a sum of sizes may pass every machine number.
 use Rattle.std.specs.Prelude.{ℕ, ◌+◌, min, List, []}

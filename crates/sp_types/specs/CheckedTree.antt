@@ -1,3 +1,4 @@
+-- All of this belongs to what the program promises (docs/promise.txt).
 -- The checked tree of a program. It is there for every tree with numbers for names; where no rule of types is broken,
 -- each part has its type. The contract of the phase of types promises it, and its walks follow it part by part.
 use Rattle.std.specs.Prelude.{ℕ, ◌+◌, ℤ, pos, List, [], ◌∷◌, ◌++◌, Option, Some, None, slice_get, map}
@@ -9,14 +10,21 @@ use Rattle.sp_tree.specs.declared.meaning.StandardProcedure.{StandardProcedure}
 use Rattle.sp_tree.specs.declared.meaning.StandardProcedure.TheVariants as procedure
 use Rattle.sp_tree.specs.declared.named.NamedConst.{NamedConst}
 use Rattle.sp_tree.specs.PlainNamed as n
-use Rattle.sp_tree.specs.PlainNamed.{Expression, At, ExpressionForm, Number, Quoted, Constant, Read, Apply, Standard, Unary, Binary, Variable, Entire, Selector, Index, Field, Selectors, Whole, Select, Argument, Pass, Width, NoWidth, Within, Arguments, NoArgument, AndArgument, Statement, Does, Form, Empty, Assign, Call, Perform, Sequence, If, While, Repeat, Case, For, Parallel, Forall, Assume, Other, NoElse, Else, Statements, NoStatement, AndThen, Arm, On, Arms, NoArm, Or, Branches, NoBranch, Beside}
+use Rattle.sp_tree.specs.PlainNamed.{Expression, At, ExpressionForm, Number, Quoted, Constant, Read, Apply, Standard}
+use Rattle.sp_tree.specs.PlainNamed.{Unary, Binary, Variable, Entire, Selector, Index, Field, Selectors, Whole, Select}
+use Rattle.sp_tree.specs.PlainNamed.{Argument, Pass, Width, NoWidth, Within, Arguments, NoArgument, AndArgument}
+use Rattle.sp_tree.specs.PlainNamed.{Statement, Does, Form, Empty, Assign, Call, Perform, Sequence, If, While, Repeat}
+use Rattle.sp_tree.specs.PlainNamed.{Case, For, Parallel, Forall, Assume, Other, NoElse, Else, Statements, NoStatement}
+use Rattle.sp_tree.specs.PlainNamed.{AndThen, Arm, On, Arms, NoArm, Or, Branches, NoBranch, Beside}
 use Rattle.sp_types.specs.declared.tables.Ordinal.{Ordinal}
 use Rattle.sp_tree.specs.PlainChecked as c
 use Rattle.sp_tree.specs.CheckedOf as of_
-use Rattle.sp_types.specs.Tables.{Env, entry, kind_at, const_value, char_of, number_or, variable_kind, formals_of, counted, indexed, env_of, answer_variable}
+use Rattle.sp_types.specs.Tables.{Env, entry, kind_at, const_value, char_of, number_or, variable_kind, formals_of}
+use Rattle.sp_types.specs.Tables.{counted, indexed, env_of, answer_variable}
 use Rattle.sp_types.specs.TypeRules.{field_in}
 use Rattle.sp_types.specs.Kinds.{form_kind, expression_kind, selection}
-use Rattle.sp_types.specs.TypeWalk.{formal, others, formal_role, statement_after, statements_after, arm_after, started, starts_of, blocks_after}
+use Rattle.sp_types.specs.TypeWalk.{formal, others, formal_role, statement_after, statements_after, arm_after, started}
+use Rattle.sp_types.specs.TypeWalk.{starts_of, blocks_after}
 
 -- a type, 0 where it is missing
 abbrev pub or_zero : Option ℕ → ℕ
@@ -88,7 +96,8 @@ module _ (env : Env) where
 
     pub checked_actuals : List ℕ → Arguments → List c.Actual
     checked_actuals xs NoArgument = []
-    checked_actuals xs (AndArgument a rest) = checked_actual (formal_role env (formal xs)) a ∷ checked_actuals (others xs) rest
+    checked_actuals xs (AndArgument a rest) = checked_actual (formal_role env (formal xs)) a
+        ∷ checked_actuals (others xs) rest
 
     pub checked_actual : Option Role → Argument → c.Actual
     checked_actual r (Pass e w) = passed r (checked_expression e)
@@ -183,13 +192,20 @@ abbrev mutual
   checked_statement_form env at (Call f args) = c.Call f (of_.actuals (checked_actuals env (formals_of env f) args))
   checked_statement_form env at (Perform p args) = expanded env.next at (singles env p args)
   checked_statement_form env at (Sequence ss) = c.Sequence (of_.statements (checked_statements env ss))
-  checked_statement_form env at (If e s o) = c.If (checked_expression env e) (checked_statement env s) (checked_other (statement_after env s) o)
+  checked_statement_form env at (If e s o) =
+      c.If (checked_expression env e) (checked_statement env s) (checked_other (statement_after env s) o)
   checked_statement_form env at (While e s) = c.While (checked_expression env e) (checked_statement env s)
-  checked_statement_form env at (Repeat ss e) = c.Repeat (in_sequence env.next (first_place at ss) (checked_statements (counted env) ss)) (checked_expression (statements_after (counted env) ss) e)
-  checked_statement_form env at (Case e choices) = c.Case (checked_expression env e) (of_.arms (checked_arms env choices))
-  checked_statement_form env at (For x name from down to s) = c.For x name (checked_expression env from) down (checked_expression env to) (checked_statement env s)
+  checked_statement_form env at (Repeat ss e) =
+      c.Repeat (in_sequence env.next (first_place at ss) (checked_statements (counted env) ss))
+      (checked_expression (statements_after (counted env) ss) e)
+  checked_statement_form env at (Case e choices) =
+      c.Case (checked_expression env e) (of_.arms (checked_arms env choices))
+  checked_statement_form env at (For x name from down to s) =
+      c.For x name (checked_expression env from) down (checked_expression env to) (checked_statement env s)
   checked_statement_form env at (Parallel bs) = c.Parallel (of_.statements (checked_branches env at bs))
-  checked_statement_form env at (Forall x from to s) = c.Forall x (checked_expression env from) (checked_expression env to) (checked_statement (indexed env x (expression_kind env from)) s)
+  checked_statement_form env at (Forall x from to s) =
+      c.Forall x (checked_expression env from) (checked_expression env to)
+      (checked_statement (indexed env x (expression_kind env from)) s)
   checked_statement_form env at (Assume e) = c.Assume (checked_expression env e)
 
   pub checked_other : Env → Other → c.Other
@@ -210,16 +226,26 @@ abbrev mutual
   -- each process statement is one statement
   pub checked_branches : Env → Place → Branches → List c.Statement
   checked_branches env at NoBranch = []
-  checked_branches env at (Beside ss rest) = in_sequence env.next (first_place at ss) (checked_statements (counted env) ss) ∷ checked_branches (statements_after (counted env) ss) at rest
+  checked_branches env at (Beside ss rest) =
+      in_sequence env.next (first_place at ss) (checked_statements (counted env) ss)
+      ∷ checked_branches (statements_after (counted env) ss) at rest
 
 -- a block's tree
 abbrev pub checked_block : Env → n.Block → c.Block
-checked_block env b = record { name = b.name; parent = b.parent; formals = b.formals; answer = answer_variable b.answer; body = checked_statement env b.body; at = b.at }
+checked_block env b = record {
+  name = b.name;
+  parent = b.parent;
+  formals = b.formals;
+  answer = answer_variable b.answer;
+  body = checked_statement env b.body;
+  at = b.at;
+}
 
 abbrev pub checked_blocks : Env → List ℕ → List n.Block → List c.Block
 checked_blocks env starts [] = []
 checked_blocks env [] (b ∷ bs) = []
-checked_blocks env (k ∷ starts) (b ∷ bs) = checked_block (started env k) b ∷ checked_blocks (statement_after (started env k) b.body) starts bs
+checked_blocks env (k ∷ starts) (b ∷ bs) = checked_block (started env k) b
+    ∷ checked_blocks (statement_after (started env k) b.body) starts bs
 
 -- variables with their types
 abbrev pub checked_variables : List (Option ℕ) → List checked.Variable → List checked.Variable

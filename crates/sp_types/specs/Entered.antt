@@ -1,3 +1,4 @@
+-- None of this belongs to what the program promises: it is for contracts between crates.
 -- The phase of types behind the tables of a program. The contracts of `program` and `blocks` promise its steps, so
 -- that each of them is proved for itself.
 use Rattle.std.specs.Prelude.{ℕ, List, Option, Result}
@@ -38,9 +39,14 @@ checked_by env variables blocks = record {
 }
 
 -- what the phase gives of the blocks, behind what was found before them
-abbrev pub typed_blocks : List ℕ → List ℕ → Env → List checked.Variable → List n.Block → Found → Result c.Program Refusal
-typed_blocks numbers cells env variables blocks first = outcome (blocks_first numbers cells variables 0 env (starts_of blocks) blocks first) (checked_by env variables blocks)
+abbrev pub typed_blocks : List ℕ → List ℕ → Env → List checked.Variable → List n.Block → Found
+    → Result c.Program Refusal
+typed_blocks numbers cells env variables blocks first =
+    outcome (blocks_first numbers cells variables 0 env (starts_of blocks) blocks first)
+    (checked_by env variables blocks)
 
 -- what the phase gives of types whose names stand at these places, and of the blocks
-abbrev pub typed_kinds : List ℕ → List ℕ → List Place → Env → List checked.Variable → List n.Block → Found → Result c.Program Refusal
-typed_kinds numbers cells places env variables blocks first = typed_blocks numbers cells env variables blocks (cells_first places cells first)
+abbrev pub typed_kinds : List ℕ → List ℕ → List Place → Env → List checked.Variable → List n.Block → Found
+    → Result c.Program Refusal
+typed_kinds numbers cells places env variables blocks first =
+    typed_blocks numbers cells env variables blocks (cells_first places cells first)

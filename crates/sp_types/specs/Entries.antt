@@ -1,3 +1,4 @@
+-- Some of this belongs to what the program promises (docs/promise.txt).
 -- The fields of a record in an ordered table by their names, and the message types of a channel in an ordered set. The
 -- contracts of `entries` cite it; the rules speak of the first field of a name, and the table of the only one.
 use Rattle.std.specs.Prelude.{◌≡◌, ℕ, ◌+◌, nat_eq, if◌then◌else◌, List, [], ◌∷◌, Option, Some, None}
@@ -35,7 +36,8 @@ under index name = get (slice_cmp nat_cmp) index name
 
 -- The field is in the table, with this number, unless one of its name was; all others are as before.
 abbrev pub Notes : Index → Index → ℕ → List ℕ × ℕ → Type 0
-Notes old new n f = (name : List ℕ) → under new name ≡ option_or (under old name) (if bytes_eq name f.0 then Some (n, f.1) else None)
+Notes old new n f = (name : List ℕ) → under new name
+    ≡ option_or (under old name) (if bytes_eq name f.0 then Some (n, f.1) else None)
 
 -- Under each name stands the first field of that name.
 abbrev pub IsIndex : Index → List (List ℕ × ℕ) → Type 0

@@ -1,3 +1,4 @@
+-- None of this belongs to what the program promises: it is for contracts between crates.
 -- The first broken rule of types in each part of a tree, from what was found before it: the walk of TypeWalk.antt with
 -- `lesser` at each node. The contracts of all walks of this crate cite these, one for each part.
 use Rattle.std.specs.Prelude.{ℕ, List, Option}

@@ -1,3 +1,4 @@
+-- All of this belongs to what the program promises (docs/promise.txt).
 -- The types of expressions and variables, by their numbers. None: the part is broken, and has no type. The rules of
 -- types and the checked tree go by it, and the walks promise it of each part.
 use Rattle.std.specs.Prelude.{ℕ, if◌then◌else◌, List, Option, Some, None}
@@ -5,7 +6,9 @@ use Rattle.sp_tree.specs.declared.checked.KindOf.{KindOf}
 use Rattle.sp_tree.specs.declared.checked.KindOf.TheVariants as kind
 use Rattle.sp_tree.specs.declared.operators.StandardFn.{StandardFn}
 use Rattle.sp_tree.specs.declared.operators.StandardFn.TheVariants as fn
-use Rattle.sp_tree.specs.PlainNamed.{Expression, At, ExpressionForm, Number, Quoted, Constant, Read, Apply, Standard, Unary, Binary, Variable, Entire, Selector, Index, Field, Selectors, Whole, Select, Argument, Pass, Arguments, NoArgument, AndArgument}
+use Rattle.sp_tree.specs.PlainNamed.{Expression, At, ExpressionForm, Number, Quoted, Constant, Read, Apply, Standard}
+use Rattle.sp_tree.specs.PlainNamed.{Unary, Binary, Variable, Entire, Selector, Index, Field, Selectors, Whole, Select}
+use Rattle.sp_tree.specs.PlainNamed.{Argument, Pass, Arguments, NoArgument, AndArgument}
 use Rattle.sp_types.specs.Tables.{Env, kind_at, char_of, ordinal_kind, constant_kind, variable_kind, answer_kind}
 use Rattle.sp_types.specs.TypeRules.{integer, boolean, char, ordinal, unary_takes, binary_gives, differ, field_in}
 

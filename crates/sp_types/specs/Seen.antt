@@ -1,3 +1,4 @@
+-- None of this belongs to what the program promises: it is for contracts between crates.
 -- Constants, and an ordered set of the same. The contracts of `seen` cite it, for the rule that no constant of a
 -- `case` comes twice.
 use Rattle.std.specs.Prelude.{◌≡◌, ℕ, ℤ, List}
@@ -13,4 +14,5 @@ key_cmp x y = ordering_then (nat_cmp x.0 y.0) (int_cmp x.1 y.1)
 
 -- The keys are those of the constants: each constant is among the ones as it is among the others.
 abbrev pub IsSet : List Ordinal → List (ℕ × ℤ) → Type 0
-IsSet constants keys = (o : Ordinal) → list_any (λ (k : ℕ × ℤ). is_eq (key_cmp (o.kind, o.number) k)) keys ≡ list_any (same o) constants
+IsSet constants keys = (o : Ordinal) → list_any (λ (k : ℕ × ℤ). is_eq (key_cmp (o.kind, o.number) k)) keys
+    ≡ list_any (same o) constants

@@ -1,8 +1,12 @@
+-- None of this belongs to what the program promises: it is for contracts between crates.
 -- The numbers of the statements of a checked tree, in the order of its blocks, and what it is that no two are the
 -- same. A law of this crate promises it, since sets and lengths are kept by these numbers.
 use Rattle.std.specs.Prelude.{ℕ, ℤ, pos, false, codes, List, [], ◌∷◌, ◌++◌, ◌≢◌, Some, None}
 use Rattle.sp_base.specs.declared.place.Place.{Place}
-use Rattle.sp_tree.specs.PlainChecked.{Expression, At, Number, Read, Entire, Whole, Nothing, Statement, Does, Form, Empty, Call, Send, Sequence, If, While, Repeat, For, Case, Parallel, Forall, Other, NoElse, Else, Statements, NoStatement, AndThen, On, Arms, NoArm, Or, Block}
+use Rattle.sp_tree.specs.PlainChecked.{Expression, At, Number, Read, Entire, Whole, Nothing, Statement, Does, Form}
+use Rattle.sp_tree.specs.PlainChecked.{Empty, Call, Send, Sequence, If, While, Repeat, For, Case, Parallel, Forall}
+use Rattle.sp_tree.specs.PlainChecked.{Other, NoElse, Else, Statements, NoStatement, AndThen, On, Arms, NoArm, Or}
+use Rattle.sp_tree.specs.PlainChecked.{Block}
 use Rattle.sp_tree.specs.PlainNamed as n
 use Rattle.sp_types.specs.TypeWalk.{statement_place}
 
@@ -66,7 +70,9 @@ channel = At somewhere 3 (Read (Entire 3 somewhere Whole))
 
 abbrev own_body : Statement
 own_body = Does 3 somewhere (Sequence (AndThen
-    (Does 4 somewhere (If (number (pos 1)) (Does 5 somewhere (For 2 somewhere (number (pos 1)) false (number (pos 2)) (Does 6 somewhere (Call 1 Nothing)))) (Else (Does 7 somewhere Empty))))
+    (Does 4 somewhere (If (number (pos 1)) (Does 5 somewhere
+    (For 2 somewhere (number (pos 1)) false (number (pos 2)) (Does 6 somewhere (Call 1 Nothing))))
+    (Else (Does 7 somewhere Empty))))
     NoStatement))
 
 abbrev procedure_body : Statement
@@ -78,4 +84,5 @@ procedure_body = Does 0 somewhere (Sequence (AndThen
 abbrev pub two_blocks : List Block
 two_blocks =
     record { name = codes "g"; parent = None; formals = []; answer = None; body = own_body; at = somewhere } ∷
-    record { name = codes "p"; parent = Some 0; formals = []; answer = None; body = procedure_body; at = somewhere } ∷ []
+    record { name = codes "p"; parent = Some 0; formals = []; answer = None; body = procedure_body; at = somewhere }
+    ∷ []

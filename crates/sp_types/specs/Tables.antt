@@ -1,6 +1,8 @@
+-- All of this belongs to what the program promises (docs/promise.txt).
 -- What a program declares, by numbers: its types, its constants, its variables and the headings of its blocks. The
 -- rules of types and the checked tree ask it, and the contracts of the tables promise it.
-use Rattle.std.specs.Prelude.{ℕ, ◌+◌, nat_eq, ℤ, pos, neg_ℤ, int_le, not, Bool, true, false, ◌&&◌, if◌then◌else◌, List, [], ◌∷◌, ◌++◌, length, map, slice_get, slice_set, Option, Some, None}
+use Rattle.std.specs.Prelude.{ℕ, ◌+◌, nat_eq, ℤ, pos, neg_ℤ, int_le, not, Bool, true, false, ◌&&◌, if◌then◌else◌, List}
+use Rattle.std.specs.Prelude.{[], ◌∷◌, ◌++◌, length, map, slice_get, slice_set, Option, Some, None}
 use Rattle.sp_tree.specs.declared.checked.KindOf.{KindOf}
 use Rattle.sp_tree.specs.declared.checked.KindOf.TheVariants as kind
 use Rattle.sp_tree.specs.declared.checked.Role.{Role}
@@ -61,7 +63,11 @@ value_by known (given.Constant k) = entry (slice_get known k)
 
 -- a sign before an integer; before anything else it is wrong, and changes nothing
 abbrev pub signed : Option Bool → Option Ordinal → Option Ordinal
-signed (Some true) (Some o) = Some (record { kind = o.kind; number = if nat_eq o.kind 0 then neg_ℤ o.number else o.number })
+signed (Some true) (Some o) = Some (record {
+  kind = o.kind;
+  number = if nat_eq o.kind 0 then neg_ℤ o.number else
+      o.number;
+})
 signed sign o = o
 
 -- the type and the number of a written constant
@@ -95,7 +101,10 @@ are_wrong a b = false
 -- bounds without any fault
 abbrev pub are_bounds : List (Option Ordinal) → NamedConst → NamedConst → Bool
 are_bounds known a b =
-    not (is_long a.value) && (not (is_long b.value) && (not (has_wrong_sign a.negative (value_by known a.value)) && (not (has_wrong_sign b.negative (value_by known b.value)) && not (are_wrong (const_value known a) (const_value known b)))))
+    not (is_long a.value) && (not (is_long b.value)
+    && (not (has_wrong_sign a.negative (value_by known a.value))
+    && (not (has_wrong_sign b.negative (value_by known b.value))
+    && not (are_wrong (const_value known a) (const_value known b)))))
 
 abbrev pub type_or : ℕ → Option Ordinal → ℕ
 type_or d None = d
@@ -108,7 +117,8 @@ number_or d (Some o) = o.number
 -- An array whose bounds have a fault has no elements.
 abbrev pub array_of : List (Option Ordinal) → NamedConst → NamedConst → ℕ → KindOf
 array_of known a b element =
-    if are_bounds known a b then kind.Array (number_or (pos 1) (const_value known a)) (number_or (pos 0) (const_value known b)) (type_or 0 (const_value known a)) element
+    if are_bounds known a b then kind.Array (number_or (pos 1) (const_value known a))
+    (number_or (pos 0) (const_value known b)) (type_or 0 (const_value known a)) element
     else kind.Array (pos 1) (pos 0) (type_or 0 (const_value known a)) element
 
 -- a type; another name of a type is none
@@ -135,8 +145,8 @@ abbrev pub type_of : List ℕ → Role → ℕ → Option ℕ
 type_of numbers role.Index k = None
 type_of numbers r k = Some (type_number numbers k)
 
--- What is known while statements are read: the constants, types, variables and headings by their numbers, and the number of
--- the next statement.
+-- What is known while statements are read: the constants, types, variables and headings by their numbers, and the
+-- number of the next statement.
 abbrev pub Env : Type 0
 Env = Tables
 

@@ -1,3 +1,4 @@
+-- Some of this belongs to what the program promises (docs/promise.txt).
 -- The first broken rule of types of a program, and what checking its types gives: the contract of the phase. Each is
 -- one line over the walk of TypeWalk.antt.
 use Rattle.std.specs.Prelude.{List, [], None, Result}

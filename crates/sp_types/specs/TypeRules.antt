@@ -1,6 +1,8 @@
+-- All of this belongs to what the program promises (docs/promise.txt).
 -- The rules of types at one node, by the types of its parts. None is a part that is broken: it has no type, and a rule
 -- that needs its type is not broken. The walk asks them at each node, and the functions of `rules` promise them.
-use Rattle.std.specs.Prelude.{ℕ, ◌+◌, nat_eq, nat_lt, int_le, not, Bool, true, false, ◌&&◌, ◌||◌, if◌then◌else◌, List, [], ◌∷◌, length, slice_get, Option, Some, None}
+use Rattle.std.specs.Prelude.{ℕ, ◌+◌, nat_eq, nat_lt, int_le, not, Bool, true, false, ◌&&◌, ◌||◌, if◌then◌else◌, List}
+use Rattle.std.specs.Prelude.{[], ◌∷◌, length, slice_get, Option, Some, None}
 use Rattle.std.specs.List.{list_any}
 use Rattle.sp_base.specs.declared.place.Place.{Place}
 use Rattle.sp_base.specs.declared.rule.Rule.{Rule}
@@ -272,7 +274,8 @@ cells_rule at cells = breaks_if rule.L3 at (nat_lt most_cells cells)
 -- the cells of one block's variables
 abbrev pub frame_cells : List ℕ → List ℕ → ℕ → List checked.Variable → ℕ
 frame_cells numbers sizes b [] = 0
-frame_cells numbers sizes b (x ∷ xs) = (if nat_eq x.block b then cells_by sizes x.role (first_or 0 (slice_get numbers x.kind)) else 0) + frame_cells numbers sizes b xs
+frame_cells numbers sizes b (x ∷ xs) = (if nat_eq x.block b then
+    cells_by sizes x.role (first_or 0 (slice_get numbers x.kind)) else 0) + frame_cells numbers sizes b xs
 
 -- L6: a call of a block, or the program's variables together, have too many cells
 abbrev pub frame_rule : Place → ℕ → Found

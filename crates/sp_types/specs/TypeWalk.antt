@@ -1,6 +1,8 @@
+-- All of this belongs to what the program promises (docs/promise.txt).
 -- All that stands in a program for the rules of types. `join` puts together what is found at the nodes: lists give all
 -- broken rules, `lesser` the first. The contracts of this crate follow its parts.
-use Rattle.std.specs.Prelude.{ℕ, zero, suc, ◌+◌, nat_eq, nat_lt, ◌&&◌, ◌||◌, List, [], ◌∷◌, ◌++◌, Bool, false, if◌then◌else◌, Option, Some, None, slice_get}
+use Rattle.std.specs.Prelude.{ℕ, zero, suc, ◌+◌, nat_eq, nat_lt, ◌&&◌, ◌||◌, List, [], ◌∷◌, ◌++◌, Bool, false}
+use Rattle.std.specs.Prelude.{if◌then◌else◌, Option, Some, None, slice_get}
 use Rattle.sp_base.specs.declared.place.Place.{Place}
 use Rattle.sp_tree.specs.declared.checked.Role.{Role}
 use Rattle.sp_tree.specs.declared.checked.Variable as checked
@@ -17,10 +19,20 @@ use Rattle.sp_tree.specs.declared.named.NamedAnswer.{NamedAnswer}
 use Rattle.sp_tree.specs.Cells.{sizes}
 use Rattle.sp_tree.specs.Found.{Found}
 use Rattle.sp_tree.specs.NameRules.{same_place}
-use Rattle.sp_tree.specs.PlainNamed.{Expression, At, ExpressionForm, Number, Quoted, Constant, Read, Apply, Standard, Unary, Binary, Variable, Entire, Selector, Index, Field, Selectors, Whole, Select, Argument, Pass, Width, NoWidth, Within, Arguments, NoArgument, AndArgument, Statement, Does, Form, Empty, Assign, Call, Perform, Sequence, If, While, Repeat, Case, For, Parallel, Forall, Assume, Other, NoElse, Else, Statements, NoStatement, AndThen, Arm, On, Arms, NoArm, Or, Branches, NoBranch, Beside, Block, Program}
+use Rattle.sp_tree.specs.PlainNamed.{Expression, At, ExpressionForm, Number, Quoted, Constant, Read, Apply, Standard}
+use Rattle.sp_tree.specs.PlainNamed.{Unary, Binary, Variable, Entire, Selector, Index, Field, Selectors, Whole, Select}
+use Rattle.sp_tree.specs.PlainNamed.{Argument, Pass, Width, NoWidth, Within, Arguments, NoArgument, AndArgument}
+use Rattle.sp_tree.specs.PlainNamed.{Statement, Does, Form, Empty, Assign, Call, Perform, Sequence, If, While, Repeat}
+use Rattle.sp_tree.specs.PlainNamed.{Case, For, Parallel, Forall, Assume, Other, NoElse, Else, Statements, NoStatement}
+use Rattle.sp_tree.specs.PlainNamed.{AndThen, Arm, On, Arms, NoArm, Or, Branches, NoBranch, Beside, Block, Program}
 use Rattle.sp_types.specs.declared.tables.Ordinal.{Ordinal}
-use Rattle.sp_types.specs.Tables.{Env, const_value, variable_kind, ordinal_kind, formals_of, counted, indexed, numbers_of, constants_of, env_of}
-use Rattle.sp_types.specs.TypeRules.{unary_rule, left_rule, right_rule, index_rule, field_rule, condition_rule, assign_rule, actual_rule, standard_rule, read_rule, write_rule, width_rule, channel_rule, message_rule, range_rule, limit_rule, selector_rule, choice_rule, repeat_rule, bounds_rule, const_rule, text_rule, answer_rule, cells_rule, frame_cells, frame_rule}
+use Rattle.sp_types.specs.Tables.{Env, const_value, variable_kind, ordinal_kind, formals_of, counted, indexed}
+use Rattle.sp_types.specs.Tables.{numbers_of, constants_of, env_of}
+use Rattle.sp_types.specs.TypeRules.{unary_rule, left_rule, right_rule, index_rule, field_rule, condition_rule}
+use Rattle.sp_types.specs.TypeRules.{assign_rule, actual_rule, standard_rule, read_rule, write_rule, width_rule}
+use Rattle.sp_types.specs.TypeRules.{channel_rule, message_rule, range_rule, limit_rule, selector_rule, choice_rule}
+use Rattle.sp_types.specs.TypeRules.{repeat_rule, bounds_rule, const_rule, text_rule, answer_rule, cells_rule}
+use Rattle.sp_types.specs.TypeRules.{frame_cells, frame_rule}
 use Rattle.sp_types.specs.Kinds.{expression_kind, selected, selection, argument_kind}
 
 abbrev pub place : Expression → Place
@@ -167,8 +179,8 @@ bodies (b ∷ bs) = (statement_place b.body, statement_counted 0 b.body) ∷ bod
 abbrev pub earlier : Place → Place → Bool
 earlier a b = nat_lt a.line b.line || (nat_eq a.line b.line && nat_lt a.column b.column)
 
--- The number of the first statement of the part that begins at a place, counted on from k: numbers go by the order of the
--- text, where the statement part of a block stands behind those of the blocks inside it.
+-- The number of the first statement of the part that begins at a place, counted on from k: numbers go by the order of
+-- the text, where the statement part of a block stands behind those of the blocks inside it.
 abbrev pub count_before : ℕ → Place → List (Place × ℕ) → ℕ
 count_before k at [] = k
 count_before k at (b ∷ bs) = count_before (if earlier b.0 at then k + b.1 else k) at bs
@@ -234,7 +246,8 @@ module _ {M : Type 0} (none : M) (join : M → M → M) (site : Found → M) whe
       form_sites at (Binary op a b) =
           join
           (join (expression_sites a) (site (left_rule env op (place a) (expression_kind env a))))
-          (join (expression_sites b) (site (right_rule env op (place b) (expression_kind env a) (expression_kind env b))))
+          (join (expression_sites b) (site (right_rule env op (place b) (expression_kind env a)
+          (expression_kind env b))))
 
       pub variable_sites : Variable → M
       variable_sites (Entire x at ss) = selectors_sites at (variable_kind env x) ss
@@ -245,7 +258,8 @@ module _ {M : Type 0} (none : M) (join : M → M → M) (site : Found → M) whe
       selectors_sites at k (Select s rest) = join (selector_sites at k s) (selectors_sites at (selection env k s) rest)
 
       pub selector_sites : Place → Option ℕ → Selector → M
-      selector_sites at k (Index e) = join (expression_sites e) (site (index_rule env at k (place e) (expression_kind env e)))
+      selector_sites at k (Index e) = join (expression_sites e)
+          (site (index_rule env at k (place e) (expression_kind env e)))
       selector_sites at k (Field name) = site (field_rule env at k name)
 
       -- the actual parameters of a call, by its formals
@@ -254,7 +268,8 @@ module _ {M : Type 0} (none : M) (join : M → M → M) (site : Found → M) whe
       actuals_sites xs (AndArgument a rest) = join (actual_sites (formal xs) a) (actuals_sites (others xs) rest)
 
       pub actual_sites : Option ℕ → Argument → M
-      actual_sites x (Pass e w) = join (expression_sites e) (site (actual_rule (formal_role env x) (place e) (is_variable e) (formal_kind env x) (expression_kind env e)))
+      actual_sites x (Pass e w) = join (expression_sites e)
+          (site (actual_rule (formal_role env x) (place e) (is_variable e) (formal_kind env x) (expression_kind env e)))
 
       -- the parameters of a standard function
       pub standard_sites : StandardFn → Arguments → M
@@ -262,7 +277,8 @@ module _ {M : Type 0} (none : M) (join : M → M → M) (site : Found → M) whe
       standard_sites f (AndArgument a rest) = join (parameter_sites f a) (standard_sites f rest)
 
       pub parameter_sites : StandardFn → Argument → M
-      parameter_sites f (Pass e w) = join (expression_sites e) (site (standard_rule env f (place e) (expression_kind env e)))
+      parameter_sites f (Pass e w) = join (expression_sites e)
+          (site (standard_rule env f (place e) (expression_kind env e)))
 
     -- what is read
     abbrev pub read_sites : Argument → M
@@ -317,16 +333,19 @@ module _ {M : Type 0} (none : M) (join : M → M → M) (site : Found → M) whe
     abbrev pub choice_sites : Option ℕ → List Ordinal → NamedConst → M
     choice_sites k before c =
         join (site (const_rule env.constants c))
-        (join (site (choice_rule c.at k (ordinal_kind (const_value env.constants c)))) (site (repeat_rule c.at before (const_value env.constants c))))
+        (join (site (choice_rule c.at k (ordinal_kind (const_value env.constants c))))
+        (site (repeat_rule c.at before (const_value env.constants c))))
 
     abbrev pub choices_sites : Option ℕ → List Ordinal → List NamedConst → M
     choices_sites k before [] = none
-    choices_sites k before (c ∷ cs) = join (choice_sites k before c) (choices_sites k (with_constant (const_value env.constants c) before) cs)
+    choices_sites k before (c ∷ cs) = join (choice_sites k before c)
+        (choices_sites k (with_constant (const_value env.constants c) before) cs)
 
     -- the constants of all choices, of which the first have been read
     abbrev pub lists_sites : Option ℕ → List Ordinal → List (List NamedConst) → M
     lists_sites k before [] = none
-    lists_sites k before (cs ∷ rest) = join (choices_sites k before cs) (lists_sites k (with_constants env cs before) rest)
+    lists_sites k before (cs ∷ rest) = join (choices_sites k before cs)
+        (lists_sites k (with_constants env cs before) rest)
 
   abbrev mutual
     pub statement_sites : Env → Statement → M
@@ -334,23 +353,28 @@ module _ {M : Type 0} (none : M) (join : M → M → M) (site : Found → M) whe
 
     pub statement_form_sites : Env → Form → M
     statement_form_sites env Empty = none
-    statement_form_sites env (Assign v e) = join (variable_sites env v) (join (expression_sites env e) (site (assign_rule (place e) (selected env v) (expression_kind env e))))
+    statement_form_sites env (Assign v e) = join (variable_sites env v)
+        (join (expression_sites env e) (site (assign_rule (place e) (selected env v) (expression_kind env e))))
     statement_form_sites env (Call f args) = actuals_sites env (formals_of env f) args
     statement_form_sites env (Perform p args) = perform_sites env p args
     statement_form_sites env (Sequence ss) = statements_sites env ss
-    statement_form_sites env (If e s o) = join (condition_sites env e) (join (statement_sites env s) (other_sites (statement_after env s) o))
+    statement_form_sites env (If e s o) = join (condition_sites env e)
+        (join (statement_sites env s) (other_sites (statement_after env s) o))
     statement_form_sites env (While e s) = join (condition_sites env e) (statement_sites env s)
-    statement_form_sites env (Repeat ss e) = join (statements_sites (counted env) ss) (condition_sites (statements_after (counted env) ss) e)
+    statement_form_sites env (Repeat ss e) =
+        join (statements_sites (counted env) ss) (condition_sites (statements_after (counted env) ss) e)
     statement_form_sites env (Case e choices) =
         join (join (expression_sites env e) (site (selector_rule env (place e) (expression_kind env e))))
         (join (lists_sites env (expression_kind env e) [] (constant_lists choices)) (arms_sites env choices))
     statement_form_sites env (For x at from down to s) =
         join (site (range_rule env at (variable_kind env x)))
-        (join (limit_sites env (variable_kind env x) from) (join (limit_sites env (variable_kind env x) to) (statement_sites env s)))
+        (join (limit_sites env (variable_kind env x) from)
+        (join (limit_sites env (variable_kind env x) to) (statement_sites env s)))
     statement_form_sites env (Parallel bs) = branches_sites env bs
     statement_form_sites env (Forall x from to s) =
         join (join (expression_sites env from) (site (range_rule env (place from) (expression_kind env from))))
-        (join (limit_sites env (expression_kind env from) to) (statement_sites (indexed env x (expression_kind env from)) s))
+        (join (limit_sites env (expression_kind env from) to)
+        (statement_sites (indexed env x (expression_kind env from)) s))
     statement_form_sites env (Assume e) = condition_sites env e
 
     pub other_sites : Env → Other → M
@@ -370,7 +394,8 @@ module _ {M : Type 0} (none : M) (join : M → M → M) (site : Found → M) whe
 
     pub branches_sites : Env → Branches → M
     branches_sites env NoBranch = none
-    branches_sites env (Beside ss rest) = join (statements_sites (counted env) ss) (branches_sites (statements_after (counted env) ss) rest)
+    branches_sites env (Beside ss rest) = join (statements_sites (counted env) ss)
+        (branches_sites (statements_after (counted env) ss) rest)
 
   -- declared constants
   abbrev pub constants_sites : List (Option Ordinal) → List NamedConstant → M
@@ -380,7 +405,8 @@ module _ {M : Type 0} (none : M) (join : M → M → M) (site : Found → M) whe
 
   -- the bounds of an array
   abbrev pub bounds_sites : List (Option Ordinal) → NamedKindForm → M
-  bounds_sites known (form.Array a b e) = join (site (const_rule known a)) (join (site (const_rule known b)) (site (bounds_rule b.at (const_value known a) (const_value known b))))
+  bounds_sites known (form.Array a b e) = join (site (const_rule known a))
+      (join (site (const_rule known b)) (site (bounds_rule b.at (const_value known a) (const_value known b))))
   bounds_sites known f = none
 
   -- the bounds of the declared types
@@ -400,14 +426,16 @@ module _ {M : Type 0} (none : M) (join : M → M → M) (site : Found → M) whe
 
   abbrev pub block_sites : List ℕ → List ℕ → List checked.Variable → ℕ → Env → Block → M
   block_sites numbers cells variables b env x =
-      join (site (frame_rule x.at (frame_cells numbers cells b variables))) (join (answer_sites env x.answer) (statement_sites env x.body))
+      join (site (frame_rule x.at (frame_cells numbers cells b variables)))
+      (join (answer_sites env x.answer) (statement_sites env x.body))
 
   -- blocks from a number on, whose bodies have these first numbers
   abbrev pub blocks_sites : List ℕ → List ℕ → List checked.Variable → ℕ → Env → List ℕ → List Block → M
   blocks_sites numbers cells variables b env starts [] = none
   blocks_sites numbers cells variables b env [] (x ∷ xs) = none
   blocks_sites numbers cells variables b env (n ∷ starts) (x ∷ xs) =
-      join (block_sites numbers cells variables b (started env n) x) (blocks_sites numbers cells variables (b + 1) (statement_after (started env n) x.body) starts xs)
+      join (block_sites numbers cells variables b (started env n) x)
+      (blocks_sites numbers cells variables (b + 1) (statement_after (started env n) x.body) starts xs)
 
   -- a program
   abbrev pub program_sites : Program → M

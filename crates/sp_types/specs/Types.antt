@@ -1,3 +1,4 @@
+-- None of this belongs to what the program promises: it is for contracts between crates.
 -- What a part of the walk answers: its tree as the plain one, its type, and the first broken rule up to its end. The
 -- contracts of all walks of this crate cite it.
 use Rattle.std.specs.Prelude.{ℕ, Option, Result, Ok}

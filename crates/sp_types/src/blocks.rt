@@ -81,8 +81,10 @@ pub fn type_blocks(
 ) -> Result<Walked<List<Block>>, Halt>
     ensures tree { Walks (map checked.block_of) result
         (checked_blocks t.old (starts_in bodies.now (map block_of blocks)) (map block_of blocks))
-        (blocks_first numbers.now cells.now variables.now 0 t.old (starts_in bodies.now (map block_of blocks)) (map block_of blocks) first) }
-    ensures after { OnOk result (t.new ≡ blocks_after t.old (starts_in bodies.now (map block_of blocks)) (map block_of blocks)) }
+        (blocks_first numbers.now cells.now variables.now 0 t.old (starts_in bodies.now (map block_of blocks))
+        (map block_of blocks) first) }
+    ensures after { OnOk result (t.new ≡ blocks_after t.old (starts_in bodies.now (map block_of blocks))
+        (map block_of blocks)) }
 {
     let mut out = Vec::new(alloc);
     let mut first = first;

@@ -10,8 +10,10 @@ ghost use Rattle.sp_types.specs.Tables.{char_of};
 ghost use Rattle.sp_types.specs.TypeFirst.{at_node};
 ghost use Rattle.sp_types.specs.TypeRules.{write_rule};
 ghost use Rattle.sp_types.specs.TypeWalk.{place};
-ghost use Rattle.sp_types.specs.Firsts.{expression_first, read_first, written_first, width_first, write_first, channel_first, each_first};
-ghost use Rattle.sp_types.specs.CheckedTree.{checked_expression, target, argument_variable, checked_width, written_text, written_form, written, reads, writes, opens};
+ghost use Rattle.sp_types.specs.Firsts.{expression_first, read_first, written_first, width_first, write_first};
+ghost use Rattle.sp_types.specs.Firsts.{channel_first, each_first};
+ghost use Rattle.sp_types.specs.CheckedTree.{checked_expression, target, argument_variable, checked_width};
+ghost use Rattle.sp_types.specs.CheckedTree.{written_text, written_form, written, reads, writes, opens};
 
 use crate::checks::{channel_value, read_value, type_width, write_value};
 use crate::expressions::place_of;
@@ -48,7 +50,8 @@ fn no_variable(alloc: Global, at: Place) -> Var
 }
 
 fn type_read(alloc: Global, t: &Tables, a: NamedArg, first: Found) -> Result<Walked<Form>, Halt>
-    ensures { Walks checked.statement_form_of result (c.ReadValue (argument_variable t.now (argument_of a))) (read_first t.now (argument_of a) first) }
+    ensures { Walks checked.statement_form_of result (c.ReadValue (argument_variable t.now (argument_of a)))
+        (read_first t.now (argument_of a) first) }
 {
     let NamedArg { value, width: _ } = a;
     let e = read_value(alloc, t, value, first)?;
@@ -82,7 +85,8 @@ pub fn type_reads(
 }
 
 fn type_open(alloc: Global, t: &Tables, a: NamedArg, first: Found) -> Result<Walked<Form>, Halt>
-    ensures { Walks checked.statement_form_of result (c.Open (argument_variable t.now (argument_of a))) (channel_first t.now (argument_of a) first) }
+    ensures { Walks checked.statement_form_of result (c.Open (argument_variable t.now (argument_of a)))
+        (channel_first t.now (argument_of a) first) }
 {
     let NamedArg { value, width: _ } = a;
     let e = channel_value(alloc, t, value, first)?;
@@ -162,7 +166,8 @@ fn written_value(
 ) -> Result<Walked<Form>, Halt>
     ensures { Walks checked.statement_form_of result
         (c.WriteValue (checked_expression t.now (expression_of e)) (checked.width_of w))
-        (at_node (write_rule (place (expression_of e)) (expression_kind t.now (expression_of e))) (expression_first t.now (expression_of e) first)) }
+        (at_node (write_rule (place (expression_of e)) (expression_kind t.now (expression_of e)))
+        (expression_first t.now (expression_of e) first)) }
 {
     let e = write_value(alloc, t, e, first)?;
     Ok(Walked {
@@ -178,7 +183,8 @@ fn type_written(
     w: Option<Expr>,
     first: Found,
 ) -> Result<Walked<Form>, Halt>
-    ensures { Walks checked.statement_form_of result (written_form t.now (expression_of e) (checked.width_of w)) (written_first t.now (expression_of e) first) }
+    ensures { Walks checked.statement_form_of result (written_form t.now (expression_of e) (checked.width_of w))
+        (written_first t.now (expression_of e) first) }
 {
     let (at, form) = e.parts();
     match form {
@@ -242,7 +248,8 @@ fn type_written(
 }
 
 fn type_write(alloc: Global, t: &Tables, a: NamedArg, first: Found) -> Result<Walked<Form>, Halt>
-    ensures { Walks checked.statement_form_of result (written t.now (argument_of a)) (write_first t.now (argument_of a) first) }
+    ensures { Walks checked.statement_form_of result (written t.now (argument_of a))
+        (write_first t.now (argument_of a) first) }
 {
     let NamedArg { value, width } = a;
     let at = place_of(&value);

@@ -7,7 +7,8 @@ ghost use Rattle.sp_tree.specs.CheckedOf as checked;
 ghost use Rattle.sp_types.specs.Kinds.{expression_kind};
 ghost use Rattle.sp_types.specs.Firsts.{expression_first, condition_first, limit_first};
 ghost use Rattle.sp_types.specs.TypeFirst.{at_node};
-ghost use Rattle.sp_types.specs.TypeRules.{range_rule, selector_rule, assign_rule, read_rule, write_rule, channel_rule, message_rule, width_rule};
+ghost use Rattle.sp_types.specs.TypeRules.{range_rule, selector_rule, assign_rule, read_rule, write_rule, channel_rule};
+ghost use Rattle.sp_types.specs.TypeRules.{message_rule, width_rule};
 ghost use Rattle.sp_types.specs.CheckedTree.{checked_expression};
 ghost use Rattle.sp_types.specs.TypeWalk.{place};
 
@@ -129,7 +130,8 @@ pub fn read_value(
 ) -> Result<Typed<Expr>, Halt>
     ensures { Types checked.expression_of result (checked_expression t.now (expression_of e))
         (expression_kind t.now (expression_of e))
-        (at_node (read_rule (place (expression_of e)) (expression_kind t.now (expression_of e))) (expression_first t.now (expression_of e) first)) }
+        (at_node (read_rule (place (expression_of e)) (expression_kind t.now (expression_of e)))
+        (expression_first t.now (expression_of e) first)) }
 {
     let at = place_of(&e);
     let e = type_expression(alloc, t, e, first)?;
@@ -149,7 +151,8 @@ pub fn write_value(
 ) -> Result<Typed<Expr>, Halt>
     ensures { Types checked.expression_of result (checked_expression t.now (expression_of e))
         (expression_kind t.now (expression_of e))
-        (at_node (write_rule (place (expression_of e)) (expression_kind t.now (expression_of e))) (expression_first t.now (expression_of e) first)) }
+        (at_node (write_rule (place (expression_of e)) (expression_kind t.now (expression_of e)))
+        (expression_first t.now (expression_of e) first)) }
 {
     let at = place_of(&e);
     let e = type_expression(alloc, t, e, first)?;
@@ -213,7 +216,8 @@ pub fn type_width(
 ) -> Result<Typed<Expr>, Halt>
     ensures { Types checked.expression_of result (checked_expression t.now (expression_of e))
         (expression_kind t.now (expression_of e))
-        (at_node (width_rule at (expression_kind t.now (expression_of e))) (expression_first t.now (expression_of e) first)) }
+        (at_node (width_rule at (expression_kind t.now (expression_of e)))
+        (expression_first t.now (expression_of e) first)) }
 {
     let e = type_expression(alloc, t, e, first)?;
     Ok(Typed {

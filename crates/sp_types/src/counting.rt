@@ -2,8 +2,10 @@
 
 ghost use Rattle.std.specs.Prelude.{◌≡◌, ◌+◌, map, option_map, Ok};
 ghost use Rattle.sp_tree.specs.Found.{Answers};
-ghost use Rattle.sp_tree.specs.NamedOf.{statement_of, statement_form_of, statements, arms, arm_of, branches, branch_of, other, argument_of, arguments};
-ghost use Rattle.sp_types.specs.TypeWalk.{statement_counted, form_counted, other_counted, statements_counted, arms_counted, branches_counted, single_count, parts_count, count};
+ghost use Rattle.sp_tree.specs.NamedOf.{statement_of, statement_form_of, statements, arms, arm_of, branches, branch_of};
+ghost use Rattle.sp_tree.specs.NamedOf.{other, argument_of, arguments};
+ghost use Rattle.sp_types.specs.TypeWalk.{statement_counted, form_counted, other_counted, statements_counted};
+ghost use Rattle.sp_types.specs.TypeWalk.{arms_counted, branches_counted, single_count, parts_count, count};
 
 use sp_base::{Boxed, Halt, List};
 use sp_tree::{NamedArg, NamedArm, NamedBranch, NamedForm, NamedStmt, StandardProcedure};

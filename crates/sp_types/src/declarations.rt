@@ -68,7 +68,8 @@ fn check_array(
     b: &NamedConst,
     first: Found,
 ) -> Result<Found, Halt>
-    ensures { Answers result (Ok (lesser (lesser (lesser first (const_rule known.now a.now)) (const_rule known.now b.now))
+    ensures { Answers result (Ok (lesser (lesser (lesser first (const_rule known.now a.now))
+        (const_rule known.now b.now))
         (bounds_rule b.now.at (const_value known.now a.now) (const_value known.now b.now)))) }
 {
     let first = check_written(known, a, first)?;

@@ -28,7 +28,8 @@ impl Model for KindEntry {
 
     ghost view = { λ it. it.kind };
 
-    ghost invariant = { λ it. IsIndex it.fields (fields_in it.kind) × IsNumbers it.messages.keys (message_types it.kind) };
+    ghost invariant = { λ it. IsIndex it.fields (fields_in it.kind)
+        × IsNumbers it.messages.keys (message_types it.kind) };
 }
 
 /// The fields of a record; no other type has any.

@@ -1,16 +1,21 @@
 //! The pass over expressions, which consumes the tree and gives tree, type and first broken rule at once.
 
 ghost use Rattle.std.specs.Prelude.{◌≡◌, ℕ, map, pos, None, Some, Ok};
-ghost use Rattle.sp_tree.specs.NamedOf.{expression_of, expression_form_of, variable_of, selector_of, argument_of, arguments, selectors};
+ghost use Rattle.sp_tree.specs.NamedOf.{expression_of, expression_form_of, variable_of, selector_of, argument_of};
+ghost use Rattle.sp_tree.specs.NamedOf.{arguments, selectors};
 ghost use Rattle.sp_tree.specs.PlainNamed.{Unary, Binary, Quoted, Standard, Apply, Expression};
 ghost use Rattle.sp_types.specs.Types.{Types, Walks};
 ghost use Rattle.sp_tree.specs.CheckedOf as checked;
 ghost use Rattle.sp_tree.specs.PlainChecked as c;
-ghost use Rattle.sp_types.specs.Kinds.{expression_kind, form_kind, selected, selected_kind, selection, parameter_kind, argument_kind};
-ghost use Rattle.sp_types.specs.Firsts.{expression_first, form_first, variable_first, selectors_first, selector_first, actuals_first, actual_first, standard_first, parameter_first};
+ghost use Rattle.sp_types.specs.Kinds.{expression_kind, form_kind, selected, selected_kind, selection, parameter_kind};
+ghost use Rattle.sp_types.specs.Kinds.{argument_kind};
+ghost use Rattle.sp_types.specs.Firsts.{expression_first, form_first, variable_first, selectors_first, selector_first};
+ghost use Rattle.sp_types.specs.Firsts.{actuals_first, actual_first, standard_first, parameter_first};
 ghost use Rattle.sp_types.specs.TypeFirst.{at_node};
 ghost use Rattle.sp_types.specs.TypeRules.{standard_rule, unary_rule, unary_takes, left_rule, right_rule, binary_gives};
-ghost use Rattle.sp_types.specs.CheckedTree.{checked_expression, checked_form, checked_variable, checked_selectors, checked_selector, checked_actuals, checked_actual, checked_arguments, checked_argument, referenced, passed};
+ghost use Rattle.sp_types.specs.CheckedTree.{checked_expression, checked_form, checked_variable, checked_selectors};
+ghost use Rattle.sp_types.specs.CheckedTree.{checked_selector, checked_actuals, checked_actual, checked_arguments};
+ghost use Rattle.sp_types.specs.CheckedTree.{checked_argument, referenced, passed};
 ghost use Rattle.sp_types.specs.TypeWalk.{is_variable, place, formal, others, formal_role};
 
 use crate::rules::{
@@ -143,7 +148,8 @@ pub fn place_of(e: &NamedExpr) -> Place
 }
 
 fn type_text(t: &Tables, text: &Text, at: Place, first: Found) -> Result<Typed<ExprForm>, Halt>
-    ensures { Types checked.expression_form_of result (checked_form t.now (Quoted text.now)) (form_kind t.now (Quoted text.now))
+    ensures { Types checked.expression_form_of result (checked_form t.now (Quoted text.now))
+        (form_kind t.now (Quoted text.now))
         (form_first t.now at (Quoted text.now) first) }
 {
     let o = char_of(text);
@@ -163,7 +169,8 @@ fn type_unary(
     first: Found,
 ) -> Result<Typed<ExprForm>, Halt>
     ensures { Types checked.expression_form_of result (c.Unary op (checked_expression t.now (expression_of a)))
-        (Some (unary_takes op)) (at_node (unary_rule op (place (expression_of a)) (expression_kind t.now (expression_of a)))
+        (Some (unary_takes op)) (at_node (unary_rule op (place (expression_of a))
+        (expression_kind t.now (expression_of a)))
         (expression_first t.now (expression_of a) first)) }
 {
     let at = place_of(a.get());
@@ -262,7 +269,8 @@ fn type_selectors(
     first: Found,
 ) -> Result<Typed<List<Selector>>, Halt>
     ensures { Types (map checked.selector_of) result (checked_selectors t.now kind (selectors (map selector_of xs)))
-        (selected_kind t.now kind (selectors (map selector_of xs))) (selectors_first t.now at kind (selectors (map selector_of xs)) first) }
+        (selected_kind t.now kind (selectors (map selector_of xs)))
+        (selectors_first t.now at kind (selectors (map selector_of xs)) first) }
 {
     let mut out = Vec::new(alloc);
     let mut kind = kind;
@@ -290,7 +298,8 @@ fn type_selector(
     kind: Option<u32>,
     first: Found,
 ) -> Result<Typed<Selector>, Halt>
-    ensures { Types checked.selector_of result (checked_selector t.now kind (selector_of s)) (selection t.now kind (selector_of s))
+    ensures { Types checked.selector_of result (checked_selector t.now kind (selector_of s))
+        (selection t.now kind (selector_of s))
         (selector_first t.now at kind (selector_of s) first) }
 {
     match s {
@@ -415,7 +424,8 @@ fn type_actual(
     x: Option<u32>,
     first: Found,
 ) -> Result<Walked<Actual>, Halt>
-    ensures { Walks checked.actual_of result (checked_actual t.now (formal_role t.now x) (argument_of a)) (actual_first t.now x (argument_of a) first) }
+    ensures { Walks checked.actual_of result (checked_actual t.now (formal_role t.now x) (argument_of a))
+        (actual_first t.now x (argument_of a) first) }
 {
     let NamedArg { value, width: _ } = a;
     let at = value.at;
@@ -439,7 +449,8 @@ fn type_standard(
     first: Found,
 ) -> Result<Typed<List<Expr>>, Halt>
     ensures { Types (map checked.expression_of) result (checked_arguments t.now (arguments (map argument_of xs)))
-        (parameter_kind t.now None (arguments (map argument_of xs))) (standard_first t.now f (arguments (map argument_of xs)) first) }
+        (parameter_kind t.now None (arguments (map argument_of xs)))
+        (standard_first t.now f (arguments (map argument_of xs)) first) }
 {
     let mut out = Vec::new(alloc);
     let mut kind = None;
@@ -465,7 +476,8 @@ fn type_parameter(
     f: StandardFn,
     first: Found,
 ) -> Result<Typed<Expr>, Halt>
-    ensures { Types checked.expression_of result (checked_argument t.now (argument_of a)) (argument_kind t.now (argument_of a))
+    ensures { Types checked.expression_of result (checked_argument t.now (argument_of a))
+        (argument_kind t.now (argument_of a))
         (parameter_first t.now f (argument_of a) first) }
 {
     let NamedArg { value, width: _ } = a;

@@ -2,7 +2,8 @@
 
 ghost use Rattle.std.specs.Prelude.{◌≡◌, ◌++◌, ◌∷◌, [], map, ℕ, List, Ok, OnOk};
 ghost use Rattle.sp_tree.specs.Found.{Answers};
-ghost use Rattle.sp_types.specs.Tables.{are_wrong, are_bounds, fields_by, type_or, array_of, type_number, kinds_by, kinds_from};
+ghost use Rattle.sp_types.specs.Tables.{are_wrong, are_bounds, fields_by, type_or, array_of, type_number, kinds_by};
+ghost use Rattle.sp_types.specs.Tables.{kinds_from};
 
 use crate::numbers::type_number;
 use crate::tables::Ordinal;

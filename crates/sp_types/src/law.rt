@@ -26,8 +26,8 @@ pub fn numbers_differ()
     ensures { (p : Program) → AllDiffer (body_places p.blocks) → AllDiffer (blocks_numbers (program_checked p).blocks) }
 {}
 
-/// A row by computing: the numbers of two blocks, of an `if` with what stands in it, of a `for` with its body, and of both
-/// single statements of a `send` of two values.
+/// A row by computing: the numbers of two blocks, of an `if` with what stands in it, of a `for` with its body, and of
+/// both single statements of a `send` of two values.
 pub fn numbers_of_two_blocks()
     ensures { blocks_numbers two_blocks ≡ 3 ∷ 4 ∷ 5 ∷ 6 ∷ 7 ∷ 0 ∷ 1 ∷ 2 ∷ [] }
 {}

@@ -7,10 +7,13 @@ ghost use Rattle.sp_tree.specs.PlainNamed.{Assign, Call, Perform};
 ghost use Rattle.sp_types.specs.Types.{Types, Walks, walked_as};
 ghost use Rattle.sp_tree.specs.CheckedOf as checked;
 ghost use Rattle.sp_tree.specs.PlainChecked as c;
-ghost use Rattle.sp_types.specs.Firsts.{channel_first, statement_form_first, perform_first, each_first, message_first, messages_first};
+ghost use Rattle.sp_types.specs.Firsts.{channel_first, statement_form_first, perform_first, each_first, message_first};
+ghost use Rattle.sp_types.specs.Firsts.{messages_first};
 ghost use Rattle.sp_types.specs.Kinds.{argument_kind};
 ghost use Rattle.sp_types.specs.TypeWalk.{form_after};
-ghost use Rattle.sp_types.specs.CheckedTree.{argument_variable, argument_variables, checked_argument, checked_arguments, checked_statement_form, each_received, each_sent, singles, numbered, expanded};
+ghost use Rattle.sp_types.specs.CheckedTree.{argument_variable, argument_variables, checked_argument};
+ghost use Rattle.sp_types.specs.CheckedTree.{checked_arguments, checked_statement_form, each_received, each_sent};
+ghost use Rattle.sp_types.specs.CheckedTree.{singles, numbered, expanded};
 ghost use Rattle.sp_tree.specs.declared.meaning.StandardProcedure.TheVariants as procedure;
 ghost use Rattle.sp_tree.specs.Found.{AnswersAs};
 
@@ -34,7 +37,8 @@ pub fn type_assign(
     at: Place,
     first: Found,
 ) -> Result<Walked<Form>, Halt>
-    ensures { Walks checked.statement_form_of result (checked_statement_form t.now at (Assign (variable_of v) (expression_of e)))
+    ensures { Walks checked.statement_form_of result
+        (checked_statement_form t.now at (Assign (variable_of v) (expression_of e)))
         (statement_form_first t.now (Assign (variable_of v) (expression_of e)) first) }
 {
     let v = type_variable(alloc, t, v, first)?;
@@ -54,7 +58,8 @@ pub fn type_call(
     at: Place,
     first: Found,
 ) -> Result<Walked<Form>, Halt>
-    ensures { Walks checked.statement_form_of result (checked_statement_form t.now at (Call f (arguments (map argument_of args))))
+    ensures { Walks checked.statement_form_of result
+        (checked_statement_form t.now at (Call f (arguments (map argument_of args))))
         (statement_form_first t.now (Call f (arguments (map argument_of args))) first) }
 {
     let args = type_actuals(alloc, t, args, t.formals(f), first)?;
@@ -72,7 +77,8 @@ fn type_value(
     kind: Option<u32>,
     first: Found,
 ) -> Result<Walked<Expr>, Halt>
-    ensures { Walks checked.expression_of result (checked_argument t.now (argument_of a)) (message_first t.now kind (argument_of a) first) }
+    ensures { Walks checked.expression_of result (checked_argument t.now (argument_of a))
+        (message_first t.now kind (argument_of a) first) }
 {
     let NamedArg { value, width: _ } = a;
     let e = message_value(alloc, t, value, kind, first)?;
@@ -90,7 +96,8 @@ fn type_received(
     kind: Option<u32>,
     first: Found,
 ) -> Result<Walked<Var>, Halt>
-    ensures { Walks checked.variable_of result (argument_variable t.now (argument_of a)) (message_first t.now kind (argument_of a) first) }
+    ensures { Walks checked.variable_of result (argument_variable t.now (argument_of a))
+        (message_first t.now kind (argument_of a) first) }
 {
     let NamedArg { value, width: _ } = a;
     let e = message_value(alloc, t, value, kind, first)?;
@@ -108,7 +115,8 @@ fn type_values(
     kind: Option<u32>,
     first: Found,
 ) -> Result<Walked<List<Expr>>, Halt>
-    ensures { Walks (map checked.expression_of) result (checked_arguments t.now (arguments (map argument_of (into_iter_items xs))))
+    ensures { Walks (map checked.expression_of) result
+        (checked_arguments t.now (arguments (map argument_of (into_iter_items xs))))
         (each_first t.now (message_first t.now kind) (arguments (map argument_of (into_iter_items xs))) first) }
 {
     let mut out = Vec::new(alloc);
@@ -132,7 +140,8 @@ fn type_variables(
     kind: Option<u32>,
     first: Found,
 ) -> Result<Walked<List<Var>>, Halt>
-    ensures { Walks (map checked.variable_of) result (argument_variables t.now (arguments (map argument_of (into_iter_items xs))))
+    ensures { Walks (map checked.variable_of) result
+        (argument_variables t.now (arguments (map argument_of (into_iter_items xs))))
         (each_first t.now (message_first t.now kind) (arguments (map argument_of (into_iter_items xs))) first) }
 {
     let mut out = Vec::new(alloc);
@@ -150,7 +159,8 @@ fn type_variables(
 
 /// The channel of `send` or `receive`.
 fn type_channel(alloc: Global, t: &Tables, a: NamedArg, first: Found) -> Result<Typed<Expr>, Halt>
-    ensures { Types checked.expression_of result (checked_argument t.now (argument_of a)) (argument_kind t.now (argument_of a))
+    ensures { Types checked.expression_of result (checked_argument t.now (argument_of a))
+        (argument_kind t.now (argument_of a))
         (channel_first t.now (argument_of a) first) }
 {
     let NamedArg { value, width: _ } = a;
@@ -277,7 +287,8 @@ fn type_receive(
 
 /// One more statement, behind the others.
 fn behind(forms: List<Form>, last: Form) -> Result<List<Form>, Halt>
-    ensures { AnswersAs (map checked.statement_form_of) result (Ok (map checked.statement_form_of forms ++ checked.statement_form_of last ∷ [])) }
+    ensures { AnswersAs (map checked.statement_form_of) result
+        (Ok (map checked.statement_form_of forms ++ checked.statement_form_of last ∷ [])) }
 {
     let mut forms = forms;
     forms.push(last)?;
@@ -327,7 +338,8 @@ fn joined(
     forms: Walked<List<Form>>,
     at: Place,
 ) -> Result<Walked<Form>, Halt>
-    ensures { AnswersAs (walked_as checked.statement_form_of) result (Ok (expanded t.now.next at (map checked.statement_form_of forms.tree), forms.first)) }
+    ensures { AnswersAs (walked_as checked.statement_form_of) result
+        (Ok (expanded t.now.next at (map checked.statement_form_of forms.tree), forms.first)) }
 {
     Ok(Walked {
         tree: expanded(alloc, t.next, at, forms.tree)?,
@@ -432,7 +444,8 @@ fn type_call_of_standard(
     at: Place,
     first: Found,
 ) -> Result<Walked<Form>, Halt>
-    ensures { Walks checked.statement_form_of result (expanded t.now.next at (singles t.now p (arguments (map argument_of args))))
+    ensures { Walks checked.statement_form_of result
+        (expanded t.now.next at (singles t.now p (arguments (map argument_of args))))
         (perform_first t.now p (arguments (map argument_of args)) first) }
 {
     match p {

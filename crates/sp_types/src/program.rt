@@ -103,8 +103,10 @@ fn type_bodies(
 ) -> Result<Walked<List<Block>>, Halt>
     ensures tree { Walks (map checked.block_of) result
         (checked_blocks t.old (starts_of (map plain.block_of blocks)) (map plain.block_of blocks))
-        (blocks_first numbers.now cells.now variables.now 0 t.old (starts_of (map plain.block_of blocks)) (map plain.block_of blocks) first) }
-    ensures after { OnOk result (t.new ≡ blocks_after t.old (starts_of (map plain.block_of blocks)) (map plain.block_of blocks)) }
+        (blocks_first numbers.now cells.now variables.now 0 t.old (starts_of (map plain.block_of blocks))
+        (map plain.block_of blocks) first) }
+    ensures after { OnOk result (t.new ≡ blocks_after t.old (starts_of (map plain.block_of blocks))
+        (map plain.block_of blocks)) }
 {
     let bodies = bodies(alloc, blocks.items())?;
     type_blocks(
@@ -127,7 +129,11 @@ fn checked_tables(
     blocks: List<Block>,
 ) -> Result<Checked, Halt>
     ensures { AnswersAs checked.program_of result
-        (Ok (record { kinds = t.kinds; variables = checked_variables t.variables variables; blocks = map checked.block_of blocks })) }
+        (Ok (record {
+          kinds = t.kinds;
+          variables = checked_variables t.variables variables;
+          blocks = map checked.block_of blocks;
+        })) }
 {
     let variables = typed_variables(alloc, t.variables.items(), variables)?;
     let kinds = kinds_in(alloc, t.kinds)?;
@@ -149,7 +155,8 @@ fn type_tabled(
     blocks: List<NamedBlock>,
     first: Found,
 ) -> Result<Checked, Halt>
-    ensures { AnswersAs checked.program_of result (typed_blocks numbers.now cells.now t variables (map plain.block_of blocks) first) }
+    ensures { AnswersAs checked.program_of result
+        (typed_blocks numbers.now cells.now t variables (map plain.block_of blocks) first) }
 {
     let mut t = t;
     let w = type_bodies(
@@ -179,7 +186,8 @@ fn type_kinds(
     first: Found,
 ) -> Result<Checked, Halt>
     ensures { AnswersAs checked.program_of result
-        (typed_kinds numbers.now (sizes kinds) places.now (tabled numbers.now known kinds variables (map plain.block_of blocks))
+        (typed_kinds numbers.now (sizes kinds) places.now
+        (tabled numbers.now known kinds variables (map plain.block_of blocks))
         variables (map plain.block_of blocks) first) }
 {
     let cells = sizes_of(alloc, kinds.items())?;

@@ -4,7 +4,12 @@ ghost use Rattle.std.specs.Prelude.{◌≡◌};
 ghost use Rattle.std.specs.Option.{option_copied};
 ghost use Rattle.sp_tree.specs.Found.{breaks, breaks_if};
 ghost use Rattle.sp_types.specs.Tables.{kind_at};
-ghost use Rattle.sp_types.specs.TypeRules.{is_ordinal, is_channel, ordinal, channel, differ, unary_takes, binary_takes, binary_gives, unary_rule, left_rule, right_rule, index_kind_rule, index_rule, condition_rule, assign_rule, value_rule, reference_rule, actual_rule, standard_takes, standard_rule, read_rule, write_rule, width_rule, channel_rule, messages_in, message_in_rule, message_rule, range_rule, limit_rule, selector_rule, choice_rule, answer_rule, text_rule};
+ghost use Rattle.sp_types.specs.TypeRules.{is_ordinal, is_channel, ordinal, channel, differ, unary_takes, binary_takes};
+ghost use Rattle.sp_types.specs.TypeRules.{binary_gives, unary_rule, left_rule, right_rule, index_kind_rule};
+ghost use Rattle.sp_types.specs.TypeRules.{index_rule, condition_rule, assign_rule, value_rule, reference_rule};
+ghost use Rattle.sp_types.specs.TypeRules.{actual_rule, standard_takes, standard_rule, read_rule, write_rule};
+ghost use Rattle.sp_types.specs.TypeRules.{width_rule, channel_rule, messages_in, message_in_rule, message_rule};
+ghost use Rattle.sp_types.specs.TypeRules.{range_rule, limit_rule, selector_rule, choice_rule, answer_rule, text_rule};
 ghost use Rattle.sp_types.specs.Kinds.{element_in, element, if_ordinal, standard_gives};
 
 use crate::tables::Tables;

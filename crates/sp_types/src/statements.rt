@@ -1,16 +1,21 @@
 //! The pass over statements: with types, numbered, each call of a standard procedure as single statements.
 
 ghost use Rattle.std.specs.Prelude.{◌≡◌, map, Ok, OnOk};
-ghost use Rattle.sp_tree.specs.NamedOf.{expression_of, statement_of, statement_form_of, statements, arms, arm_of, branches, branch_of};
+ghost use Rattle.sp_tree.specs.NamedOf.{expression_of, statement_of, statement_form_of, statements, arms, arm_of};
+ghost use Rattle.sp_tree.specs.NamedOf.{branches, branch_of};
 ghost use Rattle.sp_tree.specs.PlainNamed.{Repeat, Case, For, Forall};
 ghost use Rattle.sp_types.specs.Types.{Walks};
 ghost use Rattle.sp_tree.specs.CheckedOf as checked;
 ghost use Rattle.sp_tree.specs.PlainChecked as c;
 ghost use Rattle.sp_types.specs.Tables.{counted, indexed};
 ghost use Rattle.sp_types.specs.Kinds.{expression_kind};
-ghost use Rattle.sp_types.specs.TypeWalk.{statement_after, form_after, statements_after, arms_after, arm_after, branches_after};
-ghost use Rattle.sp_types.specs.Firsts.{statement_first, statement_form_first, statements_first, arms_first, arm_first, branches_first};
-ghost use Rattle.sp_types.specs.CheckedTree.{checked_expression, checked_statement, checked_statement_form, checked_statements, checked_arms, checked_arm, checked_branches, first_place, in_sequence};
+ghost use Rattle.sp_types.specs.TypeWalk.{statement_after, form_after, statements_after, arms_after, arm_after};
+ghost use Rattle.sp_types.specs.TypeWalk.{branches_after};
+ghost use Rattle.sp_types.specs.Firsts.{statement_first, statement_form_first, statements_first, arms_first, arm_first};
+ghost use Rattle.sp_types.specs.Firsts.{branches_first};
+ghost use Rattle.sp_types.specs.CheckedTree.{checked_expression, checked_statement, checked_statement_form};
+ghost use Rattle.sp_types.specs.CheckedTree.{checked_statements, checked_arms, checked_arm, checked_branches};
+ghost use Rattle.sp_types.specs.CheckedTree.{first_place, in_sequence};
 
 use crate::checks::{type_case, type_condition, type_limit, type_range};
 use crate::choices::{check_choices, constant_numbers};
@@ -33,7 +38,8 @@ pub fn type_statement(
     t: &mut Tables,
     first: Found,
 ) -> Result<Walked<Stmt>, Halt>
-    ensures tree { Walks checked.statement_of result (checked_statement t.old (statement_of s)) (statement_first t.old (statement_of s) first) }
+    ensures tree { Walks checked.statement_of result (checked_statement t.old (statement_of s))
+        (statement_first t.old (statement_of s) first) }
     ensures after { OnOk result (t.new ≡ statement_after t.old (statement_of s)) }
 {
     let NamedStmt { at, form } = s;
@@ -60,7 +66,8 @@ fn type_boxed(
     t: &mut Tables,
     first: Found,
 ) -> Result<Walked<Boxed<Stmt>>, Halt>
-    ensures tree { Walks checked.statement_of result (checked_statement t.old (statement_of s)) (statement_first t.old (statement_of s) first) }
+    ensures tree { Walks checked.statement_of result (checked_statement t.old (statement_of s))
+        (statement_first t.old (statement_of s) first) }
     ensures after { OnOk result (t.new ≡ statement_after t.old (statement_of s)) }
 {
     let Walked { tree, first } = type_statement(s.into_inner(), alloc, t, first)?;
@@ -181,7 +188,8 @@ fn type_choices(
     first: Found,
 ) -> Result<Walked<Form>, Halt>
     ensures tree { Walks checked.statement_form_of result
-        (c.Case (checked_expression t.old (expression_of e)) (checked.arms (checked_arms t.old (arms (map arm_of choices)))))
+        (c.Case (checked_expression t.old (expression_of e))
+        (checked.arms (checked_arms t.old (arms (map arm_of choices)))))
         (statement_form_first t.old (Case (expression_of e) (arms (map arm_of choices))) first) }
     ensures after { OnOk result (t.new ≡ arms_after t.old (arms (map arm_of choices))) }
 {
@@ -209,7 +217,8 @@ fn type_forall(
         (c.Forall index (checked_expression t.old (expression_of from)) (checked_expression t.old (expression_of to))
         (checked_statement (indexed t.old index (expression_kind t.old (expression_of from))) (statement_of body)))
         (statement_form_first t.old (Forall index (expression_of from) (expression_of to) (statement_of body)) first) }
-    ensures after { OnOk result (t.new ≡ form_after t.old (Forall index (expression_of from) (expression_of to) (statement_of body))) }
+    ensures after { OnOk result (t.new ≡ form_after t.old
+        (Forall index (expression_of from) (expression_of to) (statement_of body))) }
 {
     let from = type_range(alloc, t, from, first)?;
     let to = type_limit(alloc, t, to, from.kind, from.first)?;
@@ -249,7 +258,8 @@ fn type_else(
 }
 
 fn else_form(e: Expr, s: Boxed<Stmt>, o: Boxed<Stmt>) -> Form
-    ensures { checked.statement_form_of result ≡ c.If (checked.expression_of e) (checked.statement_of s) (c.Else (checked.statement_of o)) }
+    ensures { checked.statement_form_of result
+        ≡ c.If (checked.expression_of e) (checked.statement_of s) (c.Else (checked.statement_of o)) }
 {
     Form::If(e, s, Some(o))
 }
@@ -268,9 +278,11 @@ fn type_for(
     first: Found,
 ) -> Result<Walked<Form>, Halt>
     ensures tree { Walks checked.statement_form_of result
-        (c.For variable at (checked_expression t.old (expression_of from)) down (checked_expression t.old (expression_of to))
+        (c.For variable at (checked_expression t.old (expression_of from)) down
+        (checked_expression t.old (expression_of to))
         (checked_statement t.old (statement_of body)))
-        (statement_form_first t.old (For variable at (expression_of from) down (expression_of to) (statement_of body)) first) }
+        (statement_form_first t.old (For variable at (expression_of from) down (expression_of to) (statement_of body))
+        first) }
     ensures after { OnOk result (t.new ≡ statement_after t.old (statement_of body)) }
 {
     let kind = t.variable_kind(variable);
@@ -387,7 +399,8 @@ fn type_arms(
     t: &mut Tables,
     first: Found,
 ) -> Result<Walked<List<Arm>>, Halt>
-    ensures tree { Walks (map checked.arm_of) result (checked_arms t.old (arms (map arm_of xs))) (arms_first t.old (arms (map arm_of xs)) first) }
+    ensures tree { Walks (map checked.arm_of) result (checked_arms t.old (arms (map arm_of xs)))
+        (arms_first t.old (arms (map arm_of xs)) first) }
     ensures after { OnOk result (t.new ≡ arms_after t.old (arms (map arm_of xs))) }
 {
     let mut out = Vec::new(alloc);

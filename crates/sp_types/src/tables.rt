@@ -5,7 +5,8 @@ ghost use Rattle.sp_tree.specs.Found.{Answers};
 ghost use Rattle.std.specs.Option.{option_copied, option_map};
 ghost use Rattle.std.specs.List.{list_any};
 ghost use Rattle.sp_types.specs.TypeRules.{field_in, messages_in};
-ghost use Rattle.sp_types.specs.Tables.{indexed, kind_at, variable_kind, entry, constant_kind, formals_of, answer_kind, ordinal_kind};
+ghost use Rattle.sp_types.specs.Tables.{indexed, kind_at, variable_kind, entry, constant_kind, formals_of, answer_kind};
+ghost use Rattle.sp_types.specs.Tables.{ordinal_kind};
 ghost use Rattle.sp_types.specs.TypeWalk.{formal_role, formal_kind, counted_by};
 
 use crate::entries::KindEntry;
@@ -149,8 +150,8 @@ impl Tables {
 }
 
 impl Tables {
-    /// So many numbers of statements are given. A number that is no `u32` is answered as want of memory, and then nothing
-    /// has changed.
+    /// So many numbers of statements are given. A number that is no `u32` is answered as want of memory, and then
+    /// nothing has changed.
     pub fn count(&mut self, n: u32) -> Result<(), Halt>
         ensures memory { Answers result (Ok tt) }
         ensures after { OnOk result (self.new ≡ counted_by n self.old) }

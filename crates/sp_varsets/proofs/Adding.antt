@@ -1,5 +1,7 @@
 -- What a pass adds to the sets, part by part.
-use Rattle.std.proofs.Common.{◌≡◌, ◌↔◌, ◌⊎◌, ℕ, zero, suc, ◌<◌, ◌≤◌, true, false, ◌==◌, ◌||◌, List, [], ◌∷◌, map, drop, length, get_or, refl, sym, ap, subst, ◌∙◌, arith, inl, inr, ◌+◌, add-one, Result, Ok, Err, OnOk, eqb-true, eq-eqb}
+use Rattle.std.proofs.Common.{◌≡◌, ◌↔◌, ◌⊎◌, ℕ, zero, suc, ◌<◌, ◌≤◌, true, false, ◌==◌, ◌||◌, List, [], ◌∷◌, map, drop}
+use Rattle.std.proofs.Common.{length, get_or, refl, sym, ap, subst, ◌∙◌, arith, inl, inr, ◌+◌, add-one, Result, Ok, Err}
+use Rattle.std.proofs.Common.{OnOk, eqb-true, eq-eqb}
 use Rattle.std.proofs.lemmas.Bool.{or_cases}
 use Rattle.sp_base.proofs.Facts.{or_from_either}
 use Rattle.sp_tree.specs.declared.checked.Actual.{Actual}
@@ -18,13 +20,22 @@ use Rattle.sp_varsets.specs.Adds.{Adds, AreEmpty, AreUnions, IsUnion, IsWithout,
 then : {A B C H K : Type 0} → B ↔ (A ⊎ H) → C ↔ (B ⊎ K) → C ↔ (A ⊎ (H ⊎ K))
 then f g = (
   λ c. elim (g.0 c) [ inl b ↦ elim (f.0 b) [ inl a ↦ inl a | inr h ↦ inr (inl h) ] | inr k ↦ inr (inr k) ],
-  λ s. elim s [ inl a ↦ g.1 (inl (f.1 (inl a))) | inr hk ↦ elim hk [ inl h ↦ g.1 (inl (f.1 (inr h))) | inr k ↦ g.1 (inr k) ] ],
+  λ s. elim s [
+    | inl a ↦ g.1 (inl (f.1 (inl a)))
+    | inr hk ↦ elim hk
+        [ inl h ↦ g.1 (inl (f.1 (inr h))) | inr k ↦ g.1 (inr k) ]
+  ],
 )
 
-some_of : {A : Type 0} {H K : A → Type 0} → {B C : Type 0} → C ↔ (B ⊎ (((a : A) × H a) ⊎ ((a : A) × K a))) → C ↔ (B ⊎ ((a : A) × (H a ⊎ K a)))
+some_of : {A : Type 0} {H K : A → Type 0} → {B C : Type 0} → C ↔ (B ⊎ (((a : A) × H a) ⊎ ((a : A) × K a))) → C
+    ↔ (B ⊎ ((a : A) × (H a ⊎ K a)))
 some_of f = (
   λ c. elim (f.0 c) [ inl b ↦ inl b | inr s ↦ elim s [ inl h ↦ inr (h.0, inl h.1) | inr k ↦ inr (k.0, inr k.1) ] ],
-  λ s. elim s [ inl b ↦ f.1 (inl b) | inr h ↦ elim h.1 [ inl x ↦ f.1 (inr (inl (h.0, x))) | inr y ↦ f.1 (inr (inr (h.0, y))) ] ],
+  λ s. elim s [
+    | inl b ↦ f.1 (inl b)
+    | inr h ↦ elim h.1
+        [ inl x ↦ f.1 (inr (inl (h.0, x))) | inr y ↦ f.1 (inr (inr (h.0, y))) ]
+  ],
 )
 
 none_more : {A : Type 0} {H : Type 0} → (H → ⊥) → A ↔ (A ⊎ H)
@@ -52,7 +63,8 @@ adds_nothing a H n = record {
   stops = none_more (n Stop);
 }
 
-pub adds_as : (a b : Uses) (H K : Use → Type 0) → Adds a b H → ((u : Use) → H u → K u) → ((u : Use) → K u → H u) → Adds a b K
+pub adds_as : (a b : Uses) (H K : Use → Type 0) → Adds a b H → ((u : Use) → H u → K u) → ((u : Use) → K u → H u)
+    → Adds a b K
 adds_as a b H K f to from = record {
   aims = λ x. turned (f.aims x) (to (Target x)) (from (Target x));
   sees = λ x. turned (f.sees x) (to (Seen x)) (from (Seen x));
@@ -65,46 +77,65 @@ pub ok_as : {T E A B : Type 0} (r : Result T E) → OnOk r A → (A → B) → O
 ok_as (Ok v) h f = f h
 ok_as (Err e) h f = h
 
-pub ok_then : {T E : Type 0} (r : Result T E) (a b c : Uses) (H K : Use → Type 0) → Adds a b H → OnOk r (Adds b c K) → OnOk r (Adds a c (λ u. H u ⊎ K u))
+pub ok_then : {T E : Type 0} (r : Result T E) (a b c : Uses) (H K : Use → Type 0) → Adds a b H → OnOk r (Adds b c K)
+    → OnOk r (Adds a c (λ u. H u ⊎ K u))
 ok_then (Ok v) a b c H K f g = adds_then f g
 ok_then (Err e) a b c H K f g = g
 
 -- one member more
-pub put_in : (old new : VarSet) (v : ℕ) → ((x : ℕ) → has new x ≡ (v == x) || has old x) → (x : ℕ) → (has new x ≡ true) ↔ ((has old x ≡ true) ⊎ (x ≡ v))
+pub put_in : (old new : VarSet) (v : ℕ) → ((x : ℕ) → has new x ≡ (v == x) || has old x) → (x : ℕ) → (has new x ≡ true)
+    ↔ ((has old x ≡ true) ⊎ (x ≡ v))
 put_in old new v e x = (
   λ h. elim (or_cases (v == x) (has old x) (sym (e x) ∙ h)) [ inl s ↦ inr (sym (eqb-true v x s)) | inr o ↦ inl o ],
-  λ s. elim s [ inl o ↦ e x ∙ or_from_either (v == x) (has old x) (inr o) | inr i ↦ e x ∙ or_from_either (v == x) (has old x) (inl (eq-eqb v x (sym i))) ],
+  λ s. elim s [
+    | inl o ↦ e x ∙ or_from_either (v == x) (has old x) (inr o)
+    | inr i ↦ e x
+        ∙ or_from_either (v == x) (has old x) (inl (eq-eqb v x (sym i)))
+  ],
 )
 
-pub aimed : (old new : Uses) (v : ℕ) → ((x : ℕ) → has new.aims x ≡ (v == x) || has old.aims x) → new.sees ≡ old.sees → new.runs ≡ old.runs → new.stops ≡ old.stops → Adds old new (λ u. u ≡ Target v)
+pub aimed : (old new : Uses) (v : ℕ) → ((x : ℕ) → has new.aims x ≡ (v == x) || has old.aims x) → new.sees ≡ old.sees
+    → new.runs ≡ old.runs → new.stops ≡ old.stops → Adds old new (λ u. u ≡ Target v)
 aimed old new v e s r t = record {
   aims = λ x. turned (put_in old.aims new.aims v e x) (λ i. ap (λ y. Target y) i) (λ i. cc);
-  sees = λ x. subst (λ z. (has z x ≡ true) ↔ ((has old.sees x ≡ true) ⊎ (Seen x ≡ Target v))) (sym s) (none_more (λ i. cc));
-  runs = λ x. subst (λ z. (has z x ≡ true) ↔ ((has old.runs x ≡ true) ⊎ ((args : Actuals) × (CallOf x args ≡ Target v)))) (sym r) (none_more (λ i. let e = i.1 in cc));
+  sees = λ x. subst (λ z. (has z x ≡ true) ↔ ((has old.sees x ≡ true) ⊎ (Seen x ≡ Target v))) (sym s)
+      (none_more (λ i. cc));
+  runs = λ x. subst (λ z. (has z x ≡ true) ↔ ((has old.runs x ≡ true)
+      ⊎ ((args : Actuals) × (CallOf x args ≡ Target v)))) (sym r) (none_more (λ i. let e = i.1 in cc));
   stops = subst (λ z. (has z 0 ≡ true) ↔ ((has old.stops 0 ≡ true) ⊎ (Stop ≡ Target v))) (sym t) (none_more (λ i. cc));
 }
 
-pub seen : (old new : Uses) (v : ℕ) → ((x : ℕ) → has new.sees x ≡ (v == x) || has old.sees x) → new.aims ≡ old.aims → new.runs ≡ old.runs → new.stops ≡ old.stops → Adds old new (λ u. u ≡ Seen v)
+pub seen : (old new : Uses) (v : ℕ) → ((x : ℕ) → has new.sees x ≡ (v == x) || has old.sees x) → new.aims ≡ old.aims
+    → new.runs ≡ old.runs → new.stops ≡ old.stops → Adds old new (λ u. u ≡ Seen v)
 seen old new v e s r t = record {
-  aims = λ x. subst (λ z. (has z x ≡ true) ↔ ((has old.aims x ≡ true) ⊎ (Target x ≡ Seen v))) (sym s) (none_more (λ i. cc));
+  aims = λ x. subst (λ z. (has z x ≡ true) ↔ ((has old.aims x ≡ true) ⊎ (Target x ≡ Seen v))) (sym s)
+      (none_more (λ i. cc));
   sees = λ x. turned (put_in old.sees new.sees v e x) (λ i. ap (λ y. Seen y) i) (λ i. cc);
-  runs = λ x. subst (λ z. (has z x ≡ true) ↔ ((has old.runs x ≡ true) ⊎ ((args : Actuals) × (CallOf x args ≡ Seen v)))) (sym r) (none_more (λ i. let e = i.1 in cc));
+  runs = λ x. subst (λ z. (has z x ≡ true) ↔ ((has old.runs x ≡ true) ⊎ ((args : Actuals) × (CallOf x args ≡ Seen v))))
+      (sym r) (none_more (λ i. let e = i.1 in cc));
   stops = subst (λ z. (has z 0 ≡ true) ↔ ((has old.stops 0 ≡ true) ⊎ (Stop ≡ Seen v))) (sym t) (none_more (λ i. cc));
 }
 
-pub ran : (old new : Uses) (v : ℕ) (args : Actuals) → ((x : ℕ) → has new.runs x ≡ (v == x) || has old.runs x) → new.aims ≡ old.aims → new.sees ≡ old.sees → new.stops ≡ old.stops → Adds old new (λ u. u ≡ CallOf v args)
+pub ran : (old new : Uses) (v : ℕ) (args : Actuals) → ((x : ℕ) → has new.runs x ≡ (v == x) || has old.runs x)
+    → new.aims ≡ old.aims → new.sees ≡ old.sees → new.stops ≡ old.stops → Adds old new (λ u. u ≡ CallOf v args)
 ran old new v args e s r t = record {
-  aims = λ x. subst (λ z. (has z x ≡ true) ↔ ((has old.aims x ≡ true) ⊎ (Target x ≡ CallOf v args))) (sym s) (none_more (λ i. cc));
-  sees = λ x. subst (λ z. (has z x ≡ true) ↔ ((has old.sees x ≡ true) ⊎ (Seen x ≡ CallOf v args))) (sym r) (none_more (λ i. cc));
+  aims = λ x. subst (λ z. (has z x ≡ true) ↔ ((has old.aims x ≡ true) ⊎ (Target x ≡ CallOf v args))) (sym s)
+      (none_more (λ i. cc));
+  sees = λ x. subst (λ z. (has z x ≡ true) ↔ ((has old.sees x ≡ true) ⊎ (Seen x ≡ CallOf v args))) (sym r)
+      (none_more (λ i. cc));
   runs = λ x. turned (put_in old.runs new.runs v e x) (λ i. (args, ap (λ y. CallOf y args) i)) (λ i. let e = i.1 in cc);
-  stops = subst (λ z. (has z 0 ≡ true) ↔ ((has old.stops 0 ≡ true) ⊎ (Stop ≡ CallOf v args))) (sym t) (none_more (λ i. cc));
+  stops = subst (λ z. (has z 0 ≡ true) ↔ ((has old.stops 0 ≡ true) ⊎ (Stop ≡ CallOf v args))) (sym t)
+      (none_more (λ i. cc));
 }
 
-pub stopped : (old new : Uses) → ((x : ℕ) → has new.stops x ≡ (0 == x) || has old.stops x) → new.aims ≡ old.aims → new.sees ≡ old.sees → new.runs ≡ old.runs → Adds old new (λ u. u ≡ Stop)
+pub stopped : (old new : Uses) → ((x : ℕ) → has new.stops x ≡ (0 == x) || has old.stops x) → new.aims ≡ old.aims
+    → new.sees ≡ old.sees → new.runs ≡ old.runs → Adds old new (λ u. u ≡ Stop)
 stopped old new e s r t = record {
-  aims = λ x. subst (λ z. (has z x ≡ true) ↔ ((has old.aims x ≡ true) ⊎ (Target x ≡ Stop))) (sym s) (none_more (λ i. cc));
+  aims = λ x. subst (λ z. (has z x ≡ true) ↔ ((has old.aims x ≡ true) ⊎ (Target x ≡ Stop))) (sym s)
+      (none_more (λ i. cc));
   sees = λ x. subst (λ z. (has z x ≡ true) ↔ ((has old.sees x ≡ true) ⊎ (Seen x ≡ Stop))) (sym r) (none_more (λ i. cc));
-  runs = λ x. subst (λ z. (has z x ≡ true) ↔ ((has old.runs x ≡ true) ⊎ ((args : Actuals) × (CallOf x args ≡ Stop)))) (sym t) (none_more (λ i. let e = i.1 in cc));
+  runs = λ x. subst (λ z. (has z x ≡ true) ↔ ((has old.runs x ≡ true) ⊎ ((args : Actuals) × (CallOf x args ≡ Stop))))
+      (sym t) (none_more (λ i. let e = i.1 in cc));
   stops = turned (put_in old.stops new.stops 0 e 0) (λ i. refl) (λ i. refl);
 }
 
@@ -116,13 +147,16 @@ union_is old other new e x = (
 )
 
 -- lists, item by item
-selectors_step : (ss : List Selector) (i : ℕ) (s : Selector) → i < length ss → s ≡ get_or ss i s → selectors (map selector_of (drop i ss)) ≡ p.Select (selector_of s) (selectors (map selector_of (drop (suc i) ss)))
+selectors_step : (ss : List Selector) (i : ℕ) (s : Selector) → i < length ss → s ≡ get_or ss i s
+    → selectors (map selector_of (drop i ss)) ≡ p.Select (selector_of s) (selectors (map selector_of (drop (suc i) ss)))
 selectors_step [] i s h e = absurd (omega arith)
 selectors_step (t ∷ ss) zero s h e = rw (sym e) refl
 selectors_step (t ∷ ss) (suc i) s h e = selectors_step ss i s (omega arith) e
 
-pub selectors_on : (ss : List Selector) (i : ℕ) (s : Selector) → i < length ss → s ≡ get_or ss i s → selectors (map selector_of (drop i ss)) ≡ p.Select (selector_of s) (selectors (map selector_of (drop (i + 1) ss)))
-selectors_on ss i s h e = subst (λ j. selectors (map selector_of (drop i ss)) ≡ p.Select (selector_of s) (selectors (map selector_of (drop j ss)))) (sym (add-one i)) (selectors_step ss i s h e)
+pub selectors_on : (ss : List Selector) (i : ℕ) (s : Selector) → i < length ss → s ≡ get_or ss i s
+    → selectors (map selector_of (drop i ss)) ≡ p.Select (selector_of s) (selectors (map selector_of (drop (i + 1) ss)))
+selectors_on ss i s h e = subst (λ j. selectors (map selector_of (drop i ss))
+    ≡ p.Select (selector_of s) (selectors (map selector_of (drop j ss)))) (sym (add-one i)) (selectors_step ss i s h e)
 
 pub selectors_end : (ss : List Selector) (i : ℕ) → length ss ≤ i → selectors (map selector_of (drop i ss)) ≡ p.Whole
 selectors_end [] zero h = refl
@@ -130,13 +164,16 @@ selectors_end [] (suc i) h = refl
 selectors_end (t ∷ ss) zero h = absurd (omega arith)
 selectors_end (t ∷ ss) (suc i) h = selectors_end ss i (omega arith)
 
-actuals_step : (ss : List Actual) (i : ℕ) (s : Actual) → i < length ss → s ≡ get_or ss i s → actuals (map actual_of (drop i ss)) ≡ p.Pass (actual_of s) (actuals (map actual_of (drop (suc i) ss)))
+actuals_step : (ss : List Actual) (i : ℕ) (s : Actual) → i < length ss → s ≡ get_or ss i s
+    → actuals (map actual_of (drop i ss)) ≡ p.Pass (actual_of s) (actuals (map actual_of (drop (suc i) ss)))
 actuals_step [] i s h e = absurd (omega arith)
 actuals_step (t ∷ ss) zero s h e = rw (sym e) refl
 actuals_step (t ∷ ss) (suc i) s h e = actuals_step ss i s (omega arith) e
 
-pub actuals_on : (ss : List Actual) (i : ℕ) (s : Actual) → i < length ss → s ≡ get_or ss i s → actuals (map actual_of (drop i ss)) ≡ p.Pass (actual_of s) (actuals (map actual_of (drop (i + 1) ss)))
-actuals_on ss i s h e = subst (λ j. actuals (map actual_of (drop i ss)) ≡ p.Pass (actual_of s) (actuals (map actual_of (drop j ss)))) (sym (add-one i)) (actuals_step ss i s h e)
+pub actuals_on : (ss : List Actual) (i : ℕ) (s : Actual) → i < length ss → s ≡ get_or ss i s
+    → actuals (map actual_of (drop i ss)) ≡ p.Pass (actual_of s) (actuals (map actual_of (drop (i + 1) ss)))
+actuals_on ss i s h e = subst (λ j. actuals (map actual_of (drop i ss))
+    ≡ p.Pass (actual_of s) (actuals (map actual_of (drop j ss)))) (sym (add-one i)) (actuals_step ss i s h e)
 
 pub actuals_end : (ss : List Actual) (i : ℕ) → length ss ≤ i → actuals (map actual_of (drop i ss)) ≡ p.Nothing
 actuals_end [] zero h = refl
@@ -144,16 +181,20 @@ actuals_end [] (suc i) h = refl
 actuals_end (t ∷ ss) zero h = absurd (omega arith)
 actuals_end (t ∷ ss) (suc i) h = actuals_end ss i (omega arith)
 
-pub select_adds : (a b c : Uses) (s : p.Selector) (rest : p.Selectors) → Adds a b (In_selector s) → Adds b c (In_selectors (bare_selectors rest)) → Adds a c (In_selectors (bare_selectors (p.Select s rest)))
+pub select_adds : (a b c : Uses) (s : p.Selector) (rest : p.Selectors) → Adds a b (In_selector s)
+    → Adds b c (In_selectors (bare_selectors rest)) → Adds a c (In_selectors (bare_selectors (p.Select s rest)))
 select_adds a b c (p.Index e) rest f g = adds_then f g
-select_adds a b c (p.Field n) rest f g = adds_as a c _ _ (adds_then f g) (λ u s. elim s [ inl h ↦ absurd h | inr h ↦ h ]) (λ u h. inr h)
+select_adds a b c (p.Field n) rest f g = adds_as a c _ _ (adds_then f g)
+    (λ u s. elim s [ inl h ↦ absurd h | inr h ↦ h ]) (λ u h. inr h)
 
-pub pass_adds : (a b c : Uses) (s : p.Actual) (rest : p.Actuals) → Adds a b (In_actual s) → Adds b c (In_actuals (bare_actuals rest)) → Adds a c (In_actuals (bare_actuals (p.Pass s rest)))
+pub pass_adds : (a b c : Uses) (s : p.Actual) (rest : p.Actuals) → Adds a b (In_actual s)
+    → Adds b c (In_actuals (bare_actuals rest)) → Adds a c (In_actuals (bare_actuals (p.Pass s rest)))
 pass_adds a b c (p.ByValue e) rest f g = adds_then f g
 pass_adds a b c (p.ByReference v) rest f g = adds_then f g
 
 -- what begins empty has what was added
-gathered : (e m : VarSet) (x : ℕ) (H : Type 0) → has e x ≡ false → (has m x ≡ true) ↔ ((has e x ≡ true) ⊎ H) → (has m x ≡ true) ↔ H
+gathered : (e m : VarSet) (x : ℕ) (H : Type 0) → has e x ≡ false → (has m x ≡ true) ↔ ((has e x ≡ true) ⊎ H)
+    → (has m x ≡ true) ↔ H
 gathered e m x H n f = (
   λ h. elim (f.0 h) [ inl o ↦ absurd (let no : false ≡ true = sym n ∙ o in cc) | inr k ↦ k ],
   λ k. f.1 (inr k),
@@ -187,7 +228,8 @@ merged f u = record {
   stops = joins (u.stops 0) f.stops;
 }
 
-pub without : {m k : Uses} {H : Use → Type 0} (y : ℕ) → Has m H → IsWithout m.aims k.aims y → IsWithout m.sees k.sees y → k.runs ≡ m.runs → k.stops ≡ m.stops → Has k (λ u. H u × IsOther y u)
+pub without : {m k : Uses} {H : Use → Type 0} (y : ℕ) → Has m H → IsWithout m.aims k.aims y → IsWithout m.sees k.sees y
+    → k.runs ≡ m.runs → k.stops ≡ m.stops → Has k (λ u. H u × IsOther y u)
 without {m} {k} {H} y f a s r t = record {
   aims = λ x. (λ h. let o = (a x).0 h in ((f.aims x).0 o.0, o.1), λ h. (a x).1 ((f.aims x).1 h.0, h.1));
   sees = λ x. (λ h. let o = (s x).0 h in ((f.sees x).0 o.0, o.1), λ h. (s x).1 ((f.sees x).1 h.0, h.1));
@@ -200,7 +242,17 @@ without {m} {k} {H} y f a s r t = record {
 
 -- a fork is no use of a variable
 pub splits_add : (a : Uses) (ss : Stmts) → Adds a a (λ u. u ≡ ParallelOf ss)
-splits_add a ss = record { aims = λ x. none_more (λ i. cc); sees = λ x. none_more (λ i. cc); runs = λ x. none_more (λ i. let e = i.1 in cc); stops = none_more (λ i. cc) }
+splits_add a ss = record {
+  aims = λ x. none_more (λ i. cc);
+  sees = λ x. none_more (λ i. cc);
+  runs = λ x. none_more (λ i. let e = i.1 in cc);
+  stops = none_more (λ i. cc);
+}
 
 pub spreads_add : (a : Uses) (y : ℕ) (s : Stmt) → Adds a a (λ u. u ≡ ForallOf y s)
-spreads_add a y s = record { aims = λ x. none_more (λ i. cc); sees = λ x. none_more (λ i. cc); runs = λ x. none_more (λ i. let e = i.1 in cc); stops = none_more (λ i. cc) }
+spreads_add a y s = record {
+  aims = λ x. none_more (λ i. cc);
+  sees = λ x. none_more (λ i. cc);
+  runs = λ x. none_more (λ i. let e = i.1 in cc);
+  stops = none_more (λ i. cc);
+}

@@ -1,5 +1,7 @@
 -- The entries of statements and blocks are their sets by paths.
-use Rattle.std.proofs.Common.{◌≡◌, ◌↔◌, ℕ, zero, suc, ◌<◌, Bool, true, false, not, ◌&&◌, List, [], ◌∷◌, length, get_or, slice_get, refl, sym, ap, subst, ◌∙◌, arith, inl, inr, Option, Some, None, Result, Ok, Err, IfOk}
+use Rattle.std.proofs.Common.{◌≡◌, ◌↔◌, ℕ, zero, suc, ◌<◌, Bool, true, false, not, ◌&&◌, List, [], ◌∷◌, length, get_or}
+use Rattle.std.proofs.Common.{slice_get, refl, sym, ap, subst, ◌∙◌, arith, inl, inr, Option, Some, None, Result, Ok}
+use Rattle.std.proofs.Common.{Err, IfOk}
 use Rattle.std.proofs.lemmas.Option.{slice_get_within}
 use Rattle.sp_base.proofs.Facts.{length_of_map}
 use Rattle.sp_tree.specs.PlainChecked as p
@@ -13,7 +15,9 @@ use Rattle.sp_varsets.specs.declared.sets.Sets.{Sets}
 use Rattle.sp_varsets.specs.declared.var_set.VarSet.{VarSet}
 use Rattle.sp_varsets.specs.declared.walk.Own.{Own}
 use Rattle.sp_varsets.specs.declared.walk.Walk.{Walk}
-use Rattle.sp_varsets.specs.AreSets.{AreSets, OfStatement, OfBlock, HaveOwnNumbers, chosen, target_index, expression_index, targets_of, expressions_of, implicit_targets_of, implicit_expressions_of, stops_of}
+use Rattle.sp_varsets.specs.AreSets.{AreSets, OfStatement, OfBlock, HaveOwnNumbers, chosen, target_index}
+use Rattle.sp_varsets.specs.AreSets.{expression_index, targets_of, expressions_of, implicit_targets_of}
+use Rattle.sp_varsets.specs.AreSets.{implicit_expressions_of, stops_of}
 use Rattle.sp_varsets.specs.Bodies.{AreBodies, AreDeclared, IsInBlocks}
 use Rattle.sp_varsets.specs.Members.{has}
 use Rattle.sp_varsets.specs.Parts.{number_of, IsPart}
@@ -26,7 +30,8 @@ use Rattle.sp_varsets.proofs.Reaching.{closed_is, fits, free_of, free_in, total_
 use Rattle.sp_varsets.proofs.Walking.{stands_more}
 
 -- the set that an index names
-chosen_is : (pool : List VarSet) (nothing : VarSet) → ((x : ℕ) → has nothing x ≡ false) → (i x : ℕ) → has (chosen pool nothing i) x ≡ pooled pool i x
+chosen_is : (pool : List VarSet) (nothing : VarSet) → ((x : ℕ) → has nothing x ≡ false) → (i x : ℕ)
+    → has (chosen pool nothing i) x ≡ pooled pool i x
 chosen_is pool nothing none zero x = none x
 chosen_is pool nothing none (suc i) x = item pool i
   where
@@ -50,7 +55,9 @@ along : {a b : Bool} {C : Type 0} → a ≡ b → (b ≡ true) ↔ C → (a ≡ 
 along e f = (λ h. f.0 (sym e ∙ h), λ c. e ∙ f.1 c)
 
 -- all that was found before the sets are put together
-pub record IsFound (c : p.Program) (start walk mid end : Walk) (bodies : Bodies) (hidden free targets_own targets seen_own seen stops_own stops : List VarSet) (statements blocks : List Entry) (flags : List Bool) (nothing : VarSet) : Type 0 where
+pub record IsFound (c : p.Program) (start walk mid end : Walk) (bodies : Bodies)
+    (hidden free targets_own targets seen_own seen stops_own stops : List VarSet) (statements blocks : List Entry)
+    (flags : List Bool) (nothing : VarSet) : Type 0 where
   pub no_slots : length start.slots ≡ 0
   pub writes : Writes start walk (λ t. IsInBlocks c.blocks t)
   pub bodies_are : AreBodies c.blocks bodies (length c.blocks)
@@ -68,7 +75,10 @@ pub record IsFound (c : p.Program) (start walk mid end : Walk) (bodies : Bodies)
   pub flags_are : (b : ℕ) → get_or flags b false ≡ member stops b 0
   pub none : (x : ℕ) → has nothing x ≡ false
 
-module _ (c : p.Program) (start walk mid end : Walk) (bodies : Bodies) (hidden free targets_own targets seen_own seen stops_own stops : List VarSet) (statements blocks : List Entry) (flags : List Bool) (nothing : VarSet) (f : IsFound c start walk mid end bodies hidden free targets_own targets seen_own seen stops_own stops statements blocks flags nothing) (numbers : HaveOwnNumbers c) where
+module _ (c : p.Program) (start walk mid end : Walk) (bodies : Bodies)
+    (hidden free targets_own targets seen_own seen stops_own stops : List VarSet) (statements blocks : List Entry)
+    (flags : List Bool) (nothing : VarSet) (f : IsFound c start walk mid end bodies hidden free targets_own targets
+    seen_own seen stops_own stops statements blocks flags nothing) (numbers : HaveOwnNumbers c) where
   abbrev all : Sets
   all = record { nothing = nothing; pool = end.pool; statements = statements; blocks = blocks; stops = flags }
 
@@ -114,7 +124,8 @@ module _ (c : p.Program) (start walk mid end : Walk) (bodies : Bodies) (hidden f
             (o.0, o.1, subst (λ s. Records walk.pool o.0 (In_stmt (bare_statement s))) same w.3)
       ]
 
-  statement_is : (b : ℕ) (k : p.Block) → slice_get c.blocks b ≡ Some k → (t : p.Statement) → IsPart t k.body → OfStatement (bare c) all t
+  statement_is : (b : ℕ) (k : p.Block) → slice_get c.blocks b ≡ Some k → (t : p.Statement) → IsPart t k.body
+      → OfStatement (bare c) all t
   unfolding targets_of expressions_of
   statement_is b k e t part =
       let o = recorded b k e t part in
@@ -124,11 +135,15 @@ module _ (c : p.Program) (start walk mid end : Walk) (bodies : Bodies) (hidden f
       let aims = stands_more f.row_entries.extends entry.aims in
       let sees = stands_more f.row_entries.extends entry.sees in record {
         targets = λ x. along
-            (ap (λ z. has (chosen end.pool nothing (target_index z)) x) en.1 ∙ chosen_is end.pool nothing f.none en.0.targets x)
-            (through (aims.members x) (total_is (bare c) (In_stmt (bare_statement t)) (Target x) walk.pool targets o.0.aims o.0.runs x (rec.aims.members x) rec.runs.members (λ g. reach_targets g x)));
+            (ap (λ z. has (chosen end.pool nothing (target_index z)) x) en.1
+            ∙ chosen_is end.pool nothing f.none en.0.targets x)
+            (through (aims.members x) (total_is (bare c) (In_stmt (bare_statement t)) (Target x) walk.pool targets
+            o.0.aims o.0.runs x (rec.aims.members x) rec.runs.members (λ g. reach_targets g x)));
         expressions = λ x. along
-            (ap (λ z. has (chosen end.pool nothing (expression_index z)) x) en.1 ∙ chosen_is end.pool nothing f.none en.0.expressions x)
-            (through (sees.members x) (total_is (bare c) (In_stmt (bare_statement t)) (Seen x) walk.pool seen o.0.sees o.0.runs x (rec.sees.members x) rec.runs.members (λ g. reach_seen g x)));
+            (ap (λ z. has (chosen end.pool nothing (expression_index z)) x) en.1
+            ∙ chosen_is end.pool nothing f.none en.0.expressions x)
+            (through (sees.members x) (total_is (bare c) (In_stmt (bare_statement t)) (Seen x) walk.pool seen o.0.sees
+            o.0.runs x (rec.sees.members x) rec.runs.members (λ g. reach_seen g x)));
       }
 
   block_is : (b : ℕ) (k : p.Block) → slice_get c.blocks b ≡ Some k → OfBlock (bare c) all b
@@ -138,25 +153,34 @@ module _ (c : p.Program) (start walk mid end : Walk) (bodies : Bodies) (hidden f
       let count = f.count in
       let en = f.row_entries.each b (omega arith) in record {
         targets = λ x. along
-            (ap (λ z. has (chosen end.pool nothing (target_index z)) x) en.1 ∙ chosen_is end.pool nothing f.none en.0.targets x)
-            (through (en.2.members x) (through (reach_targets b x) (r.is_target (bare c) b x, r.target_is (bare c) b x)));
+            (ap (λ z. has (chosen end.pool nothing (target_index z)) x) en.1
+            ∙ chosen_is end.pool nothing f.none en.0.targets x)
+            (through (en.2.members x) (through (reach_targets b x)
+            (r.is_target (bare c) b x, r.target_is (bare c) b x)));
         expressions = λ x. along
-            (ap (λ z. has (chosen end.pool nothing (expression_index z)) x) en.1 ∙ chosen_is end.pool nothing f.none en.0.expressions x)
-            (through (en.3.members x) (through (reach_seen b x) (λ o. (o.0, o.1, o.2, o.3), λ i. (i.0, i.1, i.2, i.3))));
-        stops = along (f.flags_are b) (through (reach_stops b) (λ o. (o.0, o.1, o.3.0, o.3.1), λ l. r.stop_is (bare c) b l));
+            (ap (λ z. has (chosen end.pool nothing (expression_index z)) x) en.1
+            ∙ chosen_is end.pool nothing f.none en.0.expressions x)
+            (through (en.3.members x) (through (reach_seen b x)
+            (λ o. (o.0, o.1, o.2, o.3), λ i. (i.0, i.1, i.2, i.3))));
+        stops = along (f.flags_are b) (through (reach_stops b)
+            (λ o. (o.0, o.1, o.3.0, o.3.1), λ l. r.stop_is (bare c) b l));
       }
 
   pub are_sets : AreSets c all
   are_sets = record { statements = statement_is; blocks = block_is }
 
 -- the sets, where there was memory for them
-pub if_found : (c : p.Program) (start walk : Walk) (bodies : Bodies) (reach : Reach) → HaveOwnNumbers c → length start.slots ≡ 0 → Writes start walk (λ t. IsInBlocks c.blocks t) → AreBodies c.blocks bodies (length c.blocks) → Reaches c bodies reach
+pub if_found : (c : p.Program) (start walk : Walk) (bodies : Bodies) (reach : Reach) → HaveOwnNumbers c
+    → length start.slots ≡ 0 → Writes start walk (λ t. IsInBlocks c.blocks t)
+    → AreBodies c.blocks bodies (length c.blocks) → Reaches c bodies reach
     → {E : Type 0} (r : Result Sets E) → IfOk r (λ s. ArePooled walk reach s) → IfOk r (λ s. AreSets c s)
 if_found c start walk bodies reach numbers slots writes are reaches (Err e) h = h
 if_found c start walk bodies reach numbers slots writes are reaches (Ok s) h =
     let t = reaches.declared.2 in
-    are_sets c start walk (record { alloc = walk.alloc; pool = h.entries.0; slots = walk.slots }) (record { alloc = walk.alloc; pool = s.pool; slots = walk.slots }) bodies reaches.declared.0 reaches.free.0
-    t.closes.0 reach.targets reaches.declared.3.closes.0 reach.seen reaches.free.2.closes.0 reach.stops s.statements s.blocks s.stops s.nothing
+    are_sets c start walk (record { alloc = walk.alloc; pool = h.entries.0; slots = walk.slots })
+    (record { alloc = walk.alloc; pool = s.pool; slots = walk.slots }) bodies reaches.declared.0 reaches.free.0
+    t.closes.0 reach.targets reaches.declared.3.closes.0 reach.seen reaches.free.2.closes.0 reach.stops s.statements
+    s.blocks s.stops s.nothing
     (record {
       no_slots = slots;
       writes = writes;
@@ -177,8 +201,13 @@ if_found c start walk bodies reach numbers slots writes are reaches (Ok s) h =
     })
     numbers
 
-pub within_written : (start walk : Walk) (S : p.Statement → Type 0) → length start.slots ≡ 0 → Writes start walk S → AreWithin walk
+pub within_written : (start walk : Walk) (S : p.Statement → Type 0) → length start.slots ≡ 0 → Writes start walk S
+    → AreWithin walk
 within_written start walk S l w n own e = elim (w.only n own e) [
   | inl before ↦ absurd (no_slot start.slots n own l before)
-  | inr r ↦ (let rec = r.3 in record { aims = (let s = rec.aims in s.within); sees = (let s = rec.sees in s.within); runs = (let s = rec.runs in s.within) })
+  | inr r ↦ (let rec = r.3 in record {
+    aims = (let s = rec.aims in s.within);
+    sees = (let s = rec.sees in s.within);
+    runs = (let s = rec.runs in s.within);
+  })
 ]

@@ -1,5 +1,6 @@
 -- Items of lists, or what stands for one that is not there.
-use Rattle.std.proofs.Common.{◌≡◌, ◌≢◌, ℕ, zero, suc, ◌-◌, refl, subst, arith, List, get_or, slice_get, Some, None, ap, ◌∙◌, sym}
+use Rattle.std.proofs.Common.{◌≡◌, ◌≢◌, ℕ, zero, suc, ◌-◌, refl, subst, arith, List, get_or, slice_get, Some, None, ap}
+use Rattle.std.proofs.Common.{◌∙◌, sym}
 use Rattle.std.proofs.lemmas.Option.{get_or_from_slice_get, unwrap_or-slice_get}
 use Rattle.std.specs.Option.{unwrap_or}
 use Rattle.sp_varsets.specs.declared.var_set.VarSet.{VarSet}
@@ -14,14 +15,17 @@ none_or xs i d e = sym (unwrap_or-slice_get xs i d) ∙ ap (λ o. unwrap_or o d)
 pub chosen_none : (pool : List VarSet) (nothing : VarSet) (i : ℕ) → i ≡ 0 → nothing ≡ chosen pool nothing i
 chosen_none pool nothing i e = ap (λ n. chosen pool nothing n) (sym e)
 
-pub chosen_first : (pool : List VarSet) (nothing : VarSet) (i : ℕ) (s : VarSet) → i ≢ 0 → slice_get pool (i - 1) ≡ Some s → s ≡ chosen pool nothing i
+pub chosen_first : (pool : List VarSet) (nothing : VarSet) (i : ℕ) (s : VarSet) → i ≢ 0
+    → slice_get pool (i - 1) ≡ Some s → s ≡ chosen pool nothing i
 chosen_first pool nothing zero s n e = absurd (n refl)
-chosen_first pool nothing (suc i) s n e = sym (read_or pool i s nothing (subst (λ j. slice_get pool j ≡ Some s) (less i) e))
+chosen_first pool nothing (suc i) s n e = sym
+    (read_or pool i s nothing (subst (λ j. slice_get pool j ≡ Some s) (less i) e))
   where
     less : (i : ℕ) → suc i - 1 ≡ i
     less i = omega arith
 
-pub chosen_past : (pool : List VarSet) (nothing : VarSet) (i : ℕ) → i ≢ 0 → slice_get pool (i - 1) ≡ None → nothing ≡ chosen pool nothing i
+pub chosen_past : (pool : List VarSet) (nothing : VarSet) (i : ℕ) → i ≢ 0 → slice_get pool (i - 1) ≡ None
+    → nothing ≡ chosen pool nothing i
 chosen_past pool nothing zero n e = absurd (n refl)
 chosen_past pool nothing (suc i) n e = sym (none_or pool i nothing (subst (λ j. slice_get pool j ≡ None) (less i) e))
   where

@@ -1,5 +1,6 @@
 -- Rows of blocks and what paths of calls lead to.
-use Rattle.std.proofs.Common.{◌≡◌, ◌≢◌, ◌⊎◌, ℕ, zero, suc, ◌+◌, ◌*◌, ◌<◌, ◌≤◌, ◌^◌, Bool, true, false, not, ◌||◌, ◌&&◌, List, [], ◌∷◌, length, set, slice_get, refl, sym, ap, subst, ◌∙◌, arith, inl, inr, Some}
+use Rattle.std.proofs.Common.{◌≡◌, ◌≢◌, ◌⊎◌, ℕ, zero, suc, ◌+◌, ◌*◌, ◌<◌, ◌≤◌, ◌^◌, Bool, true, false, not, ◌||◌, ◌&&◌}
+use Rattle.std.proofs.Common.{List, [], ◌∷◌, length, set, slice_get, refl, sym, ap, subst, ◌∙◌, arith, inl, inr, Some}
 use Rattle.std.proofs.lemmas.Bool.{cases_eq, cases_lt, false_from_ne_true, or_cases}
 use Rattle.std.proofs.lemmas.List.{length-set}
 use Rattle.sp_base.proofs.Facts.{and_not_from, and_not_parts, first_false, or_from_either, second_false}
@@ -35,28 +36,38 @@ none_past (r ∷ rows) zero x h = absurd (omega arith)
 none_past (r ∷ rows) (suc b) x h = none_past rows b x (omega arith)
 
 pub within_rows : (rows : List VarSet) (b x : ℕ) → member rows b x ≡ true → b < length rows
-within_rows rows b x h = elim (cases_lt b (length rows)) [ inl l ↦ l | inr g ↦ absurd (let no : false ≡ true = sym (none_past rows b x g) ∙ h in cc) ]
+within_rows rows b x h = elim (cases_lt b (length rows))
+    [ inl l ↦ l | inr g ↦ absurd (let no : false ≡ true = sym (none_past rows b x g) ∙ h in cc) ]
 
 -- one row carried
-pub carried : (old : List VarSet) (to from : ℕ) (row now : VarSet) (hidden : VarSet) (changed : Bool) → slice_get old to ≡ Some row → to < length old → from ≢ to
+pub carried : (old : List VarSet) (to from : ℕ) (row now : VarSet) (hidden : VarSet) (changed : Bool)
+    → slice_get old to ≡ Some row → to < length old → from ≢ to
     → ((x : ℕ) → has now x ≡ has row x || (member old from x && not (has hidden x)))
-    → (changed ≡ false → (x : ℕ) → has now x ≡ has row x) → (changed ≡ true → (x : ℕ) × (has now x ≡ true) × (has row x ≡ false))
+    → (changed ≡ false → (x : ℕ) → has now x ≡ has row x)
+    → (changed ≡ true → (x : ℕ) × (has now x ≡ true) × (has row x ≡ false))
     → Carried old (set old to now) to from hidden changed
 carried old to from row now hidden changed is within away added same grew = record {
   rows = length-set old to now;
   kept = λ b x h. elim (cases_eq b to) [
-    | inl here ↦ at b here x ∙ (added x ∙ or_from_either (has row x) (member old from x && not (has hidden x)) (inl (sym (was b here x) ∙ h)))
+    | inl here ↦ at b here x ∙ (added x ∙ or_from_either (has row x) (member old from x && not (has hidden x))
+        (inl (sym (was b here x) ∙ h)))
     | inr there ↦ other b there x ∙ h
   ];
   led = λ b x h. elim (cases_eq b to) [
-    | inl here ↦ elim (or_cases (has row x) (member old from x && not (has hidden x)) (sym (added x) ∙ (sym (at b here x) ∙ h))) [
-      | inl o ↦ inl (was b here x ∙ o)
-      | inr n ↦ inr (here, (and_not_parts (member old from x) (has hidden x) n).1, (and_not_parts (member old from x) (has hidden x) n).0)
-    ]
+    | inl here ↦ elim (or_cases (has row x) (member old from x && not (has hidden x))
+        (sym (added x) ∙ (sym (at b here x) ∙ h))) [
+          | inl o ↦ inl (was b here x ∙ o)
+          | inr n ↦ inr (
+            here,
+            (and_not_parts (member old from x) (has hidden x) n).1,
+            (and_not_parts (member old from x) (has hidden x) n).0,
+          )
+        ]
     | inr there ↦ inl (sym (other b there x) ∙ h)
   ];
   others = λ b x there. other b there x;
-  full = λ x h m. at to refl x ∙ (added x ∙ or_from_either (has row x) (member old from x && not (has hidden x)) (inr (and_not_from (member old from x) (has hidden x) (sym (other from away x) ∙ m) h)));
+  full = λ x h m. at to refl x ∙ (added x ∙ or_from_either (has row x) (member old from x && not (has hidden x))
+      (inr (and_not_from (member old from x) (has hidden x) (sym (other from away x) ∙ m) h)));
   none = λ e b x. elim (cases_eq b to) [
     | inl here ↦ at b here x ∙ (same e x ∙ sym (was b here x))
     | inr there ↦ other b there x
@@ -65,7 +76,8 @@ carried old to from row now hidden changed is within away added same grew = reco
 }
   where
     at : (b : ℕ) → b ≡ to → (x : ℕ) → member (set old to now) b x ≡ has now x
-    at b here x = ap (λ c. member (set old to now) c x) here ∙ row_is (set old to now) to now x (set_same old to now within)
+    at b here x = ap (λ c. member (set old to now) c x) here
+        ∙ row_is (set old to now) to now x (set_same old to now within)
 
     was : (b : ℕ) → b ≡ to → (x : ℕ) → member old b x ≡ has row x
     was b here x = ap (λ c. member old c x) here ∙ row_is old to row x is
@@ -75,8 +87,10 @@ carried old to from row now hidden changed is within away added same grew = reco
 
 -- the calls of one block, one after another
 
-pub visited_more : (old mid new : List VarSet) (b : ℕ) (runs hidden : VarSet) (n f : ℕ) (one two : Bool) → Visited old mid b runs hidden n one → Carried mid new b f hidden two
-    → has runs f ≡ true → n ≤ f → ((x : ℕ) → n ≤ x → x < f → has runs x ≡ false) → Visited old new b runs hidden (f + 1) (one || two)
+pub visited_more : (old mid new : List VarSet) (b : ℕ) (runs hidden : VarSet) (n f : ℕ) (one two : Bool)
+    → Visited old mid b runs hidden n one → Carried mid new b f hidden two
+    → has runs f ≡ true → n ≤ f → ((x : ℕ) → n ≤ x → x < f → has runs x ≡ false)
+    → Visited old new b runs hidden (f + 1) (one || two)
 visited_more old mid new b runs hidden n f one two v c is low between = record {
   rows = c.rows ∙ v.rows;
   kept = λ d x h. c.kept d x (v.kept d x h);
@@ -101,33 +115,49 @@ visited_more old mid new b runs hidden n f one two v c is low between = record {
   none = λ e d x. c.none (second_false one two e) d x ∙ v.none (first_false one two e) d x;
   some = λ e. elim (or_cases one two e) [
     | inl g ↦ (let s = v.some g in (s.0, c.kept b s.0 s.1, s.2))
-    | inr g ↦ (let s = c.some g in (s.0, s.1, false_from_ne_true (member old b s.0) (λ h. let no : false ≡ true = sym s.2 ∙ v.kept b s.0 h in cc)))
+    | inr g ↦ (let s = c.some g in (
+      s.0,
+      s.1,
+      false_from_ne_true (member old b s.0) (λ h. let no : false ≡ true = sym s.2 ∙ v.kept b s.0 h in cc),
+    ))
   ];
 }
 
-pub visited_rest : (old new : List VarSet) (b : ℕ) (runs hidden : VarSet) (n m : ℕ) (changed : Bool) → Visited old new b runs hidden n changed → ((x : ℕ) → n ≤ x → x < m → has runs x ≡ false) → Visited old new b runs hidden m changed
+pub visited_rest : (old new : List VarSet) (b : ℕ) (runs hidden : VarSet) (n m : ℕ) (changed : Bool)
+    → Visited old new b runs hidden n changed → ((x : ℕ) → n ≤ x → x < m → has runs x ≡ false)
+    → Visited old new b runs hidden m changed
 visited_rest old new b runs hidden n m changed v none = record {
   rows = v.rows;
   kept = v.kept;
   led = v.led;
   others = v.others;
-  full = λ f x l r h i. elim (cases_lt f n) [ inl before ↦ v.full f x before r h i | inr after ↦ absurd (let no : false ≡ true = sym (none f after l) ∙ r in cc) ];
+  full = λ f x l r h i. elim (cases_lt f n) [
+    | inl before ↦ v.full f x before r h i
+    | inr after ↦ absurd
+        (let no : false ≡ true = sym (none f after l) ∙ r in cc)
+  ];
   none = v.none;
   some = v.some;
 }
 
-leads_led : (runs hidden old new : List VarSet) → ((b x : ℕ) → member new b x ≡ true → (cs : List ℕ) × Leads old runs hidden cs b x) → (cs : List ℕ) (b x : ℕ) → Leads new runs hidden cs b x → (ds : List ℕ) × Leads old runs hidden ds b x
+leads_led : (runs hidden old new : List VarSet)
+    → ((b x : ℕ) → member new b x ≡ true → (cs : List ℕ) × Leads old runs hidden cs b x) → (cs : List ℕ) (b x : ℕ)
+    → Leads new runs hidden cs b x → (ds : List ℕ) × Leads old runs hidden ds b x
 leads_led runs hidden old new f [] b x h = f b x h
-leads_led runs hidden old new f (c ∷ cs) b x (r, h, l) = let d = leads_led runs hidden old new f cs c x l in (c ∷ d.0, (r, h, d.1))
+leads_led runs hidden old new f (c ∷ cs) b x (r, h, l) = let d = leads_led runs hidden old new f cs c x l in
+    (c ∷ d.0, (r, h, d.1))
 
-pub follows_then : {runs hidden a b c : List VarSet} → Follows runs hidden a b → Follows runs hidden b c → Follows runs hidden a c
+pub follows_then : {runs hidden a b c : List VarSet} → Follows runs hidden a b → Follows runs hidden b c
+    → Follows runs hidden a c
 follows_then {runs} {hidden} {a} {b} {c} f g = record {
   rows = g.rows ∙ f.rows;
   kept = λ d x h. g.kept d x (f.kept d x h);
   led = λ d x h. let l = g.led d x h in leads_led runs hidden a b f.led l.0 d x l.1;
 }
 
-pub follows_visit : (runs hidden old new : List VarSet) (b n : ℕ) (r h : VarSet) (changed : Bool) → slice_get runs b ≡ Some r → slice_get hidden b ≡ Some h → Visited old new b r h n changed → Follows runs hidden old new
+pub follows_visit : (runs hidden old new : List VarSet) (b n : ℕ) (r h : VarSet) (changed : Bool)
+    → slice_get runs b ≡ Some r → slice_get hidden b ≡ Some h → Visited old new b r h n changed
+    → Follows runs hidden old new
 follows_visit runs hidden old new b n r h changed er eh v = record {
   rows = v.rows;
   kept = v.kept;
@@ -144,8 +174,10 @@ follows_visit runs hidden old new b n r h changed er eh v = record {
   ];
 }
 
-pub swept_more : (runs hidden old mid new : List VarSet) (b : ℕ) (r h : VarSet) (one two : Bool) → slice_get runs b ≡ Some r → slice_get hidden b ≡ Some h → length old ≤ 2 ^ 32
-    → Swept runs hidden old mid b one → Visited mid new b r h (2 ^ 32) two → Swept runs hidden old new (b + 1) (one || two)
+pub swept_more : (runs hidden old mid new : List VarSet) (b : ℕ) (r h : VarSet) (one two : Bool)
+    → slice_get runs b ≡ Some r → slice_get hidden b ≡ Some h → length old ≤ 2 ^ 32
+    → Swept runs hidden old mid b one → Visited mid new b r h (2 ^ 32) two
+    → Swept runs hidden old new (b + 1) (one || two)
 swept_more runs hidden old mid new b r h one two er eh small s v = record {
   follows = follows_then s.follows (follows_visit runs hidden mid new b (2 ^ 32) r h two er eh v);
   none = λ e c x. v.none (second_false one two e) c x ∙ s.none (first_false one two e) c x;
@@ -153,23 +185,35 @@ swept_more runs hidden old mid new b r h one two er eh small s v = record {
     | inl here ↦
         let rows : length new ≡ length old = v.rows ∙ s.follows.rows in
         let f_in = within_rows new f x m in
-        ap (λ z. member new z x) here ∙ v.full f x (omega arith) (sym (row_is runs b r f er) ∙ (sym (ap (λ z. member runs z f) here) ∙ run)) (sym (row_is hidden b h x eh) ∙ (sym (ap (λ z. member hidden z x) here) ∙ hide)) m
-    | inr away ↦ v.kept c x (s.full (first_false one two e) c f x (omega arith) run hide (sym (v.none (second_false one two e) f x) ∙ m))
+        ap (λ z. member new z x) here ∙ v.full f x (omega arith)
+        (sym (row_is runs b r f er) ∙ (sym (ap (λ z. member runs z f) here) ∙ run))
+        (sym (row_is hidden b h x eh) ∙ (sym (ap (λ z. member hidden z x) here) ∙ hide)) m
+    | inr away ↦ v.kept c x (s.full (first_false one two e) c f x (omega arith) run hide
+        (sym (v.none (second_false one two e) f x) ∙ m))
   ];
   some = λ e. elim (or_cases one two e) [
     | inl g ↦ (let t = s.some g in (t.0, t.1, v.kept t.0 t.1 t.2, t.3))
-    | inr g ↦ (let t = v.some g in (b, t.0, t.1, false_from_ne_true (member old b t.0) (λ o. let no : false ≡ true = sym t.2 ∙ s.follows.kept b t.0 o in cc)))
+    | inr g ↦ (let t = v.some g in (
+      b,
+      t.0,
+      t.1,
+      false_from_ne_true (member old b t.0) (λ o. let no : false ≡ true = sym t.2 ∙ s.follows.kept b t.0 o in cc),
+    ))
   ];
 }
 
 -- at the end nothing is left out
 pub all_led : (runs hidden rows old : List VarSet) → ((b x : ℕ) → member old b x ≡ true → member rows b x ≡ true)
-    → ((b c x : ℕ) → member runs b c ≡ true → member hidden b x ≡ false → member rows c x ≡ true → member rows b x ≡ true)
+    → ((b c x : ℕ) → member runs b c ≡ true → member hidden b x ≡ false → member rows c x ≡ true
+    → member rows b x ≡ true)
     → (cs : List ℕ) (b x : ℕ) → Leads old runs hidden cs b x → member rows b x ≡ true
 all_led runs hidden rows old kept full [] b x h = kept b x h
-all_led runs hidden rows old kept full (c ∷ cs) b x (r, h, l) = full b c x r h (all_led runs hidden rows old kept full cs c x l)
+all_led runs hidden rows old kept full (c ∷ cs) b x (r, h, l) =
+    full b c x r h (all_led runs hidden rows old kept full cs c x l)
 
-pub closes : (runs hidden old mid new : List VarSet) (changed : Bool) → length runs ≡ length old → Follows runs hidden old mid → Swept runs hidden mid new (length mid) changed → changed ≡ false → Closes runs hidden old new
+pub closes : (runs hidden old mid new : List VarSet) (changed : Bool) → length runs ≡ length old
+    → Follows runs hidden old mid → Swept runs hidden mid new (length mid) changed → changed ≡ false
+    → Closes runs hidden old new
 closes runs hidden old mid new changed len f s e =
     let all = follows_then f s.follows in record {
       rows = all.rows;
@@ -211,7 +255,8 @@ unfolding holes
 holes_le f g zero h = omega arith
 holes_le f g (suc n) h = let rest = holes_le f g n h in let one = cost_le (f n) (g n) (h n) in omega arith
 
-holes_lt : (f g : ℕ → Bool) (n y : ℕ) → ((x : ℕ) → f x ≡ true → g x ≡ true) → y < n → g y ≡ true → f y ≡ false → holes g n < holes f n
+holes_lt : (f g : ℕ → Bool) (n y : ℕ) → ((x : ℕ) → f x ≡ true → g x ≡ true) → y < n → g y ≡ true → f y ≡ false
+    → holes g n < holes f n
 unfolding holes
 holes_lt f g zero y h l a b = absurd (omega arith)
 holes_lt f g (suc n) y h l a b = at (cases_eq y n) (λ k. holes_lt f g n y h k a b)
@@ -230,7 +275,8 @@ pub gaps : List VarSet → ℕ → ℕ
 gaps [] n = 0
 gaps (s ∷ ss) n = holes (λ x. has s x) n + gaps ss n
 
-pub gaps_le : (old new : List VarSet) (n : ℕ) → length new ≡ length old → ((b x : ℕ) → member old b x ≡ true → member new b x ≡ true) → gaps new n ≤ gaps old n
+pub gaps_le : (old new : List VarSet) (n : ℕ) → length new ≡ length old
+    → ((b x : ℕ) → member old b x ≡ true → member new b x ≡ true) → gaps new n ≤ gaps old n
 unfolding gaps
 gaps_le [] [] n l h = omega arith
 gaps_le [] (t ∷ new) n l h = absurd (omega arith)
@@ -240,7 +286,9 @@ gaps_le (s ∷ old) (t ∷ new) n l h =
     let rest = gaps_le old new n (omega arith) (λ b x. h (suc b) x) in
     omega arith
 
-pub gaps_lt : (old new : List VarSet) (n b x : ℕ) → length new ≡ length old → ((c y : ℕ) → member old c y ≡ true → member new c y ≡ true) → x < n → member new b x ≡ true → member old b x ≡ false → gaps new n < gaps old n
+pub gaps_lt : (old new : List VarSet) (n b x : ℕ) → length new ≡ length old
+    → ((c y : ℕ) → member old c y ≡ true → member new c y ≡ true) → x < n → member new b x ≡ true
+    → member old b x ≡ false → gaps new n < gaps old n
 unfolding gaps
 gaps_lt [] [] n b x l h s a c = absurd (let no : false ≡ true = a in cc)
 gaps_lt [] (t ∷ new) n b x l h s a c = absurd (omega arith)
@@ -265,6 +313,7 @@ below_span [] b x h = absurd (let no : false ≡ true = h in cc)
 below_span (s ∷ rows) zero x h = let l = below_words s.words x h in omega arith
 below_span (s ∷ rows) (suc b) x h = let l = below_span rows b x h in omega arith
 
-pub leads_below : (runs hidden rows : List VarSet) (cs : List ℕ) (b x : ℕ) → Leads rows runs hidden cs b x → x < span rows
+pub leads_below : (runs hidden rows : List VarSet) (cs : List ℕ) (b x : ℕ) → Leads rows runs hidden cs b x
+    → x < span rows
 leads_below runs hidden rows [] b x h = below_span rows b x h
 leads_below runs hidden rows (c ∷ cs) b x (r, h, l) = leads_below runs hidden rows cs c x l

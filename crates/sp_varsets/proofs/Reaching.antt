@@ -1,5 +1,6 @@
 -- What rows lead to is what paths of calls reach.
-use Rattle.std.proofs.Common.{◌≡◌, ◌↔◌, ℕ, zero, suc, ◌<◌, Bool, true, false, not, ◌&&◌, List, [], ◌∷◌, map, length, slice_get, refl, sym, ap, subst, ◌∙◌, arith, inl, inr, Some, None}
+use Rattle.std.proofs.Common.{◌≡◌, ◌↔◌, ℕ, zero, suc, ◌<◌, Bool, true, false, not, ◌&&◌, List, [], ◌∷◌, map, length}
+use Rattle.std.proofs.Common.{slice_get, refl, sym, ap, subst, ◌∙◌, arith, inl, inr, Some, None}
 use Rattle.std.proofs.lemmas.Option.{slice_get_within}
 use Rattle.std.proofs.lemmas.Bool.{false_from_ne_true}
 use Rattle.sp_base.proofs.Facts.{and_not_from, and_not_parts, get_of_map}
@@ -19,7 +20,8 @@ use Rattle.sp_varsets.specs.Totals.{IsInTotal}
 use Rattle.sp_varsets.proofs.Paths.{within_rows}
 
 -- items of a mapped list
-pub map_at : {A B : Type 0} (f : A → B) (xs : List A) (i : ℕ) (y : B) → slice_get (map f xs) i ≡ Some y → (x : A) × (slice_get xs i ≡ Some x) × (f x ≡ y)
+pub map_at : {A B : Type 0} (f : A → B) (xs : List A) (i : ℕ) (y : B) → slice_get (map f xs) i ≡ Some y → (x : A)
+    × (slice_get xs i ≡ Some x) × (f x ≡ y)
 map_at f [] i y e = absurd (let no : None ≡ Some y = e in cc)
 map_at f (x ∷ xs) zero y e = (x, refl, let s : Some (f x) ≡ Some y = e in cc)
 map_at f (x ∷ xs) (suc i) y e = map_at f xs i y e
@@ -37,16 +39,21 @@ item_of (x ∷ xs) (suc i) h = item_of xs i (omega arith)
 module _ (g : Program) (u : Use) (x : ℕ) (rows runs hidden : List VarSet) where
   -- the rows, the calls and what is hidden are those of the blocks
   pub record Fits : Type 0 where
-    pub rows_of : (b : ℕ) → member rows b x ≡ true → (k : Block) × (slice_get g.blocks b ≡ Some k) × Passes g b u × In_stmt k.body u
-    pub rows_in : (b : ℕ) (k : Block) → slice_get g.blocks b ≡ Some k → Passes g b u → In_stmt k.body u → member rows b x ≡ true
-    pub runs_of : (b c : ℕ) → member runs b c ≡ true → (k : Block) × (slice_get g.blocks b ≡ Some k) × (args : Actuals) × In_stmt k.body (CallOf c args)
-    pub runs_in : (b c : ℕ) (k : Block) (args : Actuals) → slice_get g.blocks b ≡ Some k → In_stmt k.body (CallOf c args) → member runs b c ≡ true
+    pub rows_of : (b : ℕ) → member rows b x ≡ true → (k : Block) × (slice_get g.blocks b ≡ Some k) × Passes g b u
+        × In_stmt k.body u
+    pub rows_in : (b : ℕ) (k : Block) → slice_get g.blocks b ≡ Some k → Passes g b u → In_stmt k.body u
+        → member rows b x ≡ true
+    pub runs_of : (b c : ℕ) → member runs b c ≡ true → (k : Block) × (slice_get g.blocks b ≡ Some k) × (args : Actuals)
+        × In_stmt k.body (CallOf c args)
+    pub runs_in : (b c : ℕ) (k : Block) (args : Actuals) → slice_get g.blocks b ≡ Some k
+        → In_stmt k.body (CallOf c args) → member runs b c ≡ true
     pub hidden_of : (b : ℕ) (k : Block) → slice_get g.blocks b ≡ Some k → member hidden b x ≡ false → Passes g b u
     pub hidden_in : (b : ℕ) (k : Block) → slice_get g.blocks b ≡ Some k → Passes g b u → member hidden b x ≡ false
 
   leads_to : Fits → (cs : List ℕ) (b : ℕ) → Leads rows runs hidden cs b x → OfBlock g b u
   leads_to f [] b h = let r = f.rows_of b h in step_here g b r.0 u r.1 r.2 r.3
-  leads_to f (c ∷ cs) b (run, hide, l) = let r = f.runs_of b c run in step_call g b c r.0 r.2 u r.1 (f.hidden_of b r.0 r.1 hide) r.3 (leads_to f cs c l)
+  leads_to f (c ∷ cs) b (run, hide, l) = let r = f.runs_of b c run in
+      step_call g b c r.0 r.2 u r.1 (f.hidden_of b r.0 r.1 hide) r.3 (leads_to f cs c l)
 
   abbrev Claim : ℕ → Use → Type 0
   Claim b v = v ≡ u → (cs : List ℕ) × Leads rows runs hidden cs b x
@@ -54,32 +61,40 @@ module _ (g : Program) (u : Use) (x : ℕ) (rows runs hidden : List VarSet) wher
   claims_closed : Fits → IsClosed g Claim
   claims_closed f b k e v passes = (
     λ h i. ([], f.rows_in b k e (subst (λ w. Passes g b w) i passes) (subst (λ w. In_stmt k.body w) i h)),
-    λ c args h claim i. let l = claim i in (c ∷ l.0, (f.runs_in b c k args e h, f.hidden_in b k e (subst (λ w. Passes g b w) i passes), l.1)),
+    λ c args h claim i. let l = claim i in (
+      c ∷ l.0,
+      (f.runs_in b c k args e h, f.hidden_in b k e (subst (λ w. Passes g b w) i passes), l.1),
+    ),
   )
 
   to_leads : Fits → (b : ℕ) → OfBlock g b u → (cs : List ℕ) × Leads rows runs hidden cs b x
   to_leads f b o = all_of_block g Claim (claims_closed f) b u o refl
 
-  pub closed_is : Fits → (new : List VarSet) → Closes runs hidden rows new → (b : ℕ) → (member new b x ≡ true) ↔ OfBlock g b u
+  pub closed_is : Fits → (new : List VarSet) → Closes runs hidden rows new → (b : ℕ) → (member new b x ≡ true)
+      ↔ OfBlock g b u
   closed_is f new c b = (
     λ h. let l = (c.members b x).0 h in leads_to f l.0 b l.1,
     λ o. (c.members b x).1 (to_leads f b o),
   )
 
 -- what is declared and what is free
-pub free_of : (g : Program) (rows : List VarSet) (b x : ℕ) → AreDeclared g rows (length g.variables) → b < length g.blocks → member rows b x ≡ false → IsFree g b x
+pub free_of : (g : Program) (rows : List VarSet) (b x : ℕ) → AreDeclared g rows (length g.variables)
+    → b < length g.blocks → member rows b x ≡ false → IsFree g b x
 free_of g rows b x d within h i e n below =
     let yes = (d.members b x within).1 (slice_get_within g.variables x i e, (i, e, n, below)) in
     let no : false ≡ true = sym h ∙ yes in cc
 
-pub free_in : (g : Program) (rows : List VarSet) (b x : ℕ) → AreDeclared g rows (length g.variables) → b < length g.blocks → IsFree g b x → member rows b x ≡ false
-free_in g rows b x d within f = false_from_ne_true (member rows b x) (λ h. let m = (d.members b x within).0 h in f m.1.0 m.1.1 m.1.2 m.1.3)
+pub free_in : (g : Program) (rows : List VarSet) (b x : ℕ) → AreDeclared g rows (length g.variables)
+    → b < length g.blocks → IsFree g b x → member rows b x ≡ false
+free_in g rows b x d within f = false_from_ne_true (member rows b x)
+    (λ h. let m = (d.members b x within).0 h in f m.1.0 m.1.1 m.1.2 m.1.3)
 
 module _ (c : p.Program) (bodies : Bodies) (hidden rows own : List VarSet) (u : Use) (x : ℕ) where
   -- rows of what stands in the blocks' own statement parts
   pub fits : AreBodies c.blocks bodies (length c.blocks)
       → length own ≡ length c.blocks
-      → ((b : ℕ) (k : p.Block) → slice_get c.blocks b ≡ Some k → (member own b x ≡ true) ↔ In_stmt (bare_statement k.body) u)
+      → ((b : ℕ) (k : p.Block) → slice_get c.blocks b ≡ Some k → (member own b x ≡ true)
+      ↔ In_stmt (bare_statement k.body) u)
       → ((b : ℕ) → member rows b x ≡ member own b x && not (member hidden b x))
       → ((b : ℕ) → b < length c.blocks → member hidden b x ≡ false → Passes (bare c) b u)
       → ((b : ℕ) → b < length c.blocks → Passes (bare c) b u → member hidden b x ≡ false)
@@ -93,7 +108,8 @@ module _ (c : p.Program) (bodies : Bodies) (hidden rows own : List VarSet) (u : 
     rows_in = λ b k e f h.
         let m = map_at bare_block c.blocks b k e in
         let inside : b < length c.blocks = slice_get_within c.blocks b m.0 m.1 in
-        shown b ∙ and_not_from (member own b x) (member hidden b x) ((own_is b m.0 m.1).1 (subst (λ (z : Block). In_stmt z.body u) (sym m.2) h)) (hides b inside f);
+        shown b ∙ and_not_from (member own b x) (member hidden b x)
+        ((own_is b m.0 m.1).1 (subst (λ (z : Block). In_stmt z.body u) (sym m.2) h)) (hides b inside f);
     runs_of = λ b f h.
         let inside : b < length c.blocks = subst (λ n. b < n) bs.runs (within_rows bodies.runs b f h) in
         let k = item_of c.blocks b inside in
@@ -111,7 +127,8 @@ module _ (c : p.Program) (bodies : Bodies) (hidden rows own : List VarSet) (u : 
 
 -- the set of a part, from what stands in it and the rows of the blocks that it calls
 pub total_is : (g : Program) (Here : Use → Type 0) (u : Use) (pool rows : List VarSet) (own runs x : ℕ)
-    → ((pooled pool own x ≡ true) ↔ Here u) → ((f : ℕ) → (pooled pool runs f ≡ true) ↔ ((args : Actuals) × Here (CallOf f args)))
+    → ((pooled pool own x ≡ true) ↔ Here u) → ((f : ℕ) → (pooled pool runs f ≡ true)
+    ↔ ((args : Actuals) × Here (CallOf f args)))
     → ((f : ℕ) → (member rows f x ≡ true) ↔ OfBlock g f u)
     → IsInTotal pool rows own runs x ↔ IsReached g Here u
 total_is g Here u pool rows own runs x here calls reach = (

@@ -1,3 +1,4 @@
+-- None of this belongs to what the program promises: it is for contracts between crates.
 -- What a pass over a part of a tree adds to the sets that it gathers. The contracts of `uses` and `simple` promise it:
 -- exactly what stands in the part, beside what was there.
 use Rattle.std.specs.Prelude.{◌≡◌, ◌↔◌, ◌⊎◌, ℕ, true, false}
@@ -9,7 +10,8 @@ use Rattle.sp_varsets.specs.declared.uses.Uses.{Uses}
 use Rattle.sp_varsets.specs.declared.var_set.VarSet.{VarSet}
 use Rattle.sp_varsets.specs.Members.{has}
 
--- the new sets have what the old ones had, and what stands here: target positions, expression positions, calls, statements that stop
+-- the new sets have what the old ones had, and what stands here: target positions, expression positions, calls,
+-- statements that stop
 pub record Adds (old new : Uses) (Here : Use → Type 0) : Type 0 where
   pub aims : (x : ℕ) → (has new.aims x ≡ true) ↔ ((has old.aims x ≡ true) ⊎ Here (Target x))
   pub sees : (x : ℕ) → (has new.sees x ≡ true) ↔ ((has old.sees x ≡ true) ⊎ Here (Seen x))

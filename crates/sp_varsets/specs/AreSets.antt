@@ -1,6 +1,8 @@
+-- Some of this belongs to what the program promises (docs/promise.txt).
 -- What the sets of a tree are: exactly the variables that paths of calls reach. The contract of the computation of
 -- sets promises it, and interference, code and the text of the sets rest on it alone.
-use Rattle.std.specs.Prelude.{◌≡◌, ◌↔◌, ℕ, zero, suc, ◌<◌, Bool, true, false, List, get_or, Option, Some, None, slice_get}
+use Rattle.std.specs.Prelude.{◌≡◌, ◌↔◌, ℕ, zero, suc, ◌<◌, Bool, true, false, List, get_or, Option, Some, None}
+use Rattle.std.specs.Prelude.{slice_get}
 use Rattle.sp_tree.specs.PlainChecked as p
 use Rattle.sp_tree.specs.Bare.{bare_statement, bare}
 use Rattle.sp_tree.specs.Plain.{Program, Block}
@@ -62,7 +64,8 @@ pub record OfBlock (g : Program) (s : Sets) (b : ℕ) : Type 0 where
 
 -- the sets are those of the tree: of every statement in each block's statement part, and of every block
 pub record AreSets (c : p.Program) (s : Sets) : Type 0 where
-  pub statements : (b : ℕ) (k : p.Block) → slice_get c.blocks b ≡ Some k → (t : p.Statement) → IsPart t k.body → OfStatement (bare c) s t
+  pub statements : (b : ℕ) (k : p.Block) → slice_get c.blocks b ≡ Some k → (t : p.Statement) → IsPart t k.body
+      → OfStatement (bare c) s t
   pub blocks : (b : ℕ) (k : p.Block) → slice_get c.blocks b ≡ Some k → OfBlock (bare c) s b
 
 -- two statements with one number are one

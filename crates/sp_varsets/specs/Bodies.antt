@@ -1,3 +1,4 @@
+-- None of this belongs to what the program promises: it is for contracts between crates.
 -- What stands in the statement parts of blocks, and what blocks declare: the rows from which the closure over calls
 -- starts. The contracts of `bodies` promise it.
 use Rattle.std.specs.Prelude.{◌≡◌, ◌↔◌, ◌⊎◌, ℕ, ◌<◌, true, List, [], ◌∷◌, ◌++◌, length, Some, slice_get}
@@ -33,7 +34,8 @@ pub record AreBodies (blocks : List p.Block) (bodies : Bodies) (n : ℕ) : Type 
   pub sees : length bodies.sees ≡ n
   pub runs : length bodies.runs ≡ n
   pub stops : length bodies.stops ≡ n
-  pub each : (b : ℕ) (k : p.Block) → b < n → slice_get blocks b ≡ Some k → BodyAt bodies b (In_stmt (bare_statement k.body))
+  pub each : (b : ℕ) (k : p.Block) → b < n → slice_get blocks b ≡ Some k
+      → BodyAt bodies b (In_stmt (bare_statement k.body))
 
 -- these sets are the last rows
 pub record Puts (old new : Bodies) (uses : Uses) : Type 0 where
@@ -44,7 +46,8 @@ pub record Puts (old new : Bodies) (uses : Uses) : Type 0 where
 
 -- what stands in this block's statement part is in the last rows, and was recorded
 abbrev pub Enters : (old new : Bodies) → (before after : Walk) → p.Block → Type 0
-Enters old new before after k = (uses : Uses) × Puts old new uses × ((start : Uses) × AreEmpty start × WalksStatement before after start uses k.body)
+Enters old new before after k = (uses : Uses) × Puts old new uses
+    × ((start : Uses) × AreEmpty start × WalksStatement before after start uses k.body)
 
 -- the variable is declared in the block or in one inside it
 abbrev pub IsDeclaredIn : Program → ℕ → ℕ → Type 0
@@ -53,7 +56,8 @@ IsDeclaredIn g b x = (i : Variable) × (slice_get g.variables x ≡ Some i) × (
 -- a variable of one block was put into the rows of it and of those around it
 pub record Declares (g : Program) (old new : List VarSet) (x c : ℕ) : Type 0 where
   pub rows : length new ≡ length old
-  pub members : (b y : ℕ) → (member new b y ≡ true) ↔ ((member old b y ≡ true) ⊎ ((y ≡ x) × (b < length old) × (n : ℕ) × IsBelow g n c b))
+  pub members : (b y : ℕ) → (member new b y ≡ true)
+      ↔ ((member old b y ≡ true) ⊎ ((y ≡ x) × (b < length old) × (n : ℕ) × IsBelow g n c b))
 
 -- each row has what its block declares, of the variables below a number
 pub record AreDeclared (g : Program) (rows : List VarSet) (n : ℕ) : Type 0 where

@@ -1,7 +1,9 @@
+-- All of this belongs to what the program promises (docs/promise.txt).
 -- The statements that stand in a statement, itself among them. Each of them has sets of its own, by its number; the
 -- contracts on sets say by it which ones are meant.
 use Rattle.std.specs.Prelude.{◌≡◌, ◌⊎◌, ℕ}
-use Rattle.sp_tree.specs.PlainChecked.{Statement, Does, Form, Sequence, If, While, Repeat, For, Case, Parallel, Forall, Other, NoElse, Else, Statements, NoStatement, AndThen, On, Arms, NoArm, Or}
+use Rattle.sp_tree.specs.PlainChecked.{Statement, Does, Form, Sequence, If, While, Repeat, For, Case, Parallel, Forall}
+use Rattle.sp_tree.specs.PlainChecked.{Other, NoElse, Else, Statements, NoStatement, AndThen, On, Arms, NoArm, Or}
 
 -- the number of a statement
 abbrev pub number_of : Statement → ℕ

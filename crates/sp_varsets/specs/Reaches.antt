@@ -1,3 +1,4 @@
+-- None of this belongs to what the program promises: it is for contracts between crates.
 -- What paths of calls lead to from all blocks, and the sets that are made of it. The contracts of `find` promise it.
 use Rattle.std.specs.Prelude.{◌≡◌, ℕ, false, not, ◌&&◌, List, length, get_or}
 use Rattle.sp_tree.specs.PlainChecked as p
@@ -23,11 +24,15 @@ pub record IsClosed (runs hidden own new : List VarSet) : Type 0 where
 
 -- so for all three kinds; statements that stop are hidden nowhere
 pub record Reaches (c : p.Program) (bodies : Bodies) (reach : Reach) : Type 0 where
-  pub declared : (hidden : List VarSet) × AreDeclared (bare c) hidden (length (bare c).variables) × IsClosed bodies.runs hidden bodies.aims reach.targets × IsClosed bodies.runs hidden bodies.sees reach.seen
-  pub free : (free : List VarSet) × ((b x : ℕ) → member free b x ≡ false) × IsClosed bodies.runs free bodies.stops reach.stops
+  pub declared : (hidden : List VarSet) × AreDeclared (bare c) hidden (length (bare c).variables)
+      × IsClosed bodies.runs hidden bodies.aims reach.targets × IsClosed bodies.runs hidden bodies.sees reach.seen
+  pub free : (free : List VarSet) × ((b x : ℕ) → member free b x ≡ false)
+      × IsClosed bodies.runs free bodies.stops reach.stops
 
--- the entries name sets of the pool that have what was recorded and what the rows have; the middle pool is the one before the blocks' sets
+-- the entries name sets of the pool that have what was recorded and what the rows have; the middle pool is the one
+-- before the blocks' sets
 pub record ArePooled (walk : Walk) (reach : Reach) (s : Sets) : Type 0 where
-  pub entries : (middle : List VarSet) × AreEntries walk.pool middle walk.slots reach.targets reach.seen s.statements (length walk.slots) × AreRowEntries middle s.pool reach.targets reach.seen s.blocks (length reach.targets)
+  pub entries : (middle : List VarSet) × AreEntries walk.pool middle walk.slots reach.targets reach.seen s.statements
+      (length walk.slots) × AreRowEntries middle s.pool reach.targets reach.seen s.blocks (length reach.targets)
   pub flags : (b : ℕ) → get_or s.stops b false ≡ member reach.stops b 0
   pub none : (x : ℕ) → has s.nothing x ≡ false

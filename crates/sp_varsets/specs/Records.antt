@@ -1,6 +1,8 @@
+-- None of this belongs to what the program promises: it is for contracts between crates.
 -- What a pass over statements records of them: sets in a pool, named by an index for each statement, where 0 names the
 -- empty set. The contracts of `walk` promise it.
-use Rattle.std.specs.Prelude.{◌≡◌, ◌≢◌, ◌↔◌, ◌⊎◌, ℕ, zero, suc, ◌≤◌, Bool, true, false, List, length, Option, Some, None, slice_get}
+use Rattle.std.specs.Prelude.{◌≡◌, ◌≢◌, ◌↔◌, ◌⊎◌, ℕ, zero, suc, ◌≤◌, Bool, true, false, List, length, Option, Some}
+use Rattle.std.specs.Prelude.{None, slice_get}
 use Rattle.sp_tree.specs.PlainChecked as p
 use Rattle.sp_tree.specs.Bare.{bare_statement}
 use Rattle.sp_tree.specs.Plain.{Actuals}
@@ -48,7 +50,8 @@ pub record Writes (old new : Walk) (S : p.Statement → Type 0) : Type 0 where
   pub all : (t : p.Statement) → S t → (own : Own) × (slot_at new.slots (number_of t) ≡ Some own)
   pub kept : (n : ℕ) (own : Own) → slot_at old.slots n ≡ Some own → (o : Own) × (slot_at new.slots n ≡ Some o)
   pub only : (n : ℕ) (own : Own) → slot_at new.slots n ≡ Some own
-      → (slot_at old.slots n ≡ Some own) ⊎ ((t : p.Statement) × S t × (number_of t ≡ n) × Records new.pool own (In_stmt (bare_statement t)))
+      → (slot_at old.slots n ≡ Some own) ⊎ ((t : p.Statement) × S t × (number_of t ≡ n)
+      × Records new.pool own (In_stmt (bare_statement t)))
 
 -- the sets were recorded under this number, and nothing else changed
 pub record Keeps (old new : Walk) (n : ℕ) (uses : Uses) : Type 0 where

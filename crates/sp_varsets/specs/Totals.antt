@@ -1,3 +1,4 @@
+-- None of this belongs to what the program promises: it is for contracts between crates.
 -- The sets of statements with what their calls carry: a statement's own members, and those that the rows of called
 -- blocks have. The contracts of `totals` promise it.
 use Rattle.std.specs.Prelude.{◌≡◌, ◌⊎◌, ℕ, ◌<◌, ◌≤◌, true, List, length, Option, Some, slice_get}
@@ -20,7 +21,8 @@ AreWithin w = (n : ℕ) (own : Own) → slot_at w.slots n ≡ Some own → IsWit
 
 -- a member of the statement's own set, or of the row of a block that is called in it
 abbrev pub IsInTotal : List VarSet → List VarSet → ℕ → ℕ → ℕ → Type 0
-IsInTotal pool rows own runs x = (pooled pool own x ≡ true) ⊎ ((f : ℕ) × (pooled pool runs f ≡ true) × (member rows f x ≡ true))
+IsInTotal pool rows own runs x = (pooled pool own x ≡ true)
+    ⊎ ((f : ℕ) × (pooled pool runs f ≡ true) × (member rows f x ≡ true))
 
 -- the entry names the statement's sets; old is the pool before
 pub record IsEntry (old pool : List VarSet) (own : Own) (targets seen : List VarSet) (e : Entry) : Type 0 where
@@ -28,13 +30,17 @@ pub record IsEntry (old pool : List VarSet) (own : Own) (targets seen : List Var
   pub sees : Stands pool e.expressions (λ x. IsInTotal old seen own.sees own.runs x)
 
 -- each recorded statement below a number has an entry with its sets
-pub record AreEntries (old pool : List VarSet) (slots : List (Option Own)) (targets seen : List VarSet) (entries : List Entry) (n : ℕ) : Type 0 where
+pub record AreEntries (old pool : List VarSet) (slots : List (Option Own)) (targets seen : List VarSet)
+    (entries : List Entry) (n : ℕ) : Type 0 where
   pub count : length entries ≡ n
   pub extends : Extends old pool
-  pub each : (m : ℕ) (own : Own) → m < n → slot_at slots m ≡ Some own → (e : Entry) × (slice_get entries m ≡ Some e) × IsEntry old pool own targets seen e
+  pub each : (m : ℕ) (own : Own) → m < n → slot_at slots m ≡ Some own → (e : Entry) × (slice_get entries m ≡ Some e)
+      × IsEntry old pool own targets seen e
 
 -- each block has an entry with its rows
-pub record AreRowEntries (old pool : List VarSet) (targets seen : List VarSet) (entries : List Entry) (n : ℕ) : Type 0 where
+pub record AreRowEntries (old pool : List VarSet) (targets seen : List VarSet) (entries : List Entry) (n : ℕ) : Type
+    0 where
   pub count : length entries ≡ n
   pub extends : Extends old pool
-  pub each : (b : ℕ) → b < n → (e : Entry) × (slice_get entries b ≡ Some e) × Stands pool e.targets (λ x. member targets b x ≡ true) × Stands pool e.expressions (λ x. member seen b x ≡ true)
+  pub each : (b : ℕ) → b < n → (e : Entry) × (slice_get entries b ≡ Some e)
+      × Stands pool e.targets (λ x. member targets b x ≡ true) × Stands pool e.expressions (λ x. member seen b x ≡ true)

@@ -1,3 +1,4 @@
+-- None of this belongs to what the program promises: it is for contracts between crates.
 -- What a pass over statements does: it adds what stands in them, and records each one. The contracts of `walk` are
 -- these, one for each part of a tree.
 use Rattle.std.specs.Prelude.{ℕ}

@@ -1,6 +1,7 @@
 //! What stands in the statement parts of blocks, and the variables that blocks declare.
 
-ghost use Rattle.std.specs.Prelude.{◌≡◌, ℕ, ◌<◌, ◌≤◌, ◌^◌, false, ◌||◌, ◌&&◌, ◌==◌, not, [], ◌∷◌, ◌++◌, OnOk, IfOk, map, length};
+ghost use Rattle.std.specs.Prelude.{◌≡◌, ℕ, ◌<◌, ◌≤◌, ◌^◌, false, ◌||◌, ◌&&◌, ◌==◌, not, [], ◌∷◌, ◌++◌, OnOk, IfOk};
+ghost use Rattle.std.specs.Prelude.{map, length};
 ghost use Rattle.sp_tree.specs.Bare.{bare};
 ghost use Rattle.sp_tree.specs.CheckedOf.{block_of, program_of};
 ghost use Rattle.sp_varsets.specs.Adds.{AreEmpty};
@@ -146,7 +147,8 @@ pub(crate) fn shown(
 ) -> Result<List<VarSet>, Memory>
     requires { length hidden.now ≡ length own.now }
     ensures rows { IfOk result (λ rows. length rows ≡ length own.now) }
-    ensures members { IfOk result (λ rows. (b x : ℕ) → member rows b x ≡ member own.now b x && not (member hidden.now b x)) }
+    ensures members { IfOk result (λ rows. (b x : ℕ)
+        → member rows b x ≡ member own.now b x && not (member hidden.now b x)) }
 {
     let mut rows = List::new(alloc);
     'rows: for b in 0..own.len() {

@@ -14,9 +14,11 @@ pub(crate) fn add_row(
     from: usize,
     hidden: &VarSet,
 ) -> Result<bool, Memory>
-    ensures added { OnOk result ((x : ℕ) → has row.new x ≡ has row.old x || (member rows.now from x && not (has hidden.now x))) }
+    ensures added { OnOk result ((x : ℕ) → has row.new x ≡ has row.old x
+        || (member rows.now from x && not (has hidden.now x))) }
     ensures same { IfOk result (λ changed. changed ≡ false → (x : ℕ) → has row.new x ≡ has row.old x) }
-    ensures changed { IfOk result (λ changed. changed ≡ true → (x : ℕ) × (has row.new x ≡ true) × (has row.old x ≡ false)) }
+    ensures changed { IfOk result (λ changed. changed ≡ true → (x : ℕ) × (has row.new x ≡ true)
+        × (has row.old x ≡ false)) }
 {
     match rows.get(from) {
         Some(other) => {

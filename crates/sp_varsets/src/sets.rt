@@ -1,7 +1,8 @@
 //! The sets of a tree, by the numbers of its statements and blocks (`Sets`).
 
 ghost use Rattle.std.specs.Prelude.{◌≡◌};
-ghost use Rattle.sp_varsets.specs.AreSets.{chosen, targets_of, expressions_of, implicit_targets_of, implicit_expressions_of, stops_of};
+ghost use Rattle.sp_varsets.specs.AreSets.{chosen, targets_of, expressions_of, implicit_targets_of};
+ghost use Rattle.sp_varsets.specs.AreSets.{implicit_expressions_of, stops_of};
 
 use crate::var_set::VarSet;
 use sp_base::List;

@@ -3,7 +3,8 @@
 ghost use Rattle.std.specs.Prelude.{◌≡◌, ℕ, List, OnOk, map};
 ghost use Rattle.sp_tree.specs.Bare.{bare_expression, bare_variable, bare_actuals, bare_width};
 ghost use Rattle.sp_tree.specs.CheckedOf.{expression_of, variable_of, actual_of, actuals, width_of};
-ghost use Rattle.sp_tree.specs.Plain.{Assign, Call, ReadValue, ReadLine, WriteValue, WriteText, WriteLine, Open, Send, Receive};
+ghost use Rattle.sp_tree.specs.Plain.{Assign, Call, ReadValue, ReadLine, WriteValue, WriteText, WriteLine, Open, Send};
+ghost use Rattle.sp_tree.specs.Plain.{Receive};
 ghost use Rattle.sp_tree.specs.Plain.{Expr as AnExpr};
 ghost use Rattle.sp_tree.specs.Uses.{In_expr, In_stmt};
 ghost use Rattle.sp_varsets.specs.declared.uses.Uses.{Uses as AUses};
@@ -15,14 +16,16 @@ use sp_tree::{Actual, Expr, Var};
 
 impl Uses {
     pub(crate) fn assign(&mut self, v: &Var, e: &Expr) -> Result<(), Memory>
-        ensures { OnOk result (Adds self.old self.new (In_stmt (Assign (bare_variable (variable_of v.now)) (bare_expression (expression_of e.now))))) }
+        ensures { OnOk result (Adds self.old self.new
+            (In_stmt (Assign (bare_variable (variable_of v.now)) (bare_expression (expression_of e.now))))) }
     {
         self.target(v)?;
         self.expression(e)
     }
 
     pub(crate) fn call(&mut self, block: u32, args: &[Actual]) -> Result<(), Memory>
-        ensures { OnOk result (Adds self.old self.new (In_stmt (Call block (bare_actuals (actuals (map actual_of args.now)))))) }
+        ensures { OnOk result (Adds self.old self.new
+            (In_stmt (Call block (bare_actuals (actuals (map actual_of args.now)))))) }
     {
         self.run(block)?;
         self.actuals(args)
@@ -44,7 +47,8 @@ impl Uses {
     }
 
     pub(crate) fn write_value(&mut self, e: &Expr, w: &Option<Expr>) -> Result<(), Memory>
-        ensures { OnOk result (Adds self.old self.new (In_stmt (WriteValue (bare_expression (expression_of e.now)) (bare_width (width_of w.now))))) }
+        ensures { OnOk result (Adds self.old self.new
+            (In_stmt (WriteValue (bare_expression (expression_of e.now)) (bare_width (width_of w.now))))) }
     {
         self.aim(1)?;
         self.expression(e)?;
@@ -53,7 +57,8 @@ impl Uses {
     }
 
     pub(crate) fn write_text(&mut self, w: &Option<Expr>) -> Result<(), Memory>
-        ensures { OnOk result ((text : List ℕ) → Adds self.old self.new (In_stmt (WriteText text (bare_width (width_of w.now))))) }
+        ensures { OnOk result ((text : List ℕ)
+            → Adds self.old self.new (In_stmt (WriteText text (bare_width (width_of w.now))))) }
     {
         self.aim(1)?;
         self.width(w)?;
@@ -75,7 +80,8 @@ impl Uses {
     }
 
     pub(crate) fn send(&mut self, c: &Expr, e: &Expr) -> Result<(), Memory>
-        ensures { OnOk result (Adds self.old self.new (In_stmt (Send (bare_expression (expression_of c.now)) (bare_expression (expression_of e.now))))) }
+        ensures { OnOk result (Adds self.old self.new
+            (In_stmt (Send (bare_expression (expression_of c.now)) (bare_expression (expression_of e.now))))) }
     {
         self.expression(c)?;
         self.expression(e)?;
@@ -83,7 +89,8 @@ impl Uses {
     }
 
     pub(crate) fn receive(&mut self, c: &Expr, variable: &Var) -> Result<(), Memory>
-        ensures { OnOk result (Adds self.old self.new (In_stmt (Receive (bare_expression (expression_of c.now)) (bare_variable (variable_of variable.now))))) }
+        ensures { OnOk result (Adds self.old self.new
+            (In_stmt (Receive (bare_expression (expression_of c.now)) (bare_variable (variable_of variable.now))))) }
     {
         self.expression(c)?;
         self.target(variable)?;

@@ -23,7 +23,8 @@ fn add_rows(
 ) -> Result<(), Memory>
     requires nothing { (x : ℕ) → has nothing.now x ≡ false }
     requires small { length rows.now ≤ 2 ^ 32 }
-    ensures { OnOk result ((x : ℕ) → (has all.new x ≡ true) ↔ ((has all.old x ≡ true) ⊎ ((f : ℕ) × (has runs.now f ≡ true) × (member rows.now f x ≡ true)))) }
+    ensures { OnOk result ((x : ℕ) → (has all.new x ≡ true)
+        ↔ ((has all.old x ≡ true) ⊎ ((f : ℕ) × (has runs.now f ≡ true) × (member rows.now f x ≡ true)))) }
 {
     let mut from = 0u64;
     'calls: while from < 4_294_967_296 {
@@ -51,7 +52,8 @@ impl Walk {
     // Adds the set of this index.
     fn add_pooled(&self, all: &mut VarSet, index: u32, nothing: &VarSet) -> Result<(), Memory>
         requires nothing { (x : ℕ) → has nothing.now x ≡ false }
-        ensures { OnOk result ((x : ℕ) → (has all.new x ≡ true) ↔ ((has all.old x ≡ true) ⊎ (pooled self.now.pool index x ≡ true))) }
+        ensures { OnOk result ((x : ℕ) → (has all.new x ≡ true)
+            ↔ ((has all.old x ≡ true) ⊎ (pooled self.now.pool index x ≡ true))) }
     {
         if index == 0 {
             return Ok(());
@@ -71,7 +73,8 @@ impl Walk {
         requires nothing { (x : ℕ) → has nothing.now x ≡ false }
         requires small { length rows.now ≤ 2 ^ 32 }
         ensures { OnOk result ((x : ℕ) → (has all.new x ≡ true)
-            ↔ ((has all.old x ≡ true) ⊎ ((f : ℕ) × (pooled self.now.pool runs f ≡ true) × (member rows.now f x ≡ true)))) }
+            ↔ ((has all.old x ≡ true) ⊎ ((f : ℕ) × (pooled self.now.pool runs f ≡ true)
+            × (member rows.now f x ≡ true)))) }
     {
         if runs == 0 {
             return Ok(());
@@ -138,7 +141,8 @@ fn entry_of(
     requires within { (o : Own) → own ≡ Some o → IsWithin walk.old.pool o }
     ensures slots { walk.new.slots ≡ walk.old.slots }
     ensures pool { OnOk result (Extends walk.old.pool walk.new.pool) }
-    ensures entry { IfOk result (λ e. (o : Own) → own ≡ Some o → IsEntry walk.old.pool walk.new.pool o targets.now seen.now e) }
+    ensures entry { IfOk result (λ e. (o : Own) → own ≡ Some o
+        → IsEntry walk.old.pool walk.new.pool o targets.now seen.now e) }
 {
     match own {
         None => Ok(Entry {
@@ -165,7 +169,8 @@ pub(crate) fn statement_entries(
     requires within { AreWithin walk.old }
     requires targets { length targets.now ≤ 2 ^ 32 }
     requires seen { length seen.now ≤ 2 ^ 32 }
-    ensures { IfOk result (λ entries. AreEntries walk.old.pool walk.new.pool walk.old.slots targets.now seen.now entries (length walk.old.slots)) }
+    ensures { IfOk result (λ entries. AreEntries walk.old.pool walk.new.pool walk.old.slots targets.now seen.now entries
+        (length walk.old.slots)) }
 {
     let nothing = VarSet::new(walk.alloc);
     let mut entries = List::new(walk.alloc);
@@ -184,7 +189,8 @@ pub(crate) fn row_entries(
     seen: &[VarSet],
 ) -> Result<List<Entry>, Memory>
     requires { length seen.now ≡ length targets.now }
-    ensures { IfOk result (λ entries. AreRowEntries walk.old.pool walk.new.pool targets.now seen.now entries (length targets.now)) }
+    ensures { IfOk result (λ entries. AreRowEntries walk.old.pool walk.new.pool targets.now seen.now entries
+        (length targets.now)) }
 {
     let nothing = VarSet::new(walk.alloc);
     let mut entries = List::new(walk.alloc);

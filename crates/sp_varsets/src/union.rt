@@ -39,7 +39,8 @@ impl VarUnion {
 
     /// Whether the union and the set have a variable in common, of those in the union's window.
     pub fn meets(&self, set: &VarSet) -> bool
-        ensures { IsTrue result ↔ ((x : ℕ) × InWindow self.now.first x × (joined self.now x ≡ true) × (has set.now x ≡ true)) }
+        ensures { IsTrue result ↔ ((x : ℕ) × InWindow self.now.first x × (joined self.now x ≡ true)
+            × (has set.now x ≡ true)) }
     {
         let first = self.first as usize;
         let others = set.words.items();

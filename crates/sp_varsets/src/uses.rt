@@ -1,10 +1,13 @@
 //! What stands in expressions, variables and arguments: variables, and blocks that are called.
 
 ghost use Rattle.std.specs.Prelude.{◌≡◌, ℕ, false, OnOk, map};
-ghost use Rattle.sp_tree.specs.Bare.{bare_expression, bare_form, bare_variable, bare_selectors, bare_actuals, bare_width};
-ghost use Rattle.sp_tree.specs.CheckedOf.{expression_of, expression_form_of, variable_of, selector_of, selectors, actual_of, actuals, width_of};
+ghost use Rattle.sp_tree.specs.Bare.{bare_expression, bare_form, bare_variable, bare_selectors, bare_actuals};
+ghost use Rattle.sp_tree.specs.Bare.{bare_width};
+ghost use Rattle.sp_tree.specs.CheckedOf.{expression_of, expression_form_of, variable_of, selector_of, selectors};
+ghost use Rattle.sp_tree.specs.CheckedOf.{actual_of, actuals, width_of};
 ghost use Rattle.sp_tree.specs.Plain.{Actuals};
-ghost use Rattle.sp_tree.specs.Uses.{Target, Seen, CallOf, Stop, In_expr, In_form, In_read, In_target, In_selectors, In_actuals, In_width};
+ghost use Rattle.sp_tree.specs.Uses.{Target, Seen, CallOf, Stop, In_expr, In_form, In_read, In_target, In_selectors};
+ghost use Rattle.sp_tree.specs.Uses.{In_actuals, In_width};
 ghost use Rattle.sp_varsets.specs.Adds.{Adds, AreEmpty, AreUnions, IsWithout, In_selector, In_actual};
 ghost use Rattle.sp_varsets.specs.Members.{has};
 
@@ -131,7 +134,8 @@ impl Uses {
 
     #[cycle(uses)]
     fn selectors(&mut self, ss: &[Selector]) -> Result<(), Memory>
-        ensures { OnOk result (Adds self.old self.new (In_selectors (bare_selectors (selectors (map selector_of ss.now))))) }
+        ensures { OnOk result (Adds self.old self.new
+            (In_selectors (bare_selectors (selectors (map selector_of ss.now))))) }
     {
         for s in ss {
             self.selector(s)?;

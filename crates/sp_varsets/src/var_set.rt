@@ -1,6 +1,7 @@
 //! Sets of variables, as bits of words (`VarSet`).
 
-ghost use Rattle.std.specs.Prelude.{◌≡◌, ◌↔◌, ℕ, ◌+◌, ◌*◌, ◌^◌, ◌<◌, ◌≤◌, true, false, not, ◌||◌, ◌&&◌, ◌==◌, IsTrue, IfOk, OnOk, MatchOption, length, get_or};
+ghost use Rattle.std.specs.Prelude.{◌≡◌, ◌↔◌, ℕ, ◌+◌, ◌*◌, ◌^◌, ◌<◌, ◌≤◌, true, false, not, ◌||◌, ◌&&◌, ◌==◌, IsTrue};
+ghost use Rattle.std.specs.Prelude.{IfOk, OnOk, MatchOption, length, get_or};
 ghost use Rattle.sp_varsets.specs.Members.{has, IsNext};
 
 use sp_base::{List, Memory};
@@ -73,7 +74,8 @@ impl VarSet {
 
     /// The least variable of the set that is `from` or above.
     pub fn next(&self, from: u32) -> Option<u32>
-        ensures { MatchOption result ((x : ℕ) → from ≤ x → x < 2 ^ 32 → has self.now x ≡ false) (λ y. IsNext self.now from y) }
+        ensures { MatchOption result ((x : ℕ) → from ≤ x → x < 2 ^ 32 → has self.now x ≡ false)
+            (λ y. IsNext self.now from y) }
     {
         let at = (from / 64) as usize;
         if let Some(word) = self.words.get(at) {
@@ -87,7 +89,8 @@ impl VarSet {
 
     // The least variable that stands in a word after this one.
     fn next_after(&self, at: u32) -> Option<u32>
-        ensures { MatchOption result ((x : ℕ) → 64 * at + 64 ≤ x → x < 2 ^ 32 → has self.now x ≡ false) (λ y. IsNext self.now (64 * at + 64) y) }
+        ensures { MatchOption result ((x : ℕ) → 64 * at + 64 ≤ x → x < 2 ^ 32 → has self.now x ≡ false)
+            (λ y. IsNext self.now (64 * at + 64) y) }
     {
         let words = self.words.items();
         'words: for k in at as usize + 1..words.len() {
@@ -149,9 +152,11 @@ impl VarSet {
 
     // Puts in the variables of the other set but for the hidden ones, and says whether one of them is new.
     pub(crate) fn add(&mut self, other: &VarSet, hidden: &VarSet) -> Result<bool, Memory>
-        ensures added { OnOk result ((x : ℕ) → has self.new x ≡ has self.old x || (has other.now x && not (has hidden.now x))) }
+        ensures added { OnOk result ((x : ℕ)
+            → has self.new x ≡ has self.old x || (has other.now x && not (has hidden.now x))) }
         ensures same { IfOk result (λ changed. changed ≡ false → (x : ℕ) → has self.new x ≡ has self.old x) }
-        ensures changed { IfOk result (λ changed. changed ≡ true → (x : ℕ) × (has self.new x ≡ true) × (has self.old x ≡ false)) }
+        ensures changed { IfOk result (λ changed. changed ≡ true → (x : ℕ) × (has self.new x ≡ true)
+            × (has self.old x ≡ false)) }
     {
         let others = other.words.items();
         self.grow(others.len())?;

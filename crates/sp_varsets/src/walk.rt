@@ -3,7 +3,8 @@
 ghost use Rattle.std.specs.Prelude.{◌≡◌, ℕ, ◌+◌, ◌<◌, ◌≤◌, true, false, Some, OnOk, IfOk, map, length};
 ghost use Rattle.sp_base.specs.declared.place.Place.{Place as APlace};
 ghost use Rattle.sp_tree.specs.PlainChecked as c;
-ghost use Rattle.sp_tree.specs.CheckedOf.{expression_of, variable_of, statement_of, statement_form_of, statements, arm_of, arms, sends, receives};
+ghost use Rattle.sp_tree.specs.CheckedOf.{expression_of, variable_of, statement_of, statement_form_of, statements};
+ghost use Rattle.sp_tree.specs.CheckedOf.{arm_of, arms, sends, receives};
 ghost use Rattle.sp_tree.specs.Bare.{bare_expression};
 ghost use Rattle.sp_tree.specs.Uses.{In_expr};
 ghost use Rattle.sp_varsets.specs.declared.uses.Uses.{Uses as AUses};
@@ -103,7 +104,8 @@ impl Walk {
     // The same, with sets of the statement's own, which are empty.
     #[cycle(walk)]
     fn record(&mut self, into: &mut Uses, mine: &mut Uses, s: &Stmt) -> Result<(), Memory>
-        ensures { AreEmpty mine.old → OnOk result (WalksStatement self.old self.new into.old into.new (statement_of s.now)) }
+        ensures { AreEmpty mine.old → OnOk result
+            (WalksStatement self.old self.new into.old into.new (statement_of s.now)) }
     {
         self.form(mine, &s.form)?;
         into.merge(mine)?;
@@ -210,7 +212,8 @@ impl Walk {
         index: u32,
         s: &Stmt,
     ) -> Result<(), Memory>
-        ensures { AreEmpty inner.old → OnOk result (WalksElement self.old self.new into.old into.new index (statement_of s.now)) }
+        ensures { AreEmpty inner.old → OnOk result
+            (WalksElement self.old self.new into.old into.new index (statement_of s.now)) }
     {
         self.statement(inner, s)?;
         inner.forget(index);
@@ -219,7 +222,8 @@ impl Walk {
 
     #[cycle(walk)]
     fn statements(&mut self, into: &mut Uses, ss: &[Stmt]) -> Result<(), Memory>
-        ensures { OnOk result (WalksStatements self.old self.new into.old into.new (statements (map statement_of ss.now))) }
+        ensures { OnOk result (WalksStatements self.old self.new into.old into.new
+            (statements (map statement_of ss.now))) }
     {
         for s in ss {
             self.statement(into, s)?;
@@ -263,8 +267,10 @@ impl Walk {
         through: &Uses,
         values: &[Expr],
     ) -> Result<(), Memory>
-        ensures { OnOk result ((channel : c.Expression) (start : AUses) → AreEmpty start → Adds start through.now (In_expr (bare_expression channel))
-            → WalksStatements self.old self.new into.old into.new (sends number at channel (map expression_of values.now))) }
+        ensures { OnOk result ((channel : c.Expression) (start : AUses) → AreEmpty start
+            → Adds start through.now (In_expr (bare_expression channel))
+            → WalksStatements self.old self.new into.old into.new
+            (sends number at channel (map expression_of values.now))) }
     {
         for (i, value) in values.iter().enumerate() {
             self.send(into, number_from(number, i)?, through, value)?;
@@ -280,8 +286,10 @@ impl Walk {
         through: &Uses,
         value: &Expr,
     ) -> Result<(), Memory>
-        ensures { OnOk result ((at : APlace) (channel : c.Expression) (start : AUses) → AreEmpty start → Adds start through.now (In_expr (bare_expression channel))
-            → WalksStatement self.old self.new into.old into.new (c.Does number at (c.Send channel (expression_of value.now)))) }
+        ensures { OnOk result ((at : APlace) (channel : c.Expression) (start : AUses) → AreEmpty start
+            → Adds start through.now (In_expr (bare_expression channel))
+            → WalksStatement self.old self.new into.old into.new
+            (c.Does number at (c.Send channel (expression_of value.now)))) }
     {
         let mut mine = Uses::new(self.alloc);
         self.sent(into, &mut mine, number, through, value)
@@ -296,8 +304,11 @@ impl Walk {
         through: &Uses,
         value: &Expr,
     ) -> Result<(), Memory>
-        ensures { AreEmpty mine.old → OnOk result ((at : APlace) (channel : c.Expression) (start : AUses) → AreEmpty start → Adds start through.now (In_expr (bare_expression channel))
-            → WalksStatement self.old self.new into.old into.new (c.Does number at (c.Send channel (expression_of value.now)))) }
+        ensures { AreEmpty mine.old → OnOk result
+            ((at : APlace) (channel : c.Expression) (start : AUses) → AreEmpty start
+            → Adds start through.now (In_expr (bare_expression channel))
+            → WalksStatement self.old self.new into.old into.new
+            (c.Does number at (c.Send channel (expression_of value.now)))) }
     {
         mine.send_through(through, value)?;
         into.merge(mine)?;
@@ -330,8 +341,10 @@ impl Walk {
         through: &Uses,
         variables: &[Var],
     ) -> Result<(), Memory>
-        ensures { OnOk result ((channel : c.Expression) (start : AUses) → AreEmpty start → Adds start through.now (In_expr (bare_expression channel))
-            → WalksStatements self.old self.new into.old into.new (receives number at channel (map variable_of variables.now))) }
+        ensures { OnOk result ((channel : c.Expression) (start : AUses) → AreEmpty start
+            → Adds start through.now (In_expr (bare_expression channel))
+            → WalksStatements self.old self.new into.old into.new
+            (receives number at channel (map variable_of variables.now))) }
     {
         for (i, variable) in variables.iter().enumerate() {
             self.receive(into, number_from(number, i)?, through, variable)?;
@@ -347,8 +360,10 @@ impl Walk {
         through: &Uses,
         variable: &Var,
     ) -> Result<(), Memory>
-        ensures { OnOk result ((at : APlace) (channel : c.Expression) (start : AUses) → AreEmpty start → Adds start through.now (In_expr (bare_expression channel))
-            → WalksStatement self.old self.new into.old into.new (c.Does number at (c.Receive channel (variable_of variable.now)))) }
+        ensures { OnOk result ((at : APlace) (channel : c.Expression) (start : AUses) → AreEmpty start
+            → Adds start through.now (In_expr (bare_expression channel))
+            → WalksStatement self.old self.new into.old into.new
+            (c.Does number at (c.Receive channel (variable_of variable.now)))) }
     {
         let mut mine = Uses::new(self.alloc);
         self.received(into, &mut mine, number, through, variable)
@@ -363,8 +378,11 @@ impl Walk {
         through: &Uses,
         variable: &Var,
     ) -> Result<(), Memory>
-        ensures { AreEmpty mine.old → OnOk result ((at : APlace) (channel : c.Expression) (start : AUses) → AreEmpty start → Adds start through.now (In_expr (bare_expression channel))
-            → WalksStatement self.old self.new into.old into.new (c.Does number at (c.Receive channel (variable_of variable.now)))) }
+        ensures { AreEmpty mine.old → OnOk result
+            ((at : APlace) (channel : c.Expression) (start : AUses) → AreEmpty start
+            → Adds start through.now (In_expr (bare_expression channel))
+            → WalksStatement self.old self.new into.old into.new
+            (c.Does number at (c.Receive channel (variable_of variable.now)))) }
     {
         mine.receive_through(through, variable)?;
         into.merge(mine)?;

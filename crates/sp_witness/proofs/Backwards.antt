@@ -1,5 +1,7 @@
 -- The passes of the code over the entries of a run, entry by entry.
-use Rattle.std.proofs.Common.{◌≡◌, ◌≢◌, ◌⊎◌, inl, inr, ⊎_elim, ℕ, zero, suc, ◌+◌, ◌<◌, ◌≤◌, Bool, true, false, cond, ◌&&◌, ◌||◌, ◌==◌, List, [], ◌∷◌, ◌++◌, length, length-append, ◌^◌, get_or, take, drop, reverse, append_assoc, Option, Some, None, slice_get, refl, sym, ap, ◌∙◌, subst, arith}
+use Rattle.std.proofs.Common.{◌≡◌, ◌≢◌, ◌⊎◌, inl, inr, ⊎_elim, ℕ, zero, suc, ◌+◌, ◌<◌, ◌≤◌, Bool, true, false, cond}
+use Rattle.std.proofs.Common.{◌&&◌, ◌||◌, ◌==◌, List, [], ◌∷◌, ◌++◌, length, length-append, ◌^◌, get_or, take, drop}
+use Rattle.std.proofs.Common.{reverse, append_assoc, Option, Some, None, slice_get, refl, sym, ap, ◌∙◌, subst, arith}
 use Rattle.std.proofs.lemmas.List.{take_more, take-append-drop, reverse-append}
 use Rattle.std.proofs.lemmas.Bool.{cases_eq, ne_eqb}
 use Rattle.std.proofs.lemmas.Option.{slice_get-get_or, get_or_from_slice_get, none-some, same_Some}
@@ -9,12 +11,15 @@ use Rattle.sp_journal.specs.declared.entry.Entry.{Entry}
 use Rattle.sp_journal.specs.declared.entry.Event.{Event}
 use Rattle.sp_journal.specs.declared.entry.Event.TheVariants as event
 use Rattle.sp_journal.specs.Maps.{at_key}
-use Rattle.sp_journal.specs.Births.{Births, at_start, births, births_from, after_entry, after_event, CanFollow, GivesNumbers, NameableFrom}
+use Rattle.sp_journal.specs.Births.{Births, at_start, births, births_from, after_entry, after_event, CanFollow}
+use Rattle.sp_journal.specs.Births.{GivesNumbers, NameableFrom}
 use Rattle.sp_journal.proofs.Facts.{here, same}
 use Rattle.sp_journal.proofs.BirthLaws.{Lawful, lawful}
 use Rattle.sp_journal.proofs.Walk.{left_is, more_births, can_follow, births_parts, birth_stays, any_entry}
-use Rattle.sp_witness.specs.Flags.{any_flag, parent_flag, flags_to_meet, flags_before, flags, marks, lines_after, partner_of}
-use Rattle.sp_witness.specs.Passes.{lines_from, lines_of, IsFront, IsMark, AreFirstPartners, partner_flag, own_flag, with_flag, with_partner}
+use Rattle.sp_witness.specs.Flags.{any_flag, parent_flag, flags_to_meet, flags_before, flags, marks, lines_after}
+use Rattle.sp_witness.specs.Flags.{partner_of}
+use Rattle.sp_witness.specs.Passes.{lines_from, lines_of, IsFront, IsMark, AreFirstPartners, partner_flag, own_flag}
+use Rattle.sp_witness.specs.Passes.{with_flag, with_partner}
 
 lines_last : (lines : ℕ → Option ℕ) (es : List Entry) (e : Entry)
     → lines_from lines (es ++ e ∷ []) ≡ lines_after (lines_from lines es) e.process e.event

@@ -1,11 +1,14 @@
 -- What the two offers of a witness meet: the earlier one finds nothing pending and waits, and the later one contends.
-use Rattle.std.proofs.Common.{◌≡◌, ◌≢◌, ◌⊎◌, ⊎_elim, ℕ, Bool, true, cond, List, [], ◌∷◌, Option, Some, None, refl, sym, ap, ◌∙◌, subst}
+use Rattle.std.proofs.Common.{◌≡◌, ◌≢◌, ◌⊎◌, ⊎_elim, ℕ, Bool, true, cond, List, [], ◌∷◌, Option, Some, None, refl, sym}
+use Rattle.std.proofs.Common.{ap, ◌∙◌, subst}
 use Rattle.std.proofs.lemmas.Option.{none-some, same_Some}
 use Rattle.sp_base.specs.declared.fault.Fault.TheVariants as fault
 use Rattle.sp_journal.specs.declared.entry.Way.{Way}
 use Rattle.sp_journal.specs.declared.entry.Way.TheVariants as way
-use Rattle.sp_meaning.specs.Model.{Name, Channel, same_channel, Totals, Language, Moves, Opens, Forks, Offering, Ends, Fails, Cargo, Message, Takes, Waits, Faults, changed, after}
-use Rattle.sp_meaning.specs.Steps.{ActOf, OfferOf, Advances, Faulty, way_of, message, an_entry, meets, hands, offered, acts, passed, unless, outcome, result_of, step_with}
+use Rattle.sp_meaning.specs.Model.{Name, Channel, same_channel, Totals, Language, Moves, Opens, Forks, Offering, Ends}
+use Rattle.sp_meaning.specs.Model.{Fails, Cargo, Message, Takes, Waits, Faults, changed, after}
+use Rattle.sp_meaning.specs.Steps.{ActOf, OfferOf, Advances, Faulty, way_of, message, an_entry, meets, hands, offered}
+use Rattle.sp_meaning.specs.Steps.{acts, passed, unless, outcome, result_of, step_with}
 use Rattle.sp_meaning.specs.Own.{Setting, Process}
 use Rattle.sp_meaning.specs.SuperPascal.{superpascal}
 use Rattle.sp_meaning.specs.Entries.{Opened, Forked, Offered, Faulted}
@@ -77,7 +80,8 @@ module _ (g : Setting) (label : ℕ → Option Event) where
     act = L.next does.good.makes.own s.state.store
 
     pub act_is : act ≡ x.act
-    act_is = ap (λ o. L.next o s.state.store) (same_Some _ _ (sym does.good.makes.works ∙ does.fits.works)) ∙ does.fits.act_is
+    act_is = ap (λ o. L.next o s.state.store) (same_Some _ _ (sym does.good.makes.works ∙ does.fits.works))
+        ∙ does.fits.act_is
 
     pub local_pending : IsLocal x.act → (c : Channel) → m.state.pending c ≡ s.state.pending c
     local_pending loc c = ap (λ (z : StateOf g). z.pending c) does.good.to
@@ -159,7 +163,8 @@ module _ (g : Setting) (label : ℕ → Option Event) where
                   let here : at_channel (Some h.who) ≡ Some z = ap (λ ds. (after ds s.state).pending c) (sym list)
                   ∙ made in
                   let who : h.who ≡ z =
-                  same_Some _ _ (sym (ap (λ b. cond b (Some h.who) (s.state.pending c)) ((channel_test o.channel c).1 on))
+                  same_Some _ _ (sym (ap (λ b. cond b (Some h.who) (s.state.pending c))
+                  ((channel_test o.channel c).1 on))
                   ∙ here) in
                   let notes_are : m.notes ≡ s.notes = does.good.noted ∙ ap (λ a. notes_after s.state s.notes h.who a) is
                   ∙ ap (λ p. all_noted (offer_notes s.notes h.who o.channel (way_of o.cargo) p) s.notes) pe in

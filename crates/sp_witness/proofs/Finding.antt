@@ -1,5 +1,6 @@
 -- The numbers of a nameable journal are found again by its names.
-use Rattle.std.proofs.Common.{◌≡◌, ◌≢◌, ℕ, zero, suc, ◌<◌, ◌≤◌, Bool, true, false, cond, ◌==◌, List, [], ◌∷◌, length, take, Option, Some, None, slice_get, map, eqb-true, eq-eqb, refl, sym, ap, ◌∙◌, arith}
+use Rattle.std.proofs.Common.{◌≡◌, ◌≢◌, ℕ, zero, suc, ◌<◌, ◌≤◌, Bool, true, false, cond, ◌==◌, List, [], ◌∷◌, length}
+use Rattle.std.proofs.Common.{take, Option, Some, None, slice_get, map, eqb-true, eq-eqb, refl, sym, ap, ◌∙◌, arith}
 use Rattle.std.proofs.lemmas.Bool.{true≢false}
 use Rattle.std.proofs.lemmas.Option.{slice_get_within}
 use Rattle.sp_base.proofs.Facts.{length_of_map}
@@ -7,7 +8,8 @@ use Rattle.sp_journal.specs.declared.entry.Event.{Event}
 use Rattle.sp_journal.specs.declared.entry.Event.TheVariants as event
 use Rattle.sp_journal.specs.declared.entry.Entry.{Entry}
 use Rattle.sp_journal.specs.Names.{same_name, same_channel}
-use Rattle.sp_journal.specs.Births.{Births, at_start, after_entry, births, channel, CanFollow, GivesNumbers, NameableFrom, happening, occurrence, occurrences_from}
+use Rattle.sp_journal.specs.Births.{Births, at_start, after_entry, births, channel, CanFollow, GivesNumbers}
+use Rattle.sp_journal.specs.Births.{NameableFrom, happening, occurrence, occurrences_from}
 use Rattle.sp_journal.proofs.BirthLaws.{Lawful, lawful_start, lawful_after}
 use Rattle.sp_meaning.specs.Along.{IsClean}
 use Rattle.sp_past.specs.Prefixes.{IsQuiet}

@@ -1,5 +1,7 @@
 -- The pass by numbers picks what the pass by names takes.
-use Rattle.std.proofs.Common.{◌≡◌, ℕ, zero, suc, ◌+◌, ◌<◌, ◌≤◌, Bool, true, false, cond, ◌&&◌, ◌||◌, ◌==◌, List, [], ◌∷◌, ◌++◌, map, take, drop, Option, Some, None, slice_get, refl, sym, ap, ◌∙◌, subst, arith}
+use Rattle.std.proofs.Common.{◌≡◌, ℕ, zero, suc, ◌+◌, ◌<◌, ◌≤◌, Bool, true, false, cond, ◌&&◌, ◌||◌, ◌==◌, List, []}
+use Rattle.std.proofs.Common.{◌∷◌, ◌++◌, map, take, drop, Option, Some, None, slice_get, refl, sym, ap, ◌∙◌, subst}
+use Rattle.std.proofs.Common.{arith}
 use Rattle.std.proofs.lemmas.List.{take-append-drop}
 use Rattle.std.proofs.lemmas.Option.{none-some}
 use Rattle.sp_journal.specs.declared.entry.Event.{Event}
@@ -8,14 +10,16 @@ use Rattle.sp_journal.specs.declared.entry.Entry.{Entry}
 use Rattle.sp_journal.specs.declared.entry.Birth.{Birth}
 use Rattle.sp_journal.specs.Maps.{at_key}
 use Rattle.sp_journal.specs.Names.{Name, Channel, same_name, Occurrence}
-use Rattle.sp_journal.specs.Births.{Births, at_start, after_event, after_entry, births_from, births, channel, CanFollow, GivesNumbers, NameableFrom, happening, occurrence, occurrences_from}
+use Rattle.sp_journal.specs.Births.{Births, at_start, after_event, after_entry, births_from, births, channel, CanFollow}
+use Rattle.sp_journal.specs.Births.{GivesNumbers, NameableFrom, happening, occurrence, occurrences_from}
 use Rattle.sp_journal.specs.Past.{Judged, judged_by, met_now, nothing_judged}
 use Rattle.sp_journal.proofs.BirthLaws.{Lawful, lawful, parent_older, name_by_birth, name_of_root}
 use Rattle.sp_journal.proofs.Walk.{birth_stays}
 use Rattle.sp_judge.proofs.Numbers.{Stays, stays, same_process, same_chan, children_named, all_named}
 use Rattle.sp_witness.specs.Witness.{who_of, who_at}
 use Rattle.sp_witness.specs.Needed.{any_child, parent_is, needed_to_meet, needed_before, needed, taken, needed_marks}
-use Rattle.sp_witness.specs.Flags.{any_flag, parent_flag, flags_to_meet, flags_before, line_by, lines_after, flags, picked, picks, marks}
+use Rattle.sp_witness.specs.Flags.{any_flag, parent_flag, flags_to_meet, flags_before, line_by, lines_after, flags}
+use Rattle.sp_witness.specs.Flags.{picked, picks, marks}
 
 -- who waits, by number and by name
 abbrev Matches : Births → Option ℕ → Option (Name × ℕ) → Type 0
@@ -63,7 +67,8 @@ module _ (t : Births) (law : Lawful t) where
       same b.parent (omega (arith, l, there)) ∙ sym (ap (parent_is H) (name_by_birth t law p there b (sym e)))
 
   -- one entry
-  module _ (s : Births) (e : Entry) (es : List Entry) (whole : births_from s (e ∷ es) ≡ t) (f : CanFollow s e) (lines : ℕ → Option ℕ) (j : Judged)
+  module _ (s : Births) (e : Entry) (es : List Entry) (whole : births_from s (e ∷ es) ≡ t) (f : CanFollow s e)
+      (lines : ℕ → Option ℕ) (j : Judged)
       (forks : (p : ℕ) → p < t.processes → j.forks (t.name p) ≡ s.forks p) (waits : (c : ℕ) → c < t.channels
       → Matches t (lines c) (j.pending (channel t c))) where
     stay : Stays s t
@@ -174,7 +179,8 @@ module _ (t : Births) (law : Lawful t) where
         by event.Pause given = waits d k
 
   -- the whole pass
-  module _ (os : List Occurrence) (earlier later last : ℕ) (inside : last < t.processes) (last_is : t.name last ≡ who_at os later) where
+  module _ (os : List Occurrence) (earlier later last : ℕ) (inside : last < t.processes)
+      (last_is : t.name last ≡ who_at os later) where
     record Agree (s : Births) (lines : ℕ → Option ℕ) (j : Judged) (n : ℕ) (es : List Entry) : Type 0 where
       same : Same (flags earlier last s lines n es) (needed os earlier later j n (map (occurrence t) es))
       picks_same : map (occurrence t) (picked earlier last s lines n es)

@@ -1,6 +1,8 @@
 -- A good step leaves what another running process does next, and what it knows; and who can step only after it has
 -- learned of it.
-use Rattle.std.proofs.Common.{◌≡◌, ◌≢◌, ◌⊎◌, ⊎_elim, inl, inr, ℕ, zero, suc, ◌+◌, ◌<◌, ◌≤◌, Bool, true, false, cond, ◌||◌, ◌==◌, List, [], ◌∷◌, ◌++◌, length, Option, Some, None, nat_lt, refl, sym, ap, ◌∙◌, subst, arith}
+use Rattle.std.proofs.Common.{◌≡◌, ◌≢◌, ◌⊎◌, ⊎_elim, inl, inr, ℕ, zero, suc, ◌+◌, ◌<◌, ◌≤◌, Bool, true, false, cond}
+use Rattle.std.proofs.Common.{◌||◌, ◌==◌, List, [], ◌∷◌, ◌++◌, length, Option, Some, None, nat_lt, refl, sym, ap, ◌∙◌}
+use Rattle.std.proofs.Common.{subst, arith}
 use Rattle.std.proofs.Common.{zero-add}
 use Rattle.std.proofs.lemmas.Bool.{false≢true, or_left, or_right}
 use Rattle.std.proofs.lemmas.Option.{none-some, same_Some}
@@ -8,8 +10,11 @@ use Rattle.sp_base.specs.declared.fault.Fault.TheVariants as fault
 use Rattle.sp_base.proofs.Facts.{nil_is_not_cons}
 use Rattle.sp_meaning.specs.Maps.{at_key}
 use Rattle.sp_meaning.specs.Asking.{Asking, Done, Loads, Puts, Asks, and_then}
-use Rattle.sp_meaning.specs.Model.{Name, Channel, same_name, Totals, Language, Act, Moves, Opens, Forks, Offering, Ends, Fails, Absent, Works, Waits, Joins, Ended, State, Change, Becomes, changed, after}
-use Rattle.sp_meaning.specs.Steps.{ActOf, OfferOf, ConditionOf, has_ended, working, Outcome, Advances, Faulty, puts, births, way_of, message, meeting, hands, meets, offered, acts, outcome, result_of, step_with, step, Quiet, Sound}
+use Rattle.sp_meaning.specs.Model.{Name, Channel, same_name, Totals, Language, Act, Moves, Opens, Forks, Offering, Ends}
+use Rattle.sp_meaning.specs.Model.{Fails, Absent, Works, Waits, Joins, Ended, State, Change, Becomes, changed, after}
+use Rattle.sp_meaning.specs.Steps.{ActOf, OfferOf, ConditionOf, has_ended, working, Outcome, Advances, Faulty, puts}
+use Rattle.sp_meaning.specs.Steps.{births, way_of, message, meeting, hands, meets, offered, acts, outcome, result_of}
+use Rattle.sp_meaning.specs.Steps.{step_with, step, Quiet, Sound}
 use Rattle.sp_meaning.specs.Disjoint.{WritesIn, AccessesIn}
 use Rattle.sp_meaning.specs.Own.{Setting, Loc, Process, same_loc}
 use Rattle.sp_meaning.specs.SuperPascal.{superpascal, deed_of, is_beat, beats}
@@ -21,10 +26,12 @@ use Rattle.sp_meaning.proofs.Instance.{loc_test, superpascal_keeps}
 use Rattle.sp_meaning.proofs.Frames.{IsOn, WritesTo, IsPartner, IsChild, IsNear, all_in, condition_frame, store_frame}
 use Rattle.sp_meaning.proofs.Status.{Makes, waits_stands, Stands, working_stands, working_same, far, keeps_working}
 use Rattle.sp_meaning.proofs.Parallel.{parallel}
-use Rattle.sp_race.specs.Notes.{Event, both, Notes, Note, Counts, Learns, Records, noted, all_noted, mine, knows, same_event, teaches, tells, other_way, offer_notes, notes_of}
+use Rattle.sp_race.specs.Notes.{Event, both, Notes, Note, Counts, Learns, Records, noted, all_noted, mine, knows}
+use Rattle.sp_race.specs.Notes.{same_event, teaches, tells, other_way, offer_notes, notes_of}
 use Rattle.sp_race.specs.Noting.{WithNotes}
 use Rattle.sp_race.proofs.NotesFrames.{event_test}
-use Rattle.sp_race.proofs.GoodSteps.{GoodStep, steps, quiet_after, leads_on, happens_later, TakesPart, writer, part_alone, events_kept, past_kept}
+use Rattle.sp_race.proofs.GoodSteps.{GoodStep, steps, quiet_after, leads_on, happens_later, TakesPart, writer}
+use Rattle.sp_race.proofs.GoodSteps.{part_alone, events_kept, past_kept}
 
 -- what a computation asks, it asks with another one after it
 asks_then : {Loc Value A B : Type 0} (same : Loc → Loc → Bool) (t : Asking Loc Value A) (f : A → Asking Loc Value B)
@@ -199,7 +206,8 @@ near_learns {L} s n p a q apart near =
     child (Fails f) h = absurd h
 
 -- who runs after another's step ran before it, or has learned of it
-module _ {L : Language} {limits : Totals} (s : State L) (n : Notes) (p : Name) (cs : List (Change L)) (sound : Sound s) (one : Makes limits s p cs) where
+module _ {L : Language} {limits : Totals} (s : State L) (n : Notes) (p : Name) (cs : List (Change L)) (sound : Sound s)
+    (one : Makes limits s p cs) where
   abbrev act : ActOf L
   act = L.next one.own s.store
 
@@ -333,7 +341,8 @@ module _ (g : Setting) (disjoint : IsDisjointRun g) where
     pub past : k.notes.past q ≡ j.notes.past q
     pub events : k.notes.events q ≡ j.notes.events q
 
-  module _ (j : WithNotes L) (p : Name) (k : WithNotes L) (x : GoodStep (most g) (start g) j p k) (q : Name) (own : Process) (apart : q ≢ p) (w : working j.state q ≡ Some own) where
+  module _ (j : WithNotes L) (p : Name) (k : WithNotes L) (x : GoodStep (most g) (start g) j p k) (q : Name)
+      (own : Process) (apart : q ≢ p) (w : working j.state q ≡ Some own) where
     still : working k.state q ≡ Some own
     still = subst (λ (z : StateOf g). working z q ≡ Some own) (sym x.to)
         (keeps_working j.state p x.cs x.sound x.makes q own apart w)

@@ -1,5 +1,6 @@
 -- Numbering by tables gives the entries of a nameable journal with the same names.
-use Rattle.std.proofs.Common.{◌≡◌, ◌≢◌, ⊎_elim, ℕ, ◌+◌, ◌-◌, ◌<◌, ◌≤◌, Bool, true, false, cond, ◌==◌, List, [], ◌∷◌, ◌++◌, map, eqb-true, eq-eqb, refl, sym, ap, ◌∙◌, subst, arith}
+use Rattle.std.proofs.Common.{◌≡◌, ◌≢◌, ⊎_elim, ℕ, ◌+◌, ◌-◌, ◌<◌, ◌≤◌, Bool, true, false, cond, ◌==◌, List, [], ◌∷◌}
+use Rattle.std.proofs.Common.{◌++◌, map, eqb-true, eq-eqb, refl, sym, ap, ◌∙◌, subst, arith}
 use Rattle.std.proofs.lemmas.Bool.{cases_lt, eqb-false, true≢false}
 use Rattle.sp_base.proofs.Facts.{cons_is_not_nil, nil_is_not_cons, same_head, same_tail}
 use Rattle.sp_journal.specs.declared.entry.Event.{Event}
@@ -8,11 +9,13 @@ use Rattle.sp_journal.specs.declared.entry.Entry.{Entry}
 use Rattle.sp_journal.specs.declared.entry.Way.TheVariants as way
 use Rattle.sp_journal.specs.Maps.{at_key}
 use Rattle.sp_journal.specs.Names.{Channel, Forked, Offered, Faulted, Occurrence}
-use Rattle.sp_journal.specs.Births.{Births, after_event, after_entry, births_from, channel, CanFollow, GivesNumbers, NameableFrom, happening, occurrence, occurrences_from}
+use Rattle.sp_journal.specs.Births.{Births, after_event, after_entry, births_from, channel, CanFollow, GivesNumbers}
+use Rattle.sp_journal.specs.Births.{NameableFrom, happening, occurrence, occurrences_from}
 use Rattle.sp_journal.proofs.Facts.{below, between}
 use Rattle.sp_journal.proofs.BirthLaws.{Lawful, lawful_after}
 use Rattle.sp_judge.proofs.Numbers.{Stays, stays, one_channel, channel_stays, children_named}
-use Rattle.sp_witness.specs.Moved.{IsPlain, Table, moved_event, moved_entry, table_after, selected, moved, table_of, IsOwnFront}
+use Rattle.sp_witness.specs.Moved.{IsPlain, Table, moved_event, moved_entry, table_after, selected, moved, table_of}
+use Rattle.sp_witness.specs.Moved.{IsOwnFront}
 
 -- who is not there yet has made nothing
 abbrev pub IsBlank : Births → Type 0
@@ -57,7 +60,8 @@ ArePlain s (e ∷ es) = CanFollow s e × IsPlain e.event × ArePlain s es
 
 module _ (t : Births) (law : Lawful t) where
   -- a new entry with the name of an old one has its moved numbers
-  module _ (s s' : Births) (m : Table) (dirty : ℕ → Bool) (f : Follows t s s' m dirty) (stay : Stays s t) (e e' : Entry) (can : CanFollow s e) (can' : CanFollow s' e') (same : occurrence s' e' ≡ occurrence t e) where
+  module _ (s s' : Births) (m : Table) (dirty : ℕ → Bool) (f : Follows t s s' m dirty) (stay : Stays s t) (e e' : Entry)
+      (can : CanFollow s e) (can' : CanFollow s' e') (same : occurrence s' e' ≡ occurrence t e) where
     there : e.process < t.processes
     there = let a = can.0 in let b = stay.processes in omega (arith, a, b)
 
@@ -176,7 +180,8 @@ module _ (t : Births) (law : Lawful t) where
         by event.Pause = (refl, refl)
 
   -- an entry that is not picked
-  module _ (s s' : Births) (m : Table) (dirty : ℕ → Bool) (f : Follows t s s' m dirty) (e : Entry) (can : CanFollow s e) (after : Stays (after_entry s e) t) where
+  module _ (s s' : Births) (m : Table) (dirty : ℕ → Bool) (f : Follows t s s' m dirty) (e : Entry) (can : CanFollow s e)
+      (after : Stays (after_entry s e) t) where
     more : Stays s (after_entry s e)
     more = stays s (e ∷ [])
 
@@ -213,7 +218,9 @@ module _ (t : Births) (law : Lawful t) where
             by false i h = (λ g. absurd (true≢false (sym (eq-eqb e.process q (sym g)) ∙ i)), h)
 
   -- an entry that is picked
-  module _ (s s' : Births) (m : Table) (dirty : ℕ → Bool) (f : Follows t s s' m dirty) (stay : Stays s t) (e : Entry) (can : CanFollow s e) (after : Stays (after_entry s e) t) (can' : CanFollow s' (moved_entry m e)) (name_same : t.name e.process ≡ s'.name (m.process e.process)) (clean : dirty e.process ≡ false) where
+  module _ (s s' : Births) (m : Table) (dirty : ℕ → Bool) (f : Follows t s s' m dirty) (stay : Stays s t) (e : Entry)
+      (can : CanFollow s e) (after : Stays (after_entry s e) t) (can' : CanFollow s' (moved_entry m e))
+      (name_same : t.name e.process ≡ s'.name (m.process e.process)) (clean : dirty e.process ≡ false) where
     abbrev e' : Entry
     e' = moved_entry m e
 
@@ -392,7 +399,8 @@ module _ (t : Births) (law : Lawful t) where
                   s'.name (cond (here' i) (record { owner = e'.process; nth = s'.opens e'.process })
                   (s'.opening s'.channels)).owner;
               nth =
-                  (cond (here' i) (record { owner = e'.process; nth = s'.opens e'.process }) (s'.opening s'.channels)).nth;
+                  (cond (here' i) (record { owner = e'.process; nth = s'.opens e'.process })
+                  (s'.opening s'.channels)).nth;
             }) in
             let same : channel t s.channels ≡ channel (after_event s' e'.process event.Open) s'.channels =
             sym (channel_stays (after_event s e.process event.Open) t law1 st s.channels (omega arith)) ∙ one
@@ -510,7 +518,8 @@ module _ (t : Births) (law : Lawful t) where
         by_own : (b : Bool) → q == e.process ≡ b → (s1'.forks r ≡ s1.forks q) × (s1'.opens r ≡ s1.opens q)
         by_own true h =
             let q_is : q ≡ e.process = eqb-true q e.process h in
-            let r_is : r ≡ e'.process = law_new.one_name r e'.process k p'_in (sym is ∙ ap t.name q_is ∙ name_after) in (
+            let r_is : r ≡ e'.process =
+            law_new.one_name r e'.process k p'_in (sym is ∙ ap t.name q_is ∙ name_after) in (
               ap s1'.forks r_is ∙ own_made.0 ∙ ap s1.forks (sym q_is),
               ap s1'.opens r_is ∙ own_made.1
                   ∙ ap s1.opens (sym q_is),

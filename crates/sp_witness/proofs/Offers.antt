@@ -43,8 +43,10 @@ pub offers_there : (j : Journal) (w : Way) (c : Channel) (earlier later : ℕ) �
     × IfSome (slice_get j.entries earlier) (λ e. IsPlain e.event)
 offers_there j w c earlier later race =
     let a = entry_at at_start j.entries earlier (record { who = race.first; what = Offered w c }) race.offered_first in
-    let b = entry_at at_start j.entries later (record { who = race.second; what = Offered w c }) race.offered_second in (
+    let b =
+    entry_at at_start j.entries later (record { who = race.second; what = Offered w c }) race.offered_second in (
       race.before,
       slice_get_within j.entries later b.entry b.got,
-      subst (λ o. IfSome o (λ (e : Entry). IsPlain e.event)) (sym a.got) (plain_offer a.births a.entry.event w c a.says),
+      subst (λ o. IfSome o (λ (e : Entry). IsPlain e.event)) (sym a.got)
+          (plain_offer a.births a.entry.event w c a.says),
     )

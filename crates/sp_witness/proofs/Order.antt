@@ -1,9 +1,11 @@
 -- Before the later offer of the least race a journal is in order.
-use Rattle.std.proofs.Common.{◌≡◌, ⊎_elim, ℕ, zero, suc, ◌+◌, ◌<◌, ◌≤◌, Bool, true, false, List, [], ◌∷◌, ◌++◌, length, take, take_at, Option, Some, None, slice_get, refl, sym, ap, ◌∙◌, subst, arith}
+use Rattle.std.proofs.Common.{◌≡◌, ⊎_elim, ℕ, zero, suc, ◌+◌, ◌<◌, ◌≤◌, Bool, true, false, List, [], ◌∷◌, ◌++◌, length}
+use Rattle.std.proofs.Common.{take, take_at, Option, Some, None, slice_get, refl, sym, ap, ◌∙◌, subst, arith}
 use Rattle.std.proofs.lemmas.Bool.{true≢false}
 use Rattle.std.proofs.lemmas.Option.{none-some, same_Some, slice_get_within}
 use Rattle.sp_journal.specs.declared.entry.Way.{Way}
-use Rattle.sp_journal.specs.Names.{Name, Channel, Happening, Opened, Forked, Offered, Ended, Faulted, Laid, Paused, Occurrence}
+use Rattle.sp_journal.specs.Names.{Name, Channel, Happening, Opened, Forked, Offered, Ended, Faulted, Laid, Paused}
+use Rattle.sp_journal.specs.Names.{Occurrence}
 use Rattle.sp_journal.specs.Past.{Judged, judged_by, judged, nothing_judged, KnowsCompletions, CompletedFrom}
 use Rattle.sp_race.specs.Known.{AreKnown}
 use Rattle.sp_race.proofs.Completion.{ordered_known}
@@ -21,7 +23,8 @@ pub get_at : (xs : List Occurrence) (e : Occurrence) (ys : List Occurrence) (n :
 get_at [] e ys n h = subst (λ z. slice_get (e ∷ ys) z ≡ Some e) h refl
 get_at (x ∷ xs) e ys n h = subst (λ z. slice_get (x ∷ (xs ++ e ∷ ys)) z ≡ Some e) h (get_at xs e ys (length xs) refl)
 
-module _ (es : List Occurrence) (w : Way) (c : Channel) (earlier later : ℕ) (least : IsLeastRace es w c earlier later) where
+module _ (es : List Occurrence) (w : Way) (c : Channel) (earlier later : ℕ)
+    (least : IsLeastRace es w c earlier later) where
   ordered_from : (done mid tail : List Occurrence) (j : Judged) (n : ℕ) → Stage es done (mid ++ tail) j n
       → n + length mid ≤ later → CompletedFrom j done mid
   ordered_from done [] tail j n st le = tt
@@ -63,7 +66,8 @@ module _ (es : List Occurrence) (w : Way) (c : Channel) (earlier later : ℕ) (l
               → (m : ℕ) × (j.completed i ≡ Some m) × (j.past e.who m ≡ true)) [
                 | true ↦ λ p. (m, f, p)
                 | false ↦ λ p. absurd
-                    (never v d is i z got (λ k. true≢false (sym k.2 ∙ ap (j.past e.who) (same_Some _ _ (sym k.1 ∙ f)) ∙ p)))
+                    (never v d is i z got (λ k. true≢false
+                    (sym k.2 ∙ ap (j.past e.who) (same_Some _ _ (sym k.1 ∙ f)) ∙ p)))
               ] refl
 
       knows : (h : Happening) → e.what ≡ h → KnowsCompletions j done e.who h

@@ -1,6 +1,7 @@
 -- The marks of the pass take each process's entries from its first one on without a gap; so the tables number the
 -- witness.
-use Rattle.std.proofs.Common.{◌≡◌, ◌≢◌, ℕ, suc, ◌<◌, Bool, true, false, cond, ◌==◌, List, [], ◌∷◌, ◌++◌, length, map, take, take_at, Option, Some, None, slice_get, eqb-true, refl, sym, ap, ◌∙◌, subst, arith}
+use Rattle.std.proofs.Common.{◌≡◌, ◌≢◌, ℕ, suc, ◌<◌, Bool, true, false, cond, ◌==◌, List, [], ◌∷◌, ◌++◌, length, map}
+use Rattle.std.proofs.Common.{take, take_at, Option, Some, None, slice_get, eqb-true, refl, sym, ap, ◌∙◌, subst, arith}
 use Rattle.std.proofs.lemmas.Bool.{false_from_ne_true, false≢true}
 use Rattle.sp_base.specs.declared.fault.Fault.TheVariants as fault
 use Rattle.sp_journal.specs.declared.entry.Event.TheVariants as event

@@ -1,10 +1,13 @@
 -- The parts of a witness: what is marked of the entries, which of them the two offers depend on, and the ticks at the
 -- last entry of each process.
-use Rattle.std.proofs.Common.{◌≡◌, ◌≢◌, ◌⊎◌, ⊎_elim, inl, inr, ℕ, suc, ◌+◌, ◌<◌, ◌≤◌, nat_lt, Bool, true, false, cond, ◌&&◌, ◌||◌, ◌==◌, if◌then◌else◌, List, [], ◌∷◌, ◌++◌, length, append_assoc, Option, Some, slice_get, eq-eqb, refl, sym, ap, ◌∙◌, subst, arith}
+use Rattle.std.proofs.Common.{◌≡◌, ◌≢◌, ◌⊎◌, ⊎_elim, inl, inr, ℕ, suc, ◌+◌, ◌<◌, ◌≤◌, nat_lt, Bool, true, false, cond}
+use Rattle.std.proofs.Common.{◌&&◌, ◌||◌, ◌==◌, if◌then◌else◌, List, [], ◌∷◌, ◌++◌, length, append_assoc, Option, Some}
+use Rattle.std.proofs.Common.{slice_get, eq-eqb, refl, sym, ap, ◌∙◌, subst, arith}
 use Rattle.std.proofs.lemmas.Bool.Decides.{nat_tests}
 use Rattle.std.proofs.lemmas.Bool.{lt-ltb, ne_eqb, or_parts}
 use Rattle.sp_base.proofs.Facts.{cons_is_not_nil, nil_is_not_cons, same_head, same_tail, true_is_not_false}
-use Rattle.sp_journal.specs.Names.{Name, Channel, same_name, Happening, Opened, Forked, Offered, Ended, Faulted, Laid, Paused, Occurrence}
+use Rattle.sp_journal.specs.Names.{Name, Channel, same_name, Happening, Opened, Forked, Offered, Ended, Faulted, Laid}
+use Rattle.sp_journal.specs.Names.{Paused, Occurrence}
 use Rattle.sp_journal.specs.Past.{Judged, judged_by, judged_from}
 use Rattle.sp_meaning.specs.Own.{Setting}
 use Rattle.sp_meaning.specs.Along.{IsCleanly, IsClean}
@@ -14,7 +17,8 @@ use Rattle.sp_past.specs.Prefixes.{is_counted, WaitsForNone}
 use Rattle.sp_past.proofs.Prefixing.{Kept}
 use Rattle.sp_race.specs.Notes.{Event}
 use Rattle.sp_race.proofs.Linking.{grown_size}
-use Rattle.sp_witness.specs.Witness.{who_at, past_before, is_pause, is_known, offers_after, is_member, is_among, members}
+use Rattle.sp_witness.specs.Witness.{who_at, past_before, is_pause, is_known, offers_after, is_member, is_among}
+use Rattle.sp_witness.specs.Witness.{members}
 use Rattle.sp_witness.proofs.Moving.{Head, Free, MarkedFree, Cuts, Block, heads, kept, left, EachFree}
 use Rattle.sp_witness.proofs.Pasts.{heads_from, Stage, past_here, MarksAre}
 use Rattle.sp_witness.proofs.Blocks.{Valid, since_after, since_all, AllValid}
@@ -81,11 +85,12 @@ module _ (es : List Occurrence) (earlier later : ℕ) where
       by false = refl
 
   -- an offer of the two, and an entry before it that is not in the first part
-  module _ (i : ℕ) (unknown : (k : ℕ) → known k ≡ false → past_before es i k ≡ false) (offers : (q : Name) (k : ℕ) → offers_after es earlier later q k ≡ false → same_name q (who_at es i) && nat_lt k i ≡ false)
+  module _ (i : ℕ) (unknown : (k : ℕ) → known k ≡ false → past_before es i k ≡ false)
+      (offers : (q : Name) (k : ℕ) → offers_after es earlier later q k ≡ false
+      → same_name q (who_at es i) && nat_lt k i ≡ false)
       (before : List Occurrence) (target : Occurrence) (rest : List Occurrence) (ji : Judged)
       (stage : Stage es before (target ∷ rest) ji i) (kept_i : Kept ji before)
       (quiet_i : WaitsForNone ji target.who) (who_is : who_at es i ≡ target.who) where
-
     free_at : (n : ℕ) (x : Occurrence) (f : ℕ → Bool) → n < i → slice_get before n ≡ Some x → IsCleanly x.what
         → (b : Bool) → member n x b ≡ false
         → Free (record { who = x.who; what = x.what; at = n; knows = f })

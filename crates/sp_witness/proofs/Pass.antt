@@ -1,15 +1,19 @@
 -- The pass backwards takes exactly the first part of the witness.
-use Rattle.std.proofs.Common.{◌≡◌, ◌≢◌, ◌⊎◌, ⊎_elim, inl, inr, ℕ, suc, ◌+◌, ◌<◌, ◌≤◌, nat_lt, Bool, true, false, cond, ◌&&◌, ◌||◌, ◌==◌, List, [], ◌∷◌, ◌++◌, length, Some, slice_get, eqb-true, eq-eqb, refl, sym, ap, ◌∙◌, subst, arith}
+use Rattle.std.proofs.Common.{◌≡◌, ◌≢◌, ◌⊎◌, ⊎_elim, inl, inr, ℕ, suc, ◌+◌, ◌<◌, ◌≤◌, nat_lt, Bool, true, false, cond}
+use Rattle.std.proofs.Common.{◌&&◌, ◌||◌, ◌==◌, List, [], ◌∷◌, ◌++◌, length, Some, slice_get, eqb-true, eq-eqb, refl}
+use Rattle.std.proofs.Common.{sym, ap, ◌∙◌, subst, arith}
 use Rattle.std.proofs.lemmas.Bool.Decides.{nat_tests}
 use Rattle.std.proofs.lemmas.Bool.{and_from, lt-ltb, ltb-true, or_cases, or_left, or_right}
 use Rattle.std.proofs.lemmas.Option.{slice_get_within}
 use Rattle.sp_base.proofs.Facts.{first_true, same_if_both_follow, second_true, true_is_not_false}
-use Rattle.sp_journal.specs.Names.{Name, Channel, same_name, Happening, Opened, Forked, Offered, Ended, Faulted, Laid, Paused, Occurrence}
+use Rattle.sp_journal.specs.Names.{Name, Channel, same_name, Happening, Opened, Forked, Offered, Ended, Faulted, Laid}
+use Rattle.sp_journal.specs.Names.{Paused, Occurrence}
 use Rattle.sp_journal.specs.Past.{Judged, judged_by}
 use Rattle.sp_meaning.specs.Along.{IsCleanly, IsClean}
 use Rattle.sp_past.specs.Prefixes.{WaitsForNone, QuietFrom}
 use Rattle.sp_past.proofs.Keys.{name_is, name_itself}
-use Rattle.sp_witness.specs.Witness.{who_of, who_at, past_before, is_pause, is_known, offers_after, is_member, is_among, members}
+use Rattle.sp_witness.specs.Witness.{who_of, who_at, past_before, is_pause, is_known, offers_after, is_member, is_among}
+use Rattle.sp_witness.specs.Witness.{members}
 use Rattle.sp_witness.specs.Needed.{needed_before, needed, taken, needed_marks}
 use Rattle.sp_witness.proofs.Pasts.{Stage, next_stage, past_here}
 use Rattle.sp_witness.proofs.Order.{get_at}
@@ -52,7 +56,8 @@ module _ (es : List Occurrence) (earlier later : ℕ) where
       → Stage es done (e ∷ rest) j n → who_at es n ≡ e.who
   who_here done e rest j n st = ap who_of (ap (λ xs. slice_get xs n) st.whole ∙ get_at done e rest n st.size)
 
-  module _ (in_order : earlier < later) (below_first : (k : ℕ) → past_before es earlier k ≡ true → k < earlier) (two : Occurrence) (after : List Occurrence) where
+  module _ (in_order : earlier < later) (below_first : (k : ℕ) → past_before es earlier k ≡ true → k < earlier)
+      (two : Occurrence) (after : List Occurrence) where
     -- before the later offer
     at_end : (done : List Occurrence) (j : Judged) (n : ℕ) → Stage es done (two ∷ after) j n → n ≡ later
         → WaitsForNone j two.who → Inv j n []
@@ -91,7 +96,9 @@ module _ (es : List Occurrence) (earlier later : ℕ) where
         who = subst (λ z. who_at es z ≡ two.who) end (who_here done two after j n st)
 
     -- one entry
-    module _ (done : List Occurrence) (e : Occurrence) (mid : List Occurrence) (j : Judged) (n : ℕ) (st : Stage es done (e ∷ (mid ++ two ∷ after)) j n) (stands : Stands j done n) (quiet : WaitsForNone j e.who) (clean : IsCleanly e.what) (less : n < later)
+    module _ (done : List Occurrence) (e : Occurrence) (mid : List Occurrence) (j : Judged) (n : ℕ)
+        (st : Stage es done (e ∷ (mid ++ two ∷ after)) j n) (stands : Stands j done n) (quiet : WaitsForNone j e.who)
+        (clean : IsCleanly e.what) (less : n < later)
         (inv : Inv (judged_by j n e.who e.what) (suc n) mid) where
       abbrev j' : Judged
       j' = judged_by j n e.who e.what

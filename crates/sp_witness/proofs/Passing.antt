@@ -1,11 +1,14 @@
 -- One entry of the pass backwards: what is known to somebody needed after it was known to somebody needed before it,
 -- and the other way round; and the entry itself is known exactly where its process is needed before it.
-use Rattle.std.proofs.Common.{◌≡◌, ◌≢◌, ◌⊎◌, ⊎_elim, inl, inr, ℕ, zero, suc, ◌+◌, ◌<◌, ◌≤◌, lt_irrefl, Bool, true, false, cond, ◌||◌, ◌==◌, [], ◌∷◌, Option, Some, None, eqb-true, eq-eqb, refl, sym, ap, ◌∙◌, subst, arith}
+use Rattle.std.proofs.Common.{◌≡◌, ◌≢◌, ◌⊎◌, ⊎_elim, inl, inr, ℕ, zero, suc, ◌+◌, ◌<◌, ◌≤◌, lt_irrefl, Bool, true}
+use Rattle.std.proofs.Common.{false, cond, ◌||◌, ◌==◌, [], ◌∷◌, Option, Some, None, eqb-true, eq-eqb, refl, sym, ap}
+use Rattle.std.proofs.Common.{◌∙◌, subst, arith}
 use Rattle.std.proofs.lemmas.Bool.{or_cases, or_left, or_right}
 use Rattle.std.proofs.lemmas.Option.{none-some, same_Some}
 use Rattle.sp_base.proofs.Facts.{false_is_not_true}
 use Rattle.sp_journal.specs.Maps.{at_key}
-use Rattle.sp_journal.specs.Names.{Name, Channel, same_name, same_channel, Happening, Opened, Forked, Offered, Ended, Faulted, Laid, Paused}
+use Rattle.sp_journal.specs.Names.{Name, Channel, same_name, same_channel, Happening, Opened, Forked, Offered, Ended}
+use Rattle.sp_journal.specs.Names.{Faulted, Laid, Paused}
 use Rattle.sp_journal.specs.Past.{Judged, learn, teach, report, now, met_now, judged_by}
 use Rattle.sp_past.specs.Prefixes.{WaitsForNone}
 use Rattle.sp_past.proofs.Keys.{name_is, name_itself, channel_is, channel_itself}
@@ -50,7 +53,8 @@ teach_here p fork known x zero past k i le lt h = absurd (omega (arith, le, lt))
 teach_here p fork known x (suc n) past k i le lt h =
     elim (x == k) as (λ b. x == k ≡ b
     → teach p fork known (suc x) n (learn ((fork, x) ∷ p) known past) ((fork, k) ∷ p) i ≡ true) [
-      | true ↦ λ e. subst (λ z. teach p fork known (suc x) n (learn ((fork, x) ∷ p) known past) ((fork, z) ∷ p) i ≡ true)
+      | true ↦ λ e. subst (λ z. teach p fork known (suc x) n (learn ((fork, x) ∷ p) known past) ((fork, z) ∷ p) i
+          ≡ true)
           (eqb-true x k e)
           (teach_more p fork known (suc x) n (learn ((fork, x) ∷ p) known past) ((fork, x) ∷ p) i
           (learn_here ((fork, x) ∷ p) known past i h))
@@ -124,7 +128,8 @@ IsCounted (Faulted f) = ⊥
 IsCounted Laid = ⊥
 IsCounted Paused = ⊥
 
-module _ (j : Judged) (n : ℕ) (p : Name) (below : (q : Name) (i : ℕ) → j.past q i ≡ true → i < n) (bound : (c : Channel) (z : Name) (o : ℕ) → j.pending c ≡ Some (z, o) → o < n)
+module _ (j : Judged) (n : ℕ) (p : Name) (below : (q : Name) (i : ℕ) → j.past q i ≡ true → i < n)
+    (bound : (c : Channel) (z : Name) (o : ℕ) → j.pending c ≡ Some (z, o) → o < n)
     (single : (c d : Channel) (z : Name) (k l : ℕ) → j.pending c ≡ Some (z, k) → j.pending d ≡ Some (z, l) → c ≡ d)
     (quiet : WaitsForNone j p) (F : Name → Bool) where
   abbrev G : Happening → Name → Bool
@@ -359,7 +364,8 @@ module _ (j : Judged) (n : ℕ) (p : Name) (below : (q : Name) (i : ℕ) → j.p
     wait_known f = (p, f, inr (c, ap (λ b. cond b (Some (p, n)) (j.pending c)) (channel_itself c)))
 
   -- an entry that leaves the offers alone: who learns of it, and of what
-  module _ (j' : Judged) (same : j'.pending ≡ j.pending) (H : Name → Bool) (grows : (q : Name) → F q ≡ true → H q ≡ true)
+  module _ (j' : Judged) (same : j'.pending ≡ j.pending) (H : Name → Bool)
+      (grows : (q : Name) → F q ≡ true → H q ≡ true)
       (learns : (q : Name) (m : ℕ) → j'.past q m ≡ true
       → (j.past q m ≡ true) ⊎ ((F q ≡ true → H p ≡ true) × (now j p n m ≡ true)))
       (keeps : (q : Name) (m : ℕ) → j.past q m ≡ true → j'.past q m ≡ true)

@@ -1,17 +1,21 @@
 -- What is known is closed under what was known before it; so the entries of a witness's first part depend on none of
 -- the others before them.
-use Rattle.std.proofs.Common.{◌≡◌, ◌⊎◌, ⊎_elim, inl, inr, ℕ, suc, ◌+◌, ◌-◌, ◌<◌, ◌≤◌, nat_lt, Bool, true, false, cond, ◌&&◌, ◌||◌, ◌==◌, List, [], ◌∷◌, ◌++◌, length, append_assoc, append-nil, take, drop, take_at, Option, Some, None, slice_get, refl, sym, ap, ◌∙◌, subst, arith, eqb-true}
+use Rattle.std.proofs.Common.{◌≡◌, ◌⊎◌, ⊎_elim, inl, inr, ℕ, suc, ◌+◌, ◌-◌, ◌<◌, ◌≤◌, nat_lt, Bool, true, false, cond}
+use Rattle.std.proofs.Common.{◌&&◌, ◌||◌, ◌==◌, List, [], ◌∷◌, ◌++◌, length, append_assoc, append-nil, take, drop}
+use Rattle.std.proofs.Common.{take_at, Option, Some, None, slice_get, refl, sym, ap, ◌∙◌, subst, arith, eqb-true}
 use Rattle.std.proofs.lemmas.List.{take-append-drop}
 use Rattle.std.proofs.Math.Seq.{take-append-add}
 use Rattle.std.proofs.lemmas.Bool.{false_from_ne_true, or_cases, or_left, or_parts, or_right}
 use Rattle.std.proofs.lemmas.Option.{none-some, same_Some}
 use Rattle.sp_base.proofs.Facts.{first_true, second_true, true_is_not_false}
-use Rattle.sp_journal.specs.Names.{Name, Channel, same_name, same_channel, Happening, Opened, Forked, Offered, Ended, Faulted, Laid, Paused, Occurrence}
+use Rattle.sp_journal.specs.Names.{Name, Channel, same_name, same_channel, Happening, Opened, Forked, Offered, Ended}
+use Rattle.sp_journal.specs.Names.{Faulted, Laid, Paused, Occurrence}
 use Rattle.sp_journal.specs.Past.{Judged, learn, now, met_now, judged_by, judged_from, judged, nothing_judged}
 use Rattle.sp_meaning.specs.Along.{IsCleanly, IsClean}
 use Rattle.sp_past.specs.Prefixes.{is_counted, Counts, QuietFrom}
 use Rattle.sp_past.proofs.Keys.{name_itself, name_is}
-use Rattle.sp_past.proofs.Prefixing.{learn_all, teach_all, report_all, learn_more, teach_more, report_more, Kept, one_entry}
+use Rattle.sp_past.proofs.Prefixing.{learn_all, teach_all, report_all, learn_more, teach_more, report_more, Kept}
+use Rattle.sp_past.proofs.Prefixing.{one_entry}
 use Rattle.sp_race.proofs.Linking.{last_entry, kept_entry, grown_size}
 use Rattle.sp_witness.specs.Witness.{who_of, who_at, past_before, is_pause, is_known, offers_after, is_member, is_among}
 use Rattle.sp_witness.proofs.Moving.{Head, MarkedFree, Cuts}
@@ -174,7 +178,10 @@ module _ (es : List Occurrence) where
     closed_by Paused = closed
 
   nothing_closed : Closed nothing_judged
-  nothing_closed = record { past = λ q m k e h. true_is_not_false (sym e); pending = λ c z o k e h. absurd (none-some _ e) }
+  nothing_closed = record {
+    past = λ q m k e h. true_is_not_false (sym e);
+    pending = λ c z o k e h. absurd (none-some _ e);
+  }
 
   closed_walk : (done mid rest : List Occurrence) → es ≡ done ++ (mid ++ rest) → Closed (judged done)
       → Closed (judged (done ++ mid))
@@ -228,7 +235,8 @@ module _ (es : List Occurrence) where
       where
         by : (i : ℕ) → same_name q (who_at es i) && nat_lt n i ≡ true → past_before es i k ≡ true
         by i x =
-            let is : q ≡ who_at es i = name_is q (who_at es i) (first_true (same_name q (who_at es i)) (nat_lt n i) x) in
+            let is : q ≡ who_at es i = name_is q (who_at es i)
+            (first_true (same_name q (who_at es i)) (nat_lt n i) x) in
             subst (λ (z : Name). (judged (take i es)).past z k ≡ true) is
             (reach done rest j n st i (below_is n i (second_true (same_name q (who_at es i)) (nat_lt n i) x)) q k p)
 
@@ -259,7 +267,8 @@ module _ (es : List Occurrence) where
         let j' = judged_by j n e.who e.what in
         ⊎_elim
         (λ (x : same_name q e.who && member n e (among e.who (suc n) mid) ≡ true).
-        let is : q ≡ e.who = name_is q e.who (first_true (same_name q e.who) (member n e (among e.who (suc n) mid)) x) in
+        let is : q ≡ e.who = name_is q e.who
+        (first_true (same_name q e.who) (member n e (among e.who (suc n) mid)) x) in
         let p' : j.past e.who k ≡ true = subst (λ (z : Name). j.past z k ≡ true) is p in
         member_by done e (mid ++ tail) j n st (among e.who (suc n) mid) k
         (λ y. among_knows (done ++ e ∷ []) mid tail j' (suc n) s e.who k y (past_stays j n e.who e.what e.who k p'))

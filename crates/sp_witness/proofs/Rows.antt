@@ -2,7 +2,8 @@
 use Rattle.std.proofs.Common.{◌≡◌, ℕ, List, [], ◌∷◌, refl}
 use Rattle.sp_base.specs.declared.fault.Fault.TheVariants as fault
 use Rattle.sp_journal.specs.declared.entry.Way.TheVariants as way
-use Rattle.sp_journal.specs.Names.{Name, Channel, Happening, Opened, Forked, Offered, Ended, Faulted, Paused, Occurrence}
+use Rattle.sp_journal.specs.Names.{Name, Channel, Happening, Opened, Forked, Offered, Ended, Faulted, Paused}
+use Rattle.sp_journal.specs.Names.{Occurrence}
 use Rattle.sp_journal.specs.declared.entry.Event.{Event}
 use Rattle.sp_journal.specs.declared.entry.Event.TheVariants as event
 use Rattle.sp_journal.specs.declared.entry.Entry.{Entry}
@@ -53,7 +54,8 @@ two_receivers_contend : witness two_receivers 3 4
     ≡ by root Opened ∷ by root (Forked 3) ∷ by (child 0 1) (receives (nth 0)) ∷ by (child 0 2) (Faulted fault.F6) ∷ []
 two_receivers_contend = refl
 
--- pauses: those of the two that offer stand, and those of a process that has a later entry in this part; the receiver's fall away
+-- pauses: those of the two that offer stand, and those of a process that has a later entry in this part; the receiver's
+-- fall away
 abbrev with_pauses : List Occurrence
 with_pauses =
     by root Paused ∷ by root Opened ∷ by root (Forked 3) ∷ by (child 0 0) Paused ∷ by (child 0 1) Paused
@@ -103,7 +105,8 @@ received_twice_numbered : witness_journal received_twice 3 4
     }
 received_twice_numbered = refl
 
--- numbers that change: two forks of which the witness has one. Child 1 of the second fork is process 4 in the run, and 2 in the witness
+-- numbers that change: two forks of which the witness has one. Child 1 of the second fork is process 4 in the run, and
+-- 2 in the witness
 abbrev two_forks : Journal
 two_forks = record {
   entries =

@@ -1,5 +1,7 @@
 -- The witness of a race shows it: the run up to the later offer, parted into the witness and the rest.
-use Rattle.std.proofs.Common.{◌≡◌, ◌≢◌, ⊎_elim, inl, inr, ℕ, suc, ◌+◌, ◌<◌, lt_irrefl, nat_lt, Bool, true, false, cond, ◌&&◌, ◌||◌, List, [], ◌∷◌, ◌++◌, length, length-append, append_assoc, append-nil, take, take_at, Option, Some, None, slice_get, refl, sym, ap, ◌∙◌, subst, arith}
+use Rattle.std.proofs.Common.{◌≡◌, ◌≢◌, ⊎_elim, inl, inr, ℕ, suc, ◌+◌, ◌<◌, lt_irrefl, nat_lt, Bool, true, false, cond}
+use Rattle.std.proofs.Common.{◌&&◌, ◌||◌, List, [], ◌∷◌, ◌++◌, length, length-append, append_assoc, append-nil, take}
+use Rattle.std.proofs.Common.{take_at, Option, Some, None, slice_get, refl, sym, ap, ◌∙◌, subst, arith}
 use Rattle.std.proofs.lemmas.Bool.{false_from_ne_true, or_cases, or_from, or_parts}
 use Rattle.std.proofs.lemmas.Option.{none-some}
 use Rattle.sp_base.specs.declared.fault.Fault.TheVariants as fault
@@ -24,22 +26,29 @@ use Rattle.sp_race.specs.Known.{AreKnown}
 use Rattle.sp_race.proofs.GoodSteps.{sound_opening, knows_nothing}
 use Rattle.sp_race.proofs.Verdict.{At, stepped, said, linked_start}
 use Rattle.sp_judge.specs.Races.{KnowsCompletion}
-use Rattle.sp_witness.specs.Witness.{who_of, who_at, alone, past_before, is_pause, is_known, offers_after, is_member, is_among, members, first_part, witness}
+use Rattle.sp_witness.specs.Witness.{who_of, who_at, alone, past_before, is_pause, is_known, offers_after, is_member}
+use Rattle.sp_witness.specs.Witness.{is_among, members, first_part, witness}
 use Rattle.sp_witness.specs.Contention.{IsContention, Shows}
-use Rattle.sp_witness.proofs.Moving.{Head, Free, MarkedFree, Cuts, Tag, Block, heads, kept, left, Ready, Runs, BlockRuns, EachFree, parted, in_front, ready_of, ready_back, ready_before}
+use Rattle.sp_witness.proofs.Moving.{Head, Free, MarkedFree, Cuts, Tag, Block, heads, kept, left, Ready, Runs}
+use Rattle.sp_witness.proofs.Moving.{BlockRuns, EachFree, parted, in_front, ready_of, ready_back, ready_before}
 use Rattle.sp_witness.proofs.Pasts.{heads_from, Stage, past_here, MarksAre, cuts_from}
 use Rattle.sp_witness.proofs.Ticks.{said_same}
 use Rattle.sp_witness.proofs.Blocks.{AllQuiet, Valid, since_all, AllValid}
 use Rattle.sp_witness.proofs.Walking.{beside, tag_of, knows_so, Turned, turned, Walked, walked}
 use Rattle.sp_witness.proofs.Back.{entry_of, entries, turn_quiet, rebuilt}
-use Rattle.sp_witness.proofs.Parts.{UnmarkedFree, mark_in, marks_are, marks_after, members_are, free_before, each_left, left_append, kept_append, kept_valid, since_kept, since_stays, since_append, valid_second, cuts_second, Split, split, heads_append}
+use Rattle.sp_witness.proofs.Parts.{UnmarkedFree, mark_in, marks_are, marks_after, members_are, free_before, each_left}
+use Rattle.sp_witness.proofs.Parts.{left_append, kept_append, kept_valid, since_kept, since_stays, since_append}
+use Rattle.sp_witness.proofs.Parts.{valid_second, cuts_second, Split, split, heads_append}
 use Rattle.sp_witness.proofs.Contending.{Offers, offers_of, waits_here, blocks_fit, contends}
 use Rattle.sp_witness.proofs.Order.{get_at}
 use Rattle.sp_witness.proofs.Standing.{Stands, nothing_stands, stands_from}
-use Rattle.sp_witness.proofs.Witnessing.{quiet_front, clean_front, runs_split, runs_join, entries_join, valid_join, LastStep, last_step, quiet_pending, quiet_condition, Pends, quiet_pends, AllFit, blocks_pend}
+use Rattle.sp_witness.proofs.Witnessing.{quiet_front, clean_front, runs_split, runs_join, entries_join, valid_join}
+use Rattle.sp_witness.proofs.Witnessing.{LastStep, last_step, quiet_pending, quiet_condition, Pends, quiet_pends}
+use Rattle.sp_witness.proofs.Witnessing.{AllFit, blocks_pend}
 
 -- a race, with the journal cut at its two offers
-module _ (g : Setting) (disjoint : IsDisjointRun g) (turn : ℕ) (es : List Occurrence) (n : ℕ) (t : StateOf g) (along : IsAlong g turn es n t) (clean : IsClean es) (quiet : IsQuiet es)
+module _ (g : Setting) (disjoint : IsDisjointRun g) (turn : ℕ) (es : List Occurrence) (n : ℕ) (t : StateOf g)
+    (along : IsAlong g turn es n t) (clean : IsClean es) (quiet : IsQuiet es)
     (w : Way) (c : Channel) (earlier later : ℕ) (before mid after : List Occurrence) (first second : Name)
     (whole : es ≡ (before ++ record { who = first; what = Offered w c } ∷ mid)
     ++ record { who = second; what = Offered w c } ∷ after)
@@ -244,7 +253,8 @@ module _ (g : Setting) (disjoint : IsDisjointRun g) (turn : ℕ) (es : List Occu
 
   tags_quiet : AllQuiet g turn (walk.course.since second) tags
   tags_quiet = ⊎_elim
-      (λ (z : (rest.4 ≡ false) × AllQuiet g turn (walk.course.since second) tags × (own : Process) × (running g rest.3 second ≡ Some own) × (what : Happening) × (says g rest.3 second own ≡ Some what)). z.1)
+      (λ (z : (rest.4 ≡ false) × AllQuiet g turn (walk.course.since second) tags × (own : Process)
+      × (running g rest.3 second ≡ Some own) × (what : Happening) × (says g rest.3 second own ≡ Some what)). z.1)
       (λ (z : (rest.4 ≡ true) × Valid g turn (walk.course.since second) Paused tags (ticks_of g rest.3 second)).
       true_is_not_false (sym z.0 ∙ rest.7.1))
       local_steps.kind
@@ -369,7 +379,11 @@ module _ (g : Setting) (disjoint : IsDisjointRun g) (turn : ℕ) (es : List Occu
             ∙ ap (λ (z : Head). mark z.at) (sym h) ∙ is in (
               ⊎_elim
                   (λ (y : known n ≡ true). inr (ap (λ (z : Head). known z.at) h ∙ y))
-                  (λ (y : is_pause x.what && (offers_after es earlier later x.who n || is_among es earlier later x.who (suc n) xs) ≡ true). inl (ap (λ (z : Head). is_pause z.what) h ∙ first_true (is_pause x.what) (offers_after es earlier later x.who n || is_among es earlier later x.who (suc n) xs) y))
+                  (λ (y : is_pause x.what && (offers_after es earlier later x.who n
+                  || is_among es earlier later x.who (suc n) xs) ≡ true). inl
+                  (ap (λ (z : Head). is_pause z.what) h
+                  ∙ first_true (is_pause x.what)
+                  (offers_after es earlier later x.who n || is_among es earlier later x.who (suc n) xs) y))
                   (or_cases (known n) (is_pause x.what
                   && (offers_after es earlier later x.who n || is_among es earlier later x.who (suc n) xs)) k),
               r,

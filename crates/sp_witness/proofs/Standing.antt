@@ -1,5 +1,6 @@
 -- What stands after the entries of a journal in which nobody makes an entry while its own offer waits.
-use Rattle.std.proofs.Common.{◌≡◌, ℕ, suc, ◌+◌, List, [], ◌∷◌, ◌++◌, length, append_assoc, append-nil, sym, subst, arith}
+use Rattle.std.proofs.Common.{◌≡◌, ℕ, suc, ◌+◌, List, [], ◌∷◌, ◌++◌, length, append_assoc, append-nil, sym, subst}
+use Rattle.std.proofs.Common.{arith}
 use Rattle.sp_journal.specs.Names.{Occurrence}
 use Rattle.sp_journal.specs.Past.{Judged, judged_by, judged_from, nothing_judged}
 use Rattle.sp_past.specs.Prefixes.{WaitsForNone, QuietFrom}

@@ -1,5 +1,6 @@
 -- The tables of new numbers give the entries of the witness.
-use Rattle.std.proofs.Common.{◌≡◌, ℕ, zero, suc, ◌<◌, ◌≤◌, Bool, false, List, [], ◌∷◌, ◌++◌, append_assoc, map, take, drop, Option, Some, None, slice_get, refl, sym, ap, ◌∙◌, subst, arith}
+use Rattle.std.proofs.Common.{◌≡◌, ℕ, zero, suc, ◌<◌, ◌≤◌, Bool, false, List, [], ◌∷◌, ◌++◌, append_assoc, map, take}
+use Rattle.std.proofs.Common.{drop, Option, Some, None, slice_get, refl, sym, ap, ◌∙◌, subst, arith}
 use Rattle.std.proofs.lemmas.List.{take-append-drop}
 use Rattle.std.proofs.lemmas.Option.{none-some, same_Some}
 use Rattle.sp_base.specs.declared.fault.Fault.TheVariants as fault
@@ -8,7 +9,8 @@ use Rattle.sp_journal.specs.declared.entry.Event.TheVariants as event
 use Rattle.sp_journal.specs.declared.entry.Entry.{Entry}
 use Rattle.sp_journal.specs.declared.entry.Journal.{Journal}
 use Rattle.sp_journal.specs.Names.{Faulted, Occurrence}
-use Rattle.sp_journal.specs.Births.{Births, at_start, after_entry, births_from, births, CanFollow, GivesNumbers, NameableFrom, IsNameable, occurrence, occurrences}
+use Rattle.sp_journal.specs.Births.{Births, at_start, after_entry, births_from, births, CanFollow, GivesNumbers}
+use Rattle.sp_journal.specs.Births.{NameableFrom, IsNameable, occurrence, occurrences}
 use Rattle.sp_journal.proofs.BirthLaws.{Lawful, lawful_start, lawful}
 use Rattle.sp_journal.proofs.Walk.{births_parts}
 use Rattle.sp_judge.proofs.Numbers.{Stays, stays, all_named}

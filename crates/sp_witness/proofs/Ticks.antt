@@ -1,6 +1,8 @@
 -- The ticks of a process once it has acted, and what an act says.
-use Rattle.std.proofs.Common.{◌≡◌, ◌≢◌, ℕ, suc, cond, List, [], ◌∷◌, length, Some, None, refl, sym, ap, ◌∙◌, subst, arith}
-use Rattle.sp_meaning.specs.Model.{Name, same_name, Language, Moves, Opens, Forks, Offering, Ends, Fails, Works, Waits, Joins, Ended, State, Change, Becomes, Forked, Writes, Adds, changed, after}
+use Rattle.std.proofs.Common.{◌≡◌, ◌≢◌, ℕ, suc, cond, List, [], ◌∷◌, length, Some, None, refl, sym, ap, ◌∙◌, subst}
+use Rattle.std.proofs.Common.{arith}
+use Rattle.sp_meaning.specs.Model.{Name, same_name, Language, Moves, Opens, Forks, Offering, Ends, Fails, Works, Waits}
+use Rattle.sp_meaning.specs.Model.{Joins, Ended, State, Change, Becomes, Forked, Writes, Adds, changed, after}
 use Rattle.sp_meaning.specs.Steps.{ActOf, ConditionOf, Outcome, Advances, Faulty, puts, births, acts, Sound}
 use Rattle.sp_meaning.specs.Own.{Setting}
 use Rattle.sp_meaning.specs.SuperPascal.{superpascal}

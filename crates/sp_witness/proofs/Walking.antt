@@ -1,5 +1,7 @@
 -- Along a journal without a fault go its entries with their steps, each of which is a good one.
-use Rattle.std.proofs.Common.{◌≡◌, ◌⊎◌, ⊎_elim, inl, inr, ℕ, zero, suc, ◌+◌, ◌<◌, Bool, true, false, cond, ◌&&◌, ◌==◌, nat_le, List, [], ◌∷◌, ◌++◌, length, append_assoc, append-nil, Option, Some, None, eq-eqb, refl, sym, ap, ◌∙◌, subst, arith}
+use Rattle.std.proofs.Common.{◌≡◌, ◌⊎◌, ⊎_elim, inl, inr, ℕ, zero, suc, ◌+◌, ◌<◌, Bool, true, false, cond, ◌&&◌, ◌==◌}
+use Rattle.std.proofs.Common.{nat_le, List, [], ◌∷◌, ◌++◌, length, append_assoc, append-nil, Option, Some, None, eq-eqb}
+use Rattle.std.proofs.Common.{refl, sym, ap, ◌∙◌, subst, arith}
 use Rattle.std.proofs.lemmas.Bool.{false≢true, ne_eqb}
 use Rattle.std.proofs.lemmas.Option.{none-some, same_Some}
 use Rattle.sp_journal.specs.Past.{Judged, judged_by, judged_from}
@@ -10,7 +12,8 @@ use Rattle.sp_meaning.specs.SuperPascal.{superpascal, beats}
 use Rattle.sp_meaning.specs.Entries.{Happening, Opened, Forked, Offered, Faulted, Laid, Paused, Occurrence}
 use Rattle.sp_journal.specs.Names as happenings
 use Rattle.sp_meaning.specs.Runs.{StateOf, start, most, running, Lawful, said_of, says}
-use Rattle.sp_meaning.specs.Along.{Either, ticks_of, due, Turn, Course, noted, after_entry, Kernel, Entered, Along, IsCleanly, IsClean}
+use Rattle.sp_meaning.specs.Along.{Either, ticks_of, due, Turn, Course, noted, after_entry, Kernel, Entered, Along}
+use Rattle.sp_meaning.specs.Along.{IsCleanly, IsClean}
 use Rattle.sp_meaning.proofs.Journeys.{quiet_step}
 use Rattle.sp_race.specs.Notes.{Event, Notes, mine, KnowsBefore}
 use Rattle.sp_race.specs.Noting.{WithNotes, notes_after}
@@ -18,7 +21,8 @@ use Rattle.sp_race.specs.Known.{KnowsOffers, KnownFrom}
 use Rattle.sp_race.specs.Linked.{known_label, Linked}
 use Rattle.sp_race.proofs.GoodSteps.{GoodStep, leads_on, steps}
 use Rattle.sp_race.proofs.Linking.{known_linked}
-use Rattle.sp_race.proofs.LinkedSteps.{opens_linked, forks_linked, ends_linked, moves_linked, offers_linked, pause_linked}
+use Rattle.sp_race.proofs.LinkedSteps.{opens_linked, forks_linked, ends_linked, moves_linked, offers_linked}
+use Rattle.sp_race.proofs.LinkedSteps.{pause_linked}
 use Rattle.sp_race.proofs.Verdict.{At, Stepped, stepped, said, next_at, local_moves, moves_know}
 use Rattle.sp_witness.proofs.Independent.{IsLocal}
 use Rattle.sp_witness.proofs.Moving.{Head, Tag, Block, heads, Does, Runs, BlockRuns}
@@ -183,7 +187,9 @@ module _ (g : Setting) where
             tags = tag_of s own ∷ r.tags;
             runs = λ lf agree. (beside u w, does lf agree, r.runs lf agree);
             kind = ⊎_elim
-                (λ (z : (paused ≡ false) × AllQuiet g turn since r.tags × (own : Process) × (running g m q ≡ Some own) × (what : Happening) × (says g m q own ≡ Some what)). inl (z.0, ((ticks_of g u q, move false e), z.1), z.2, z.3, z.4, z.5))
+                (λ (z : (paused ≡ false) × AllQuiet g turn since r.tags × (own : Process) × (running g m q ≡ Some own)
+                × (what : Happening) × (says g m q own ≡ Some what)). inl
+                (z.0, ((ticks_of g u q, move false e), z.1), z.2, z.3, z.4, z.5))
                 (λ (z : (paused ≡ true) × Valid g turn since Paused r.tags (ticks_of g m q)). inr (
                   z.0,
                   inl ((ticks_of g u q, move false e), z.1),
@@ -286,7 +292,10 @@ module _ (g : Setting) where
       ∙ ap (λ z. said_of {L = L} (L.next z m.store) (Advances x.cs)) (sym x.same) ∙ sym (said g m q own u x)
       ∙ h.5.2 in
       let quiet : AllQuiet g turn (c.since q) t.tags =
-      ⊎_elim (λ (z : (paused ≡ false) × AllQuiet g turn (c.since q) t.tags × (own : Process) × (running g m q ≡ Some own) × (what : Happening) × (says g m q own ≡ Some what)). z.1) (λ (z : (paused ≡ true) × Valid g turn (c.since q) Paused t.tags (ticks_of g m q)). absurd (false≢true (sym h.1 ∙ z.0))) t.kind in
+      ⊎_elim (λ (z : (paused ≡ false) × AllQuiet g turn (c.since q) t.tags × (own : Process)
+      × (running g m q ≡ Some own) × (what : Happening) × (says g m q own ≡ Some what)). z.1)
+      (λ (z : (paused ≡ true) × Valid g turn (c.since q) Paused t.tags (ticks_of g m q)). absurd
+      (false≢true (sym h.1 ∙ z.0))) t.kind in
       record {
         course = after_entry q what (ticks_of g u q) c;
         state = u;
@@ -357,7 +366,10 @@ module _ (g : Setting) where
     tags = t.tags;
     runs = λ lf ag. t.runs lf (λ k lt. ag k (omega (arith, lt)) ∙ rw (ne_eqb n k (λ e. omega (arith, e, lt))));
     agree = λ k lt. rw (ne_eqb n k (λ e. omega (arith, e, lt)));
-    valid = ⊎_elim (λ (z : (paused ≡ false) × AllQuiet g turn (c.since q) t.tags × (own : Process) × (running g m q ≡ Some own) × (what : Happening) × (says g m q own ≡ Some what)). absurd (false≢true (sym z.0 ∙ h.1))) (λ (z : (paused ≡ true) × Valid g turn (c.since q) Paused t.tags (ticks_of g m q)). z.1) t.kind;
+    valid = ⊎_elim (λ (z : (paused ≡ false) × AllQuiet g turn (c.since q) t.tags × (own : Process)
+        × (running g m q ≡ Some own) × (what : Happening) × (says g m q own ≡ Some what)). absurd
+        (false≢true (sym z.0 ∙ h.1))) (λ (z : (paused ≡ true)
+        × Valid g turn (c.since q) Paused t.tags (ticks_of g m q)). z.1) t.kind;
     since = refl;
   }
 

@@ -1,3 +1,4 @@
+-- All of this belongs to what the program promises (docs/promise.txt).
 -- The end of a witness: a process stands at an offer, one of the same way is pending on its channel, and the fault is
 -- F6. The law of this crate promises it of the state along a witness.
 use Rattle.std.specs.Prelude.{◌≡◌, ℕ, List, Some}

@@ -1,8 +1,11 @@
+-- None of this belongs to what the program promises: it is for contracts between crates.
 -- The first part of a witness by one pass backwards over the entries before the later offer: who is needed after an
 -- entry says whether the entry is, and who is needed before it. The law of this crate says that this is the first part.
-use Rattle.std.specs.Prelude.{ℕ, zero, suc, Bool, false, ◌&&◌, ◌||◌, ◌==◌, if◌then◌else◌, List, [], ◌∷◌, take, Option, Some, None}
+use Rattle.std.specs.Prelude.{ℕ, zero, suc, Bool, false, ◌&&◌, ◌||◌, ◌==◌, if◌then◌else◌, List, [], ◌∷◌, take, Option}
+use Rattle.std.specs.Prelude.{Some, None}
 use Rattle.sp_journal.specs.Maps.{at_key}
-use Rattle.sp_journal.specs.Names.{Name, same_name, Happening, Opened, Forked, Offered, Ended, Faulted, Laid, Paused, Occurrence}
+use Rattle.sp_journal.specs.Names.{Name, same_name, Happening, Opened, Forked, Offered, Ended, Faulted, Laid, Paused}
+use Rattle.sp_journal.specs.Names.{Occurrence}
 use Rattle.sp_journal.specs.Past.{Judged, judged_by, nothing_judged}
 use Rattle.sp_witness.specs.Witness.{who_at}
 

@@ -1,3 +1,4 @@
+-- All of this belongs to what the program promises (docs/promise.txt).
 -- A journal of occurrences as entries: processes and channels get their numbers in the order of these entries. A
 -- witness keeps the names of the run that it is taken from, and has numbers of its own.
 use Rattle.std.specs.Prelude.{ℕ, zero, suc, if◌then◌else◌, List, [], ◌∷◌}
@@ -6,7 +7,8 @@ use Rattle.sp_journal.specs.declared.entry.Event.{Event}
 use Rattle.sp_journal.specs.declared.entry.Event.TheVariants as event
 use Rattle.sp_journal.specs.declared.entry.Entry.{Entry}
 use Rattle.sp_journal.specs.declared.entry.Journal.{Journal}
-use Rattle.sp_journal.specs.Names.{Name, Channel, same_name, same_channel, Happening, Opened, Forked, Offered, Ended, Faulted, Laid, Paused, Occurrence}
+use Rattle.sp_journal.specs.Names.{Name, Channel, same_name, same_channel, Happening, Opened, Forked, Offered, Ended}
+use Rattle.sp_journal.specs.Names.{Faulted, Laid, Paused, Occurrence}
 use Rattle.sp_journal.specs.Births.{Births, at_start, after_entry, channel, occurrences}
 use Rattle.sp_witness.specs.Witness.{witness}
 

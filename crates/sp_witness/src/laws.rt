@@ -1,7 +1,8 @@
 //! What is promised of witnesses and of the passes that find them. These functions do nothing but call one another:
 //! what counts is their contracts.
 
-ghost use Rattle.std.specs.Prelude.{◌≡◌, ◌<◌, ◌↔◌, ◌++◌, ◌∷◌, [], ℕ, IfSome, List, Some, None, length, map, slice_get, take};
+ghost use Rattle.std.specs.Prelude.{◌≡◌, ◌<◌, ◌↔◌, ◌++◌, ◌∷◌, [], ℕ, IfSome, List, Some, None, length, map, slice_get};
+ghost use Rattle.std.specs.Prelude.{take};
 ghost use Rattle.sp_base.specs.declared.fault.Fault.TheVariants as fault;
 ghost use Rattle.sp_tree.specs.Interference.{IsFreeOfInterference};
 ghost use Rattle.sp_journal.specs.declared.entry.Way.{Way};

@@ -4,7 +4,8 @@ ghost use Rattle.std.specs.Prelude.{◌≡◌, ◌+◌, ◌<◌, ◌≤◌, ◌^
 ghost use Rattle.sp_journal.specs.Births.{at_start, births, NameableFrom};
 ghost use Rattle.sp_journal.specs.Ledger.{IsLedger};
 ghost use Rattle.sp_witness.specs.Flags.{any_flag, marks};
-ghost use Rattle.sp_witness.specs.Passes.{flagged, partner_flag, own_flag, with_flag, with_partner, ArePartners, HasFlags, IsFront, IsMark};
+ghost use Rattle.sp_witness.specs.Passes.{flagged, partner_flag, own_flag, with_flag, with_partner, ArePartners};
+ghost use Rattle.sp_witness.specs.Passes.{HasFlags, IsFront, IsMark};
 
 use crate::ties::{Ties, children};
 use sp_base::Memory;

@@ -222,7 +222,8 @@ file_walk : (os : Parsers) (rows : List Row) (p : Option Item) (trailing : Bool)
     → walked (rules os) [] (at rows p nothing trailing) word ≡ at (settled_rows (rules os) (pend p) rows)
     (Some (file word)) one trailing
 unfolding walked
-file_walk os rows p trailing word m = rw m (rw (and_with_false (is_pending built_file (pend p)), or_with_false trailing) refl)
+file_walk os rows p trailing word m = rw m (rw (and_with_false (is_pending built_file (pend p)), or_with_false trailing)
+    refl)
 
 -- a word that goes to JOURNAL
 journal_turn : (name : Text) (os : Options) (rows : List Row) (p : Option Item) (trailing : Bool) (word : Text)

@@ -1,3 +1,4 @@
+-- Some of this belongs to what the program promises (docs/promise.txt).
 -- How the words after the command are read from left to right: which of them are options, which is their value, and
 -- where a word breaks the dash rule. `command_of` and the contracts of `form` cite it. The rule stands apart from the
 -- kit's parser, since `read_words` decides it before it calls the parser.

@@ -1,3 +1,4 @@
+-- All of this belongs to what the program promises (docs/promise.txt).
 -- The options of the commands: their names, and which texts are values of theirs. `command_of` reads words by it, and
 -- the contracts of `given` cite it. The ranges stand as tests on texts, since a value is judged before it is a number.
 use Rattle.std.specs.Prelude.{◌&&◌, ◌++◌, ◌^◌, ℕ, Bool, false, List, [], ◌∷◌, Option, Some, None, codes, find}

@@ -1,3 +1,4 @@
+-- None of this belongs to what the program promises: it is for contracts between crates.
 -- The parser of command lines as the kit's `clap` sees it: its rules, ranges and subcommands. The builders in `parser`
 -- promise these shapes, and lemmas lead them to `command_of`, which is said without it.
 use Rattle.std.specs.Prelude.{◌≡◌, ◌∷◌, ◌++◌, true, false, List, [], Result, IfOk, IsOkAnd, Some, codes, is_some, map}

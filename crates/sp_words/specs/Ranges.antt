@@ -1,3 +1,4 @@
+-- Some of this belongs to what the program promises (docs/promise.txt).
 -- The ranges of the options of the commands, and the workers and limits where no option is given. The law that every
 -- accepted command is in range cites them, and so do the calls of `superpascal` that run a program, which require them.
 use Rattle.std.specs.Prelude.{◌≤◌, ℕ}

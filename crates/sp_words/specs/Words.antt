@@ -1,3 +1,4 @@
+-- Some of this belongs to what the program promises (docs/promise.txt).
 -- What a list of words asks for: the command with its FILE, options and defaults, or none. The contract of
 -- `read_words` and the top call's causes cite `command_of`. It goes by the items of the words and not by the kit's
 -- parser, so that one page says which words are refused.

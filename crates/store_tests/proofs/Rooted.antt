@@ -1,5 +1,6 @@
 -- What the tests know of a store that was just made.
-use Rattle.std.proofs.Common.{◌≡◌, ◌≢◌, ◌+◌, ◌≤◌, ◌<◌, ◌⊎◌, ℕ, zero, suc, Bool, true, false, refl, List, [], ◌∷◌, replicate, Option, None, Some, IsSome, sym, ap, subst, ◌∙◌, arith, inl, inr}
+use Rattle.std.proofs.Common.{◌≡◌, ◌≢◌, ◌+◌, ◌≤◌, ◌<◌, ◌⊎◌, ℕ, zero, suc, Bool, true, false, refl, List, [], ◌∷◌}
+use Rattle.std.proofs.Common.{replicate, Option, None, Some, IsSome, sym, ap, subst, ◌∙◌, arith, inl, inr}
 use mathlib.Core.Bool.{false≢true}
 use Rattle.std.specs.FinMap as map
 use Rattle.sp_cell.specs.declared.cell.Cell.TheVariants.{Undefined}
@@ -14,33 +15,47 @@ use Rattle.sp_cell.specs.Spots.{In}
 use Rattle.std.proofs.lemmas.Bool.{cases_eq}
 
 -- a spot known after an insert is that one, or was known
-known_of : (m : Map) (s : Spot) (h : Content) (q : Spot) → IsSome (map.get (map.insert m s h) q) → (q ≡ s) ⊎ IsSome (map.get m q)
+known_of : (m : Map) (s : Spot) (h : Content) (q : Spot) → IsSome (map.get (map.insert m s h) q) → (q ≡ s)
+    ⊎ IsSome (map.get m q)
 known_of m s h q k = elim (same_or q s) [ inl e ↦ inl e | inr d ↦ inr (rw (← get_other m s h q d) k) ]
 
-in_frame : (m : Map) (v : ℕ) (h : Content) → ((q : Spot) → IsSome (map.get m q) → q.frame < 1) → (q : Spot) → IsSome (map.get (map.insert m (record { frame = 0; variable = v }) h) q) → q.frame < 1
-in_frame m v h f q k = elim (known_of m (record { frame = 0; variable = v }) h q k) [ inl e ↦ let z : q.frame ≡ 0 = ap (λ (s : Spot). s.frame) e in omega (arith, z) | inr p ↦ f q p ]
+in_frame : (m : Map) (v : ℕ) (h : Content) → ((q : Spot) → IsSome (map.get m q) → q.frame < 1) → (q : Spot)
+    → IsSome (map.get (map.insert m (record { frame = 0; variable = v }) h) q) → q.frame < 1
+in_frame m v h f q k = elim (known_of m (record { frame = 0; variable = v }) h q k)
+    [ inl e ↦ let z : q.frame ≡ 0 = ap (λ (s : Spot). s.frame) e in omega (arith, z) | inr p ↦ f q p ]
 
 -- a new root gives its first frame a number of at most 1
-pub next_root : (p : Plain) (sizes : List ℕ) → p ≡ record { map = root_map sizes; own = []; moved = [] } → next_frame p ≤ 1
-next_root p sizes e = subst (λ (x : Plain). next_frame x ≤ 1) (sym e) (omega (arith, above_known (root_map sizes) 1 known))
+pub next_root : (p : Plain) (sizes : List ℕ) → p ≡ record { map = root_map sizes; own = []; moved = [] }
+    → next_frame p ≤ 1
+next_root p sizes e = subst (λ (x : Plain). next_frame x ≤ 1) (sym e)
+    (omega (arith, above_known (root_map sizes) 1 known))
   where
     known : (q : Spot) → IsSome (map.get (root_map sizes) q) → q.frame < 1
     known q k = elim (known_pieces _ 0 2 sizes q k) [
-      | inl h ↦ in_frame _ 1 (Output []) (in_frame map.empty 0 _ (λ r n. absurd (false≢true (rw (map.get-empty spot_cmp r) at n)))) q h
+      | inl h ↦ in_frame _ 1 (Output []) (in_frame map.empty 0 _
+          (λ r n. absurd (false≢true (rw (map.get-empty spot_cmp r) at n)))) q h
       | inr z ↦ omega (arith, z)
     ]
 
 -- ---- nothing is away
 
-none_insert : (m : Map) (s : Spot) (h : Content) → (Some h ≢ Some Away) → ((q : Spot) → map.get m q ≢ Some Away) → (q : Spot) → map.get (map.insert m s h) q ≢ Some Away
-none_insert m s h n f q e = elim (same_or q s) [ inl p ↦ n (sym (get_here m s h) ∙ ap (λ t. map.get (map.insert m s h) t) (sym p) ∙ e) | inr d ↦ f q (sym (get_other m s h q d) ∙ e) ]
+none_insert : (m : Map) (s : Spot) (h : Content) → (Some h ≢ Some Away) → ((q : Spot) → map.get m q ≢ Some Away)
+    → (q : Spot) → map.get (map.insert m s h) q ≢ Some Away
+none_insert m s h n f q e = elim (same_or q s) [
+  | inl p ↦ n (sym (get_here m s h) ∙ ap (λ t. map.get (map.insert m s h) t) (sym p) ∙ e)
+  | inr d ↦ f q
+      (sym (get_other m s h q d) ∙ e)
+]
 
 own_here : (cs : List ℕ) (n : ℕ) → Some (Own (replicate n Undefined)) ≢ Some Away
 own_here cs n e = cc
 
-pub none_pieces : (m : Map) (n v : ℕ) (cs : List ℕ) → ((q : Spot) → map.get m q ≢ Some Away) → (q : Spot) → map.get (with_pieces m n v cs) q ≢ Some Away
+pub none_pieces : (m : Map) (n v : ℕ) (cs : List ℕ) → ((q : Spot) → map.get m q ≢ Some Away) → (q : Spot)
+    → map.get (with_pieces m n v cs) q ≢ Some Away
 none_pieces m n v [] f q = f q
-none_pieces m n v (c ∷ cs) f q = none_pieces (map.insert m (record { frame = n; variable = v }) (Own (replicate c Undefined))) n (v + 1) cs (none_insert m (record { frame = n; variable = v }) (Own (replicate c Undefined)) (own_here cs c) f) q
+none_pieces m n v (c ∷ cs) f q = none_pieces
+    (map.insert m (record { frame = n; variable = v }) (Own (replicate c Undefined))) n (v + 1) cs
+    (none_insert m (record { frame = n; variable = v }) (Own (replicate c Undefined)) (own_here cs c) f) q
 
 none_here : (o : Option Content) → o ≡ None → o ≢ Some Away
 none_here o e f = let z = sym e ∙ f in absurd (false≢true (ap is_some_of z))
@@ -49,12 +64,16 @@ none_here o e f = let z = sym e ∙ f in absurd (false≢true (ap is_some_of z))
     is_some_of None = false
     is_some_of (Some x) = true
 
-pub none_without : (m : Map) (n : ℕ) → ((q : Spot) → map.get m q ≢ Some Away) → (q : Spot) → map.get (without m n) q ≢ Some Away
-none_without m n f q = elim (cases_eq q.frame n) [ inl e ↦ none_here _ (without_here m n q e) | inr d ↦ rw (without_other m n q d) (f q) ]
+pub none_without : (m : Map) (n : ℕ) → ((q : Spot) → map.get m q ≢ Some Away) → (q : Spot)
+    → map.get (without m n) q ≢ Some Away
+none_without m n f q = elim (cases_eq q.frame n)
+    [ inl e ↦ none_here _ (without_here m n q e) | inr d ↦ rw (without_other m n q d) (f q) ]
 
-pub none_root : (p : Plain) (sizes : List ℕ) → p ≡ record { map = root_map sizes; own = []; moved = [] } → (q : Spot) → map.get p.map q ≢ Some Away
+pub none_root : (p : Plain) (sizes : List ℕ) → p ≡ record { map = root_map sizes; own = []; moved = [] } → (q : Spot)
+    → map.get p.map q ≢ Some Away
 none_root p sizes e = subst (λ (x : Plain). (q : Spot) → map.get x.map q ≢ Some Away) (sym e)
-    (none_pieces _ 0 2 sizes (none_insert _ _ (Output []) (λ f. cc) (none_insert map.empty _ _ (λ f. cc) (λ q. none_here _ (map.get-empty spot_cmp q)))))
+    (none_pieces _ 0 2 sizes (none_insert _ _ (Output []) (λ f. cc)
+    (none_insert map.empty _ _ (λ f. cc) (λ q. none_here _ (map.get-empty spot_cmp q)))))
 
 -- ---- many children that share one spot
 

@@ -59,7 +59,8 @@ fn pop_all(store: &mut Store, frames: u32)
 
 // A plan that shares one variable with as many children.
 fn sharing(alloc: Global, spot: Spot, children: u32) -> Result<List<Handing>, Memory>
-    ensures { IfOk result (λ plan. plan ≡ replicate children (record { moved = []; shared = spot ∷ []; index = None })) }
+    ensures { IfOk result (λ plan. plan ≡ replicate children
+        (record { moved = []; shared = spot ∷ []; index = None })) }
 {
     let mut plan = List::new(alloc);
     for _ in 0..children {

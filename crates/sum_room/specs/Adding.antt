@@ -1,3 +1,4 @@
+-- None of this belongs to what the program promises: it is for contracts between crates.
 -- What a sum does when it is asked: the smallest object that a room can keep, with all laws that a room asks for. The
 -- example of this crate is proved by it.
 use Rattle.std.specs.Prelude.{◌≡◌, ℕ, ◌+◌, ◌<◌, List, [], ◌∷◌, length, Option, Some, None, Bool, true, false}
@@ -39,18 +40,21 @@ none_same x w Add y g m = absurd (cc (m.2))
 none_same x w Leave y g m = absurd (cc (m.2))
 none_same x w Look y g m = m.0
 
-one_more : (x : Total) (w : ℕ) (a : Ask) (y : Total) (g : Got) (n : Note) → Steps x w a y g (Some n) → y.value ≡ x.value + 1
+one_more : (x : Total) (w : ℕ) (a : Ask) (y : Total) (g : Got) (n : Note) → Steps x w a y g (Some n)
+    → y.value ≡ x.value + 1
 one_more x w Add y g n m = m.0
 one_more x w Leave y g n m = m.0
 one_more x w Look y g n m = absurd (cc (m.2))
 
 pub note_changes : (x : Total) (w : ℕ) (a : Ask) (y : Total) (g : Got) (n : Note) → Steps x w a y g (Some n) → y ≡ x → ⊥
-note_changes x w a y g n m same = let more : y.value ≡ x.value + 1 = one_more x w a y g n m in let e : y.value ≡ x.value = (λ i. (same i).value) in omega (arith, more, e)
+note_changes x w a y g n m same = let more : y.value ≡ x.value + 1 = one_more x w a y g n m in
+    let e : y.value ≡ x.value = (λ i. (same i).value) in omega (arith, more, e)
 
 some_worker : (n k : Note) → Some n ≡ Some k → n.worker ≡ k.worker
 some_worker n k e = let same : n ≡ k = cc e in λ i. (same i).worker
 
-pub note_names : (x : Total) (w : ℕ) (a : Ask) (y : Total) (g : Got) (n : Note) → Steps x w a y g (Some n) → n.worker ≡ w
+pub note_names : (x : Total) (w : ℕ) (a : Ask) (y : Total) (g : Got) (n : Note) → Steps x w a y g (Some n)
+    → n.worker ≡ w
 note_names x w Add y g n m = some_worker n _ m.2
 note_names x w Leave y g n m = some_worker n _ m.2
 note_names x w Look y g n m = absurd (cc (m.2))
@@ -62,5 +66,6 @@ pub sum_is : (x : Total) (log : List Note) (y : Total) → LeadsTo Steps x log y
 sum_is x [] y r = let e : x.value ≡ y.value = λ i. (r i).value in omega (arith, e)
 sum_is x (n ∷ ns) y r = let e = sum_is r.0 ns y r.5 in let f = one_more x r.1 r.2 r.0 r.3 n r.4 in omega (arith, e, f)
 
-pub never_full : (x : Total) (log : List Note) (y : Total) → x.value ≡ 0 → LeadsTo Steps x log y → length log < 18446744073709551615 → y.value + 1 < 18446744073709551616
+pub never_full : (x : Total) (log : List Note) (y : Total) → x.value ≡ 0 → LeadsTo Steps x log y
+    → length log < 18446744073709551615 → y.value + 1 < 18446744073709551616
 never_full x log y zero r short = omega (arith, sum_is x log y r, zero, short)

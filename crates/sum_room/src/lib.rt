@@ -32,7 +32,8 @@ mod tests;
 pub use sum::{Ask, Got, Note, Sum};
 
 impl Kept for Sum {
-    ghost use Rattle.sum_room.specs.Adding.{Steps, is_leave, Returns, leave_notes, none_same, note_changes, note_names, ask_returns, never_full};
+    ghost use Rattle.sum_room.specs.Adding.{Steps, is_leave, Returns, leave_notes, none_same, note_changes, note_names};
+    ghost use Rattle.sum_room.specs.Adding.{ask_returns, never_full};
 
     type Ask = Ask;
 
@@ -134,8 +135,8 @@ pub fn add_many<R: Wait>(
     (seat, sums)
 }
 
-/// One seat adds this many times, or until memory refuses an add, and then leaves, by its note in reserve. None where there was no
-/// memory for the room.
+/// One seat adds this many times, or until memory refuses an add, and then leaves, by its note in reserve. None where
+/// there was no memory for the room.
 pub fn add_and_leave<R: Wait>(
     rt: &R,
     alloc: Global,

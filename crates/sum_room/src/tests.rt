@@ -33,7 +33,8 @@ fn two_threads_add(rt: HostRuntime) -> Result<(), Fail> {
     Ok(())
 }
 
-// Where no add is refused it leaves after all of them. Where one is, as with `rt try --test --fail-alloc`, it leaves then.
+// Where no add is refused it leaves after all of them. Where one is, as with `rt try --test --fail-alloc`, it leaves
+// then.
 #[test]
 fn a_refused_seat_still_leaves(rt: HostRuntime) -> Result<(), Fail> {
     let (sums, settled) = add_and_leave(&rt, rt.alloc(), 100).ok_or("memory")?;

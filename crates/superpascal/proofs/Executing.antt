@@ -381,7 +381,6 @@ module _ (c : Call) (k : IsAnswered c) (l : Laws) where
 
     -- of the input that is told
     module _ (input : List ℕ) (left : c.source.left ≡ Some input) (sound : IsSoundFile bytes) where
-
       runs_well : length input ≤ 16777216 → IsFinal is_status ⊎ IsOutside is_status
       runs_well fits = go came_here
         where

@@ -1,3 +1,4 @@
+-- None of this belongs to what the program promises: it is for contracts between crates.
 -- What the parts of a call answer, before it is told apart by commands. The contracts of `answers`, `notes`, `runs`,
 -- `replays`, `executions` and `texts` promise it, a case for each way in which a text, a file or an input is found.
 use Rattle.std.specs.Prelude.{◌≡◌, ◌⊎◌, ℕ, ◌<◌, ◌≤◌, List, Option, Some, None, IfSome, Result, Ok, Err, length}

@@ -1,3 +1,4 @@
+-- All of this belongs to what the program promises (docs/promise.txt).
 -- What a call has to write, and its status: the table of endings. The contracts of `ending` and `writing` promise it,
 -- and the headline and the statuses are said by it.
 use Rattle.std.specs.Prelude.{ℕ, List, [], ◌++◌, Option, Some, None, Bool, true, false, codes, decimal}

@@ -1,3 +1,4 @@
+-- All of this belongs to what the program promises (docs/promise.txt).
 -- A call of the program (`Call`): what it is given, what it leaves, and how its answer is written (`IsAnswered`). The
 -- contract of the top call speaks of this record, so that its clauses need no name of a stream or a library.
 use Rattle.std.specs.Prelude.{◌≡◌, ◌≢◌, ◌⊎◌, ℕ, ◌<◌, ◌≤◌, List, true, false, length, take, Option, Some}

@@ -1,3 +1,4 @@
+-- All of this belongs to what the program promises (docs/promise.txt).
 -- What a call finds outside, and why an answer is due (`Cause`): for each ending the cause that it names. The contracts
 -- of the parts of a call promise it, and the statuses of the top call are led from it.
 use Rattle.std.specs.Prelude.{◌≡◌, ◌⊎◌, ℕ, ◌<◌, ◌≤◌, List, [], Option, Some, None, IfSome, length}

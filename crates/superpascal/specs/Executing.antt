@@ -1,3 +1,4 @@
+-- All of this belongs to what the program promises (docs/promise.txt).
 -- What the top call promises of `exec`: a code file is run only where its code breaks no rule of code files, and then
 -- its output and its end are those of the machine along the run's journal; where `build` wrote the file for a text,
 -- they are what the text's program means along it. Else the first thing that is wrong with the file is named, and

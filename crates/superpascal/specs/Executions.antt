@@ -1,3 +1,4 @@
+-- All of this belongs to what the program promises (docs/promise.txt).
 -- A code file that is run, and what is told of it. The contracts of `executions` and `notes` promise it; the clauses on
 -- `exec` are said by it.
 use Rattle.std.specs.Prelude.{ℕ, List, Some, None}

@@ -1,3 +1,4 @@
+-- All of this belongs to what the program promises (docs/promise.txt).
 -- What the top call promises of `replay`: a journal is followed exactly where the meaning of the program is defined
 -- along it, with its output and its end; else the first thing that is wrong with it is named, and status 9 comes of
 -- nothing else.

@@ -1,3 +1,4 @@
+-- All of this belongs to what the program promises (docs/promise.txt).
 -- The headline of the program, for its commands `run` and `witness`.
 --
 -- For all program bytes, input and worker counts: the text is refused exactly where a written rule is broken; in no

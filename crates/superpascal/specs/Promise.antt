@@ -1,3 +1,4 @@
+-- All of this belongs to what the program promises (docs/promise.txt).
 -- What the top call promises of each call: what a run and a replay mean, what the run of a code file is, what the
 -- witness of a race shows, when each status comes, what is written, and which answer was due and why. It is the
 -- contract of the call that the program makes, and nothing else is promised to its user.

@@ -1,3 +1,4 @@
+-- All of this belongs to what the program promises (docs/promise.txt).
 -- The program of a text along a journal, and what is told of it. The contracts of `replays` and `notes` promise it; the
 -- clauses on `replay` and the written texts are said by it.
 use Rattle.std.specs.Prelude.{ℕ, ◌≤◌, List, ◌++◌, Option, Some, None, codes, length}

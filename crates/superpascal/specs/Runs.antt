@@ -1,3 +1,4 @@
+-- All of this belongs to what the program promises (docs/promise.txt).
 -- A run of the program of a text (`IsRunOf`), and what is told of it. The contracts of `runs` and `notes` promise it;
 -- the headline and the written texts are said by it.
 use Rattle.std.specs.Option.{option_map_or}

@@ -1,3 +1,4 @@
+-- All of this belongs to what the program promises (docs/promise.txt).
 -- When each status comes, and what is given back. The contract of the top call promises it: each status exactly by its
 -- cause, so that a caller can rest on the number alone.
 use Rattle.std.specs.Prelude.{◌≡◌, ◌⊎◌, ℕ, ◌≤◌, List, [], Some, None, IfSome, length}

@@ -1,3 +1,4 @@
+-- Some of this belongs to what the program promises (docs/promise.txt).
 -- What each command finds in a text: the first rule for which it refuses the text (`Breaks`), or none (`Keeps`), or
 -- what it makes of it (`Makes`). The contracts of `texts` promise it, and the causes, the headline and the writing cite
 -- it.

@@ -1,3 +1,4 @@
+-- All of this belongs to what the program promises (docs/promise.txt).
 -- What `witness` says of a race. It is a part of the contract of the top call: the output is the text of a journal of
 -- the program itself, on this input and with these limits, which ends where the two offers of the verdict contend.
 use Rattle.std.specs.Prelude.{◌≡◌, ℕ, List, Some}

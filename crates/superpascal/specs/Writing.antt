@@ -1,3 +1,4 @@
+-- All of this belongs to what the program promises (docs/promise.txt).
 -- What a call has written, by its status. The contract of the top call promises it: all of it, a first part where a
 -- sink failed, or the line of the status.
 use Rattle.std.specs.Prelude.{◌≡◌, ◌≢◌, ℕ, List, [], Some, false}

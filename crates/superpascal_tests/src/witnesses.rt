@@ -93,7 +93,8 @@ fn expect_contention<R: Threads + Wait + Sync + Abort>(
     expect_given(rt, given, 3, false, "", notes, text);
 }
 
-// The witness of a race is followed to its fault. Where the two offers contended in the run itself, there is no verdict.
+// The witness of a race is followed to its fault. Where the two offers contended in the run itself, there is no
+// verdict.
 fn expect_followed<R: Threads + Wait + Sync + Abort>(
     rt: &R,
     alloc: Global,

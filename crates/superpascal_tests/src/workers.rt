@@ -111,7 +111,8 @@ fn expect_meeting<R: Threads + Wait + Sync + Abort>(
     assert_eq!(rt; found, missed);
 }
 
-// The one worker takes process 1 first, and enters with it before it takes process 2; two workers are in a turn at once.
+// The one worker takes process 1 first, and enters with it before it takes process 2; two workers are in a turn at
+// once.
 #[test]
 fn turns_at_once(rt: HostRuntime) {
     expect_meeting(&rt, rt.alloc(), "1", 1000, 1);

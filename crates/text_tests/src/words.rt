@@ -52,8 +52,8 @@ fn show_text(show: Show) -> &'static [u8] {
 }
 
 /// The words as a command line in one text: the command, its file or its size and, of `run`, `gen`, `witness` and
-/// `exec`, the workers; of `run` the limits in their order and the report too, of `witness` and `exec` the limits, and of
-/// `replay` the journal and the limits.
+/// `exec`, the workers; of `run` the limits in their order and the report too, of `witness` and `exec` the limits, and
+/// of `replay` the journal and the limits.
 fn add_command(all: &mut Vec<u8>, command: &Command) {
     match command {
         Command::Check(file) => add_named(all, b"check", file),

@@ -29,7 +29,8 @@ loop-p-preserved c = λ k l at.
     λ (at : IsAt c.args.start fs p). elim c.if-p-start.branch [
       | then-p-start+in-None w ↦ w.in-None.ensures
       | else-p-start+else-flag_at w ↦ absurd (⊎_elim (λ (e : p ≡ c.args.start). w.if-p-start.false e)
-          (λ (e : flag_at fs p ≡ true). not_true_and_false (flag_at fs p) e (sym w.flag_at.ensures ∙ w.if-flag_at.false)) at)
+          (λ (e : flag_at fs p ≡ true). not_true_and_false (flag_at fs p) e
+          (sym w.flag_at.ensures ∙ w.if-flag_at.false)) at)
     ] in
     ⊎_elim (λ (y : k < p). c.loop-p.invariant k y at)
     (λ (e : k ≡ p). subst (λ i. AreFlagged code fs i) (sym e) (here (subst (λ i. IsAt c.args.start fs i) e at)))

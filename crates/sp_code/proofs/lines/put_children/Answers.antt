@@ -4,4 +4,6 @@ use Rattle.sp_code.proofs.Numbered.{numbered_step}
 use Rattle.sp_code.proofs.lines.put_children.Goals as goal
 
 pub loop-number-preserved : goal.loop-number-preserved
-loop-number-preserved c = numbered_step (child_line c.args.table) c.args.children.now c.loop-number.number c.index-children-number.result c.args.out.now.items _ _ (omega arith) c.index-children-number.is c.loop-number.invariant c.in_ok-put_child_line.ensures
+loop-number-preserved c = numbered_step (child_line c.args.table) c.args.children.now c.loop-number.number
+    c.index-children-number.result c.args.out.now.items _ _ (omega arith) c.index-children-number.is
+    c.loop-number.invariant c.in_ok-put_child_line.ensures

@@ -4,4 +4,5 @@ use Rattle.sp_code.proofs.Numbered.{numbered_next}
 use Rattle.sp_code.proofs.lines.put_instrs.Goals as goal
 
 pub loop-number-preserved : goal.loop-number-preserved
-loop-number-preserved c = numbered_next instr_line c.args.instrs.now c.loop-number.number _ c.args.out.now.items _ _ (omega arith) c.loop-number.invariant c.in_ok-put_instr_line.ensures
+loop-number-preserved c = numbered_next instr_line c.args.instrs.now c.loop-number.number _ c.args.out.now.items _ _
+    (omega arith) c.loop-number.invariant c.in_ok-put_instr_line.ensures

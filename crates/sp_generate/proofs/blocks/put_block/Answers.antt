@@ -17,7 +17,12 @@ returns c =
     let sh = shared_of c.args.sets.now in
     let d2 = c.put_statement.new.d in
     let inner = ap scopes c.as_slice.ensures.value ∙ c.in_ok-scopes.ensures in
-    let body = c.in_ok-put_statement.ensures ∙ ap (λ (sc : List around.Scope). written p mv sh c.args.d.now sc (statement_of c.args.k.now.body)) inner in
-    (λ i. record { instrs = (c.in_ok-put.ensures ∙ ap (λ (x : Instr). d2.instrs ++ x ∷ []) c.end_instr.ensures) i; forks = d2.forks; texts = d2.texts })
+    let body = c.in_ok-put_statement.ensures
+    ∙ ap (λ (sc : List around.Scope). written p mv sh c.args.d.now sc (statement_of c.args.k.now.body)) inner in
+    (λ i. record {
+      instrs = (c.in_ok-put.ensures ∙ ap (λ (x : Instr). d2.instrs ++ x ∷ []) c.end_instr.ensures) i;
+      forks = d2.forks;
+      texts = d2.texts;
+    })
     ∙ ap (λ (d : Draft). with_code d (end_instr c.args.b ∷ [])) body
     ∙ block_is p mv sh c.args.d.now c.args.b (block_of c.args.k.now)

@@ -5,11 +5,13 @@ use Rattle.sp_generate.proofs.Locals.{scope_on, scope_end}
 use Rattle.sp_generate.proofs.blocks.scopes_of.Goals as goal
 
 pub returns-in-None : goal.returns-in-None
-returns-in-None c = scope_end (bare (program_of c.args.checked.now)) c.loop.out.items (c.len-end.result - c.loop.counter) c.loop.at c.in-None.is ∙ c.loop.invariant.1
+returns-in-None c = scope_end (bare (program_of c.args.checked.now)) c.loop.out.items
+    (c.len-end.result - c.loop.counter) c.loop.at c.in-None.is ∙ c.loop.invariant.1
 
 pub loop-preserved : goal.loop-preserved
 loop-preserved c = (
   c.loop.invariant.0,
-  scope_on (bare (program_of c.args.checked.now)) c.loop.out.items c.push.new.self.items c.in-Some.c c.loop.counter c.len-end.result c.loop.at c.parent_of-at.result
+  scope_on (bare (program_of c.args.checked.now)) c.loop.out.items c.push.new.self.items c.in-Some.c c.loop.counter
+      c.len-end.result c.loop.at c.parent_of-at.result
       c.loop-test.true c.in-Some.is c.in_ok-push-in-Some.ensures.items c.parent_of-at.ensures ∙ c.loop.invariant.1,
 )

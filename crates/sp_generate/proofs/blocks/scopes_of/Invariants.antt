@@ -8,4 +8,5 @@ use Rattle.sp_generate.proofs.blocks.scopes_of.Given as goal
 abbrev pub invariant-loop : goal.invariant-loop
 invariant-loop l =
     (l.end ≡ length l.checked.blocks) ×
-    (scopes l.out.items ++ scopes_by (bare (program_of l.checked)) (l.end - l.counter) l.at ≡ scopes_of (bare (program_of l.checked)) l.fn.b)
+    (scopes l.out.items ++ scopes_by (bare (program_of l.checked)) (l.end - l.counter) l.at
+    ≡ scopes_of (bare (program_of l.checked)) l.fn.b)

@@ -5,4 +5,5 @@ use Rattle.sp_generate.proofs.cells.fields_cells.Given as goal
 
 abbrev pub invariant-loop-f : goal.invariant-loop-f
 invariant-loop-f l =
-    l.cells + sum (map (λ (f : List ℕ × ℕ). first_or 0 (slice_get l.known f.1)) (drop l.f-index l.fields)) ≡ sum (map (λ (f : List ℕ × ℕ). first_or 0 (slice_get l.known f.1)) l.fields)
+    l.cells + sum (map (λ (f : List ℕ × ℕ). first_or 0 (slice_get l.known f.1)) (drop l.f-index l.fields))
+    ≡ sum (map (λ (f : List ℕ × ℕ). first_or 0 (slice_get l.known f.1)) l.fields)

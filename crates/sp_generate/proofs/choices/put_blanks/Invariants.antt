@@ -5,4 +5,5 @@ use Rattle.sp_generate.specs.Written.{blank_tests}
 use Rattle.sp_generate.proofs.choices.put_blanks.Given as goal
 
 abbrev pub invariant-loop-a : goal.invariant-loop-a
-invariant-loop-a l = l.code ++ blank_tests (bare_arms (arms (map arm_of (drop l.a-index l.xs)))) ≡ l.fn.code ++ blank_tests (bare_arms (arms (map arm_of l.xs)))
+invariant-loop-a l = l.code ++ blank_tests (bare_arms (arms (map arm_of (drop l.a-index l.xs)))) ≡ l.fn.code
+    ++ blank_tests (bare_arms (arms (map arm_of l.xs)))

@@ -5,4 +5,5 @@ use Rattle.sp_generate.specs.Tabled.{slots_from, slots_of}
 use Rattle.sp_generate.proofs.frames.slots_of.Given as goal
 
 abbrev pub invariant-loop-x : goal.invariant-loop-x
-invariant-loop-x l = l.out.items ++ slots_from (bare (program_of l.checked)) l.x (map variable_of (drop l.x l.checked.variables)) ≡ slots_of (bare (program_of l.checked))
+invariant-loop-x l = l.out.items ++ slots_from (bare (program_of l.checked)) l.x
+    (map variable_of (drop l.x l.checked.variables)) ≡ slots_of (bare (program_of l.checked))

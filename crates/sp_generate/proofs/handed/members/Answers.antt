@@ -9,13 +9,17 @@ pub loop-x-preserved : goal.loop-x-preserved
 loop-x-preserved c =
     let set = c.args.set.now in
     let next = c.in-Some.ensures in
-    (λ i. c.in_ok-push.ensures.items i ++ fitting (has set) (c.in_ok-from.ensures i) (64 * length set.words - c.in_ok-from.ensures i))
-    ∙ next_fits (has set) c.loop-x.out.items (64 * length set.words) c.loop-x.from c.in-Some.x next.0 next.1 next.2 (below_words set.words c.in-Some.x next.1)
+    (λ i. c.in_ok-push.ensures.items i ++ fitting (has set) (c.in_ok-from.ensures i)
+    (64 * length set.words - c.in_ok-from.ensures i))
+    ∙ next_fits (has set) c.loop-x.out.items (64 * length set.words) c.loop-x.from c.in-Some.x next.0 next.1 next.2
+    (below_words set.words c.in-Some.x next.1)
     ∙ c.loop-x.invariant
 
 pub returns : goal.returns
 returns c =
     let set = c.args.set.now in
     c.of.ensures
-    ∙ sym (none_fits (has set) c.loop-x.out.items (64 * length set.words) c.loop-x.from (none_from (has set) c.words.result c.loop-x.from c.if-words-gt67108864.false c.words.ensures c.in_default.ensures))
+    ∙ sym (none_fits (has set) c.loop-x.out.items (64 * length set.words) c.loop-x.from
+    (none_from (has set) c.words.result c.loop-x.from c.if-words-gt67108864.false c.words.ensures
+    c.in_default.ensures))
     ∙ c.loop-x.invariant

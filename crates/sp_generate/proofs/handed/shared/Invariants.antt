@@ -4,4 +4,5 @@ use Rattle.sp_generate.specs.Handings.{is_shared, shared_of}
 use Rattle.sp_generate.proofs.handed.shared.Given as goal
 
 abbrev pub invariant-loop-x : goal.invariant-loop-x
-invariant-loop-x l = l.out.items ++ filter (is_shared l.sets l.number) (drop l.x-index l.x-items) ≡ shared_of l.sets l.number
+invariant-loop-x l = l.out.items ++ filter (is_shared l.sets l.number) (drop l.x-index l.x-items)
+    ≡ shared_of l.sets l.number

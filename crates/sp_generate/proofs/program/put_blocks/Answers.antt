@@ -17,12 +17,19 @@ loop-b-preserved c =
     let xs = c.args.g.now.checked.now.blocks in
     let k = c.k-item.result in
     let rest = map block_of (drop (c.loop-b.b + 1) xs) in
-    let on = blocks_on xs c.items-k-items.result.now c.loop-b.b k c.items-k-items.ensures c.loop-b-test.true c.k-item.is in (
-      block_next p mv sh c.loop-b.d c.put_block.new.d c.loop-b.b c.in_ok-number.number (block_of k) rest c.in_ok-number.ensures c.in_ok-put_block.ensures
-          ∙ ap (λ (ks : List placed.Block). written_blocks p mv sh c.loop-b.d c.loop-b.b ks) (sym on) ∙ c.loop-b.invariant.0,
-      layout_next p mv sh c.loop-b.out.items c.push.new.self.items c.loop-b.d c.put_block.new.d c.loop-b.b c.in_ok-number.number c.in_ok-entry.entry c.in_ok-layout.layout (block_of k) rest
-          c.in_ok-number.ensures (c.in_ok-entry.ensures ∙ c.len.ensures) c.in_ok-layout.ensures c.in_ok-push.ensures.items c.in_ok-put_block.ensures
-          ∙ ap (λ (ks : List placed.Block). c.loop-b.out.items ++ layouts_from p c.loop-b.b (length c.loop-b.d.instrs) (map bare_block ks)) (sym on) ∙ c.loop-b.invariant.1,
+    let on = blocks_on xs c.items-k-items.result.now c.loop-b.b k c.items-k-items.ensures c.loop-b-test.true
+    c.k-item.is in (
+      block_next p mv sh c.loop-b.d c.put_block.new.d c.loop-b.b c.in_ok-number.number (block_of k) rest
+          c.in_ok-number.ensures c.in_ok-put_block.ensures
+          ∙ ap (λ (ks : List placed.Block). written_blocks p mv sh c.loop-b.d c.loop-b.b ks) (sym on)
+          ∙ c.loop-b.invariant.0,
+      layout_next p mv sh c.loop-b.out.items c.push.new.self.items c.loop-b.d c.put_block.new.d c.loop-b.b
+          c.in_ok-number.number c.in_ok-entry.entry c.in_ok-layout.layout (block_of k) rest
+          c.in_ok-number.ensures (c.in_ok-entry.ensures ∙ c.len.ensures) c.in_ok-layout.ensures
+          c.in_ok-push.ensures.items c.in_ok-put_block.ensures
+          ∙ ap (λ (ks : List placed.Block). c.loop-b.out.items
+          ++ layouts_from p c.loop-b.b (length c.loop-b.d.instrs) (map bare_block ks)) (sym on)
+          ∙ c.loop-b.invariant.1,
     )
 
 pub returns-clause-code : goal.returns-clause-code
@@ -32,5 +39,6 @@ returns-clause-code c =
     let sh = shared_of c.args.sets.now in
     let xs = c.args.g.now.checked.now.blocks in
     sym (blocks_none p mv sh c.loop-b.d c.loop-b.b)
-    ∙ ap (λ ys. written_blocks p mv sh c.loop-b.d c.loop-b.b (map block_of ys)) (blocks_end xs c.items-k-items.result.now c.loop-b.b c.items-k-items.ensures c.loop-b-test.false)
+    ∙ ap (λ ys. written_blocks p mv sh c.loop-b.d c.loop-b.b (map block_of ys))
+    (blocks_end xs c.items-k-items.result.now c.loop-b.b c.items-k-items.ensures c.loop-b-test.false)
     ∙ c.loop-b.invariant.0

@@ -5,5 +5,7 @@ use Rattle.sp_generate.proofs.program.put_blocks.Given as goal
 
 abbrev pub invariant-loop-b : goal.invariant-loop-b
 invariant-loop-b l =
-    (with_blocks l.g l.sets l.d l.b (map block_of (drop l.b l.g.checked.now.blocks)) ≡ with_blocks l.g l.sets l.fn.d 0 (map block_of l.g.checked.now.blocks)) ×
-    (l.out.items ++ layouts_in l.g l.b (length l.d.instrs) (map block_of (drop l.b l.g.checked.now.blocks)) ≡ layouts_in l.g 0 (length l.fn.d.instrs) (map block_of l.g.checked.now.blocks))
+    (with_blocks l.g l.sets l.d l.b (map block_of (drop l.b l.g.checked.now.blocks))
+    ≡ with_blocks l.g l.sets l.fn.d 0 (map block_of l.g.checked.now.blocks)) ×
+    (l.out.items ++ layouts_in l.g l.b (length l.d.instrs) (map block_of (drop l.b l.g.checked.now.blocks))
+    ≡ layouts_in l.g 0 (length l.fn.d.instrs) (map block_of l.g.checked.now.blocks))

@@ -19,5 +19,6 @@ returns c =
     let va = var_code p sc (bare_variable (variable_of c.args.v.now)) in
     let ra = right_code p sc e.kind (sort p e.kind) (bare_form (expression_form_of e.form)) in
     rw i (added c.put.result c.args.code.now c.put_right.new.code c.put.new.code (va ++ ra) _ _
-    (both c.args.code.now c.put_var.new.code c.put_right.new.code va ra c.in_ok-put_var.ensures.code (rw i at c.in_ok-put_right.ensures)) c.put.ensures
+    (both c.args.code.now c.put_var.new.code c.put_right.new.code va ra c.in_ok-put_var.ensures.code
+    (rw i at c.in_ok-put_right.ensures)) c.put.ensures
     (append_assoc va ra _ ∙ ap (λ (x : Instr). va ++ (ra ++ x ∷ [])) c.assign_instr.ensures))

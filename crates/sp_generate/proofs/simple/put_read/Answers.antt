@@ -13,4 +13,5 @@ returns c =
     let p = whole c.args.g.now in
     let va = var_code p (scopes c.args.sc.now) (bare_variable (variable_of c.args.v.now)) in
     added c.put.result c.args.code.now c.put_var.new.code c.put.new.code _ _ _ c.in_ok-k.ensures.code c.put.ensures
-    (ap (λ (x : Instr). va ++ x ∷ []) (c.reading_instr.ensures ∙ ap (λ (m : ℕ). reading_instr (kind_at p m)) c.in_ok-k.ensures.kind))
+    (ap (λ (x : Instr). va ++ x ∷ []) (c.reading_instr.ensures
+    ∙ ap (λ (m : ℕ). reading_instr (kind_at p m)) c.in_ok-k.ensures.kind))

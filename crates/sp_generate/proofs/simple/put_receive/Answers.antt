@@ -14,5 +14,6 @@ returns c =
     let ch = value_code p sc (bare_expression (expression_of c.args.channel.now)) in
     let va = var_code p sc (bare_variable (variable_of c.args.v.now)) in
     added c.put.result c.args.code.now c.put_var.new.code c.put.new.code (ch ++ va) _ _
-    (both c.args.code.now c.put_value.new.code c.put_var.new.code ch va c.in_ok-put_value.ensures c.in_ok-k.ensures.code) c.put.ensures
+    (both c.args.code.now c.put_value.new.code c.put_var.new.code ch va c.in_ok-put_value.ensures
+    c.in_ok-k.ensures.code) c.put.ensures
     (append_assoc ch va _ ∙ ap (λ (m : ℕ). ch ++ (va ++ i.Receive m ∷ [])) c.in_ok-k.ensures.kind)

@@ -6,4 +6,6 @@ use Rattle.sp_generate.specs.Written.{receives_code}
 use Rattle.sp_generate.proofs.simple.put_receives.Given as goal
 
 abbrev pub invariant-loop-v : goal.invariant-loop-v
-invariant-loop-v l = l.code ++ receives_code (whole l.g) (scopes l.sc) (bare_expression (expression_of l.channel)) (map variable_of (drop l.v-index l.variables)) ≡ l.fn.code ++ receives_code (whole l.g) (scopes l.sc) (bare_expression (expression_of l.channel)) (map variable_of l.variables)
+invariant-loop-v l = l.code ++ receives_code (whole l.g) (scopes l.sc) (bare_expression (expression_of l.channel))
+    (map variable_of (drop l.v-index l.variables)) ≡ l.fn.code
+    ++ receives_code (whole l.g) (scopes l.sc) (bare_expression (expression_of l.channel)) (map variable_of l.variables)

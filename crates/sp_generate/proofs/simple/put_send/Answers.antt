@@ -15,7 +15,9 @@ returns c =
     let sc = scopes c.args.sc.now in
     let ch = value_code p sc (bare_expression (expression_of c.args.channel.now)) in
     let va = value_code p sc (bare_expression (expression_of c.args.e.now)) in
-    let kind : (out-Expr c.args.e.now).kind ≡ kind_of (bare_expression (expression_of c.args.e.now)) = search (rules, fold_out-Expr) in
+    let kind : (out-Expr c.args.e.now).kind ≡ kind_of (bare_expression (expression_of c.args.e.now)) =
+    search (rules, fold_out-Expr) in
     added c.put.result c.args.code.now c.put_value-2.new.code c.put.new.code (ch ++ va) _ _
-    (both c.args.code.now c.put_value.new.code c.put_value-2.new.code ch va c.in_ok-put_value.ensures c.in_ok-put_value-2.ensures) c.put.ensures
+    (both c.args.code.now c.put_value.new.code c.put_value-2.new.code ch va c.in_ok-put_value.ensures
+    c.in_ok-put_value-2.ensures) c.put.ensures
     (append_assoc ch va _ ∙ ap (λ (m : ℕ). ch ++ (va ++ i.Send m ∷ [])) kind)

@@ -6,4 +6,6 @@ use Rattle.sp_generate.specs.Written.{sends_code}
 use Rattle.sp_generate.proofs.simple.put_sends.Given as goal
 
 abbrev pub invariant-loop-e : goal.invariant-loop-e
-invariant-loop-e l = l.code ++ sends_code (whole l.g) (scopes l.sc) (bare_expression (expression_of l.channel)) (map expression_of (drop l.e-index l.values)) ≡ l.fn.code ++ sends_code (whole l.g) (scopes l.sc) (bare_expression (expression_of l.channel)) (map expression_of l.values)
+invariant-loop-e l = l.code ++ sends_code (whole l.g) (scopes l.sc) (bare_expression (expression_of l.channel))
+    (map expression_of (drop l.e-index l.values)) ≡ l.fn.code
+    ++ sends_code (whole l.g) (scopes l.sc) (bare_expression (expression_of l.channel)) (map expression_of l.values)

@@ -15,9 +15,14 @@ returns c =
     let sc = scopes c.args.sc.now in
     let va = value_code p sc (bare_expression (expression_of c.args.e.now)) in
     let wa = width_code p sc (bare_width (width_of c.args.w.now)) in
-    let kind : (out-Expr c.args.e.now).kind ≡ kind_of (bare_expression (expression_of c.args.e.now)) = search (rules, fold_out-Expr) in
-    let given : c.is_some.result ≡ is_given (bare_width (width_of c.args.w.now)) = first_of (search rules, grind (arith, common_steps)) in
-    let is : c.write_instr.result ≡ write_instr (kind_at p (kind_of (bare_expression (expression_of c.args.e.now)))) (is_given (bare_width (width_of c.args.w.now))) = c.write_instr.ensures ∙ (λ j. write_instr (kind_at p (kind j)) (given j)) in
+    let kind : (out-Expr c.args.e.now).kind ≡ kind_of (bare_expression (expression_of c.args.e.now)) =
+    search (rules, fold_out-Expr) in
+    let given : c.is_some.result ≡ is_given (bare_width (width_of c.args.w.now)) =
+    first_of (search rules, grind (arith, common_steps)) in
+    let is : c.write_instr.result ≡ write_instr (kind_at p (kind_of (bare_expression (expression_of c.args.e.now))))
+    (is_given (bare_width (width_of c.args.w.now))) = c.write_instr.ensures
+    ∙ (λ j. write_instr (kind_at p (kind j)) (given j)) in
     added c.put.result c.args.code.now c.put_width.new.code c.put.new.code (va ++ wa) _ _
-    (both c.args.code.now c.put_value.new.code c.put_width.new.code va wa c.in_ok-put_value.ensures c.in_ok-put_width.ensures) c.put.ensures
+    (both c.args.code.now c.put_value.new.code c.put_width.new.code va wa c.in_ok-put_value.ensures
+    c.in_ok-put_width.ensures) c.put.ensures
     (append_assoc va wa _ ∙ (λ j. va ++ (wa ++ is j ∷ [])))

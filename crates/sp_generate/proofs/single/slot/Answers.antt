@@ -5,4 +5,5 @@ use Rattle.sp_generate.proofs.Tables.{slot_or}
 use Rattle.sp_generate.proofs.single.slot.Goals as goal
 
 pub returns : goal.returns
-returns c = c.number_at.ensures ∙ ap (λ (xs : List ℕ). first_or 0 (slice_get xs c.args.x)) c.args.g.now.placed ∙ slot_or (whole c.args.g.now) c.args.x
+returns c = c.number_at.ensures ∙ ap (λ (xs : List ℕ). first_or 0 (slice_get xs c.args.x)) c.args.g.now.placed
+    ∙ slot_or (whole c.args.g.now) c.args.x

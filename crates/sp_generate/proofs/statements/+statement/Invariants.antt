@@ -7,15 +7,21 @@ use Rattle.sp_generate.specs.Puts.{with_all, with_children, with_arms, children_
 use Rattle.sp_generate.proofs.statements.+statement.Given as goal
 
 abbrev pub invariant-put_all-loop-s : goal.invariant-put_all-loop-s
-invariant-put_all-loop-s l = with_all l.g l.sets l.sc l.d (statements (map statement_of (drop l.s-index l.ss))) ≡ with_all l.g l.sets l.sc l.fn.d (statements (map statement_of l.ss))
+invariant-put_all-loop-s l = with_all l.g l.sets l.sc l.d (statements (map statement_of (drop l.s-index l.ss)))
+    ≡ with_all l.g l.sets l.sc l.fn.d (statements (map statement_of l.ss))
 
 abbrev pub invariant-put_children-loop-s : goal.invariant-put_children-loop-s
 invariant-put_children-loop-s l =
-    (with_children l.g l.sets l.sc l.d (statements (map statement_of (drop l.s-index l.ss))) ≡ with_children l.g l.sets l.sc l.fn.d (statements (map statement_of l.ss))) ×
-    (l.out.items ++ children_of l.g l.sets (length l.d.instrs) (statements (map statement_of (drop l.s-index l.ss))) ≡ children_of l.g l.sets (length l.fn.d.instrs) (statements (map statement_of l.ss)))
+    (with_children l.g l.sets l.sc l.d (statements (map statement_of (drop l.s-index l.ss)))
+    ≡ with_children l.g l.sets l.sc l.fn.d (statements (map statement_of l.ss))) ×
+    (l.out.items ++ children_of l.g l.sets (length l.d.instrs) (statements (map statement_of (drop l.s-index l.ss)))
+    ≡ children_of l.g l.sets (length l.fn.d.instrs) (statements (map statement_of l.ss)))
 
 abbrev pub invariant-put_arms-loop-a : goal.invariant-put_arms-loop-a
 invariant-put_arms-loop-a l =
-    (with_arms l.g l.sets l.sc l.d (arms (map arm_of (drop l.a-index l.xs))) 0 ≡ with_arms l.g l.sets l.sc l.fn.d (arms (map arm_of l.xs)) 0) ×
-    (l.starts.items ++ starts_of (whole l.g) (length l.d.instrs) (bare_arms (arms (map arm_of (drop l.a-index l.xs)))) ≡ starts_of (whole l.g) (length l.fn.d.instrs) (bare_arms (arms (map arm_of l.xs)))) ×
-    (l.ends.items ++ ends_of (whole l.g) (length l.d.instrs) (bare_arms (arms (map arm_of (drop l.a-index l.xs)))) ≡ ends_of (whole l.g) (length l.fn.d.instrs) (bare_arms (arms (map arm_of l.xs))))
+    (with_arms l.g l.sets l.sc l.d (arms (map arm_of (drop l.a-index l.xs))) 0
+    ≡ with_arms l.g l.sets l.sc l.fn.d (arms (map arm_of l.xs)) 0) ×
+    (l.starts.items ++ starts_of (whole l.g) (length l.d.instrs) (bare_arms (arms (map arm_of (drop l.a-index l.xs))))
+    ≡ starts_of (whole l.g) (length l.fn.d.instrs) (bare_arms (arms (map arm_of l.xs)))) ×
+    (l.ends.items ++ ends_of (whole l.g) (length l.d.instrs) (bare_arms (arms (map arm_of (drop l.a-index l.xs))))
+    ≡ ends_of (whole l.g) (length l.fn.d.instrs) (bare_arms (arms (map arm_of l.xs))))

@@ -18,10 +18,12 @@ pub returns-clause-idle : goal.returns-clause-idle
 returns-clause-idle k = λ g ns s r none idle kept q.
     let a = agrees_start plain g in
     let o = reaches_keeps plain g control_at_start (opening plain g) s ns orderly_start a r in
-    nobody_runs (control ns) s o.0 o.1 (outs_all plain g control_at_start (opening plain g) s ns orderly_start a outs_start r) none idle kept q
+    nobody_runs (control ns) s o.0 o.1 (outs_all plain g control_at_start (opening plain g) s ns orderly_start a
+    outs_start r) none idle kept q
 
 pub returns-clause-over : goal.returns-clause-over
 returns-clause-over k = λ g ns more s t r v u.
     let a = agrees_start plain g in
     let o = reaches_keeps plain g control_at_start (opening plain g) s ns orderly_start a r in
-    over_all plain g (control ns) s t more o.0 o.1 (outs_all plain g control_at_start (opening plain g) s ns orderly_start a outs_start r) v u
+    over_all plain g (control ns) s t more o.0 o.1
+    (outs_all plain g control_at_start (opening plain g) s ns orderly_start a outs_start r) v u

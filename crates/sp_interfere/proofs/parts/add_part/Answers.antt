@@ -12,7 +12,9 @@ returns-clause-targets c = λ numbers j.
 
 pub returns-clause-used : goal.returns-clause-used
 returns-clause-used c = λ numbers j.
-    joins_more c.args.used.now c.add-3.new.self (is_used c.args.s.now) numbers c.args.n j (c.add-3.ensures.first ∙ c.add-2.ensures.first)
-    (added_both c.args.used.now c.add-2.new.self c.add-3.new.self (has (targets_of c.args.s.now c.args.n)) (has (expressions_of c.args.s.now c.args.n)) c.add-2.ensures.first c.add-3.ensures.first
+    joins_more c.args.used.now c.add-3.new.self (is_used c.args.s.now) numbers c.args.n j
+    (c.add-3.ensures.first ∙ c.add-2.ensures.first)
+    (added_both c.args.used.now c.add-2.new.self c.add-3.new.self (has (targets_of c.args.s.now c.args.n))
+    (has (expressions_of c.args.s.now c.args.n)) c.add-2.ensures.first c.add-3.ensures.first
     (λ x i. c.add-2.ensures.added x i ∙ ap (λ a. joined c.args.used.now x || has a x) c.targets-2.ensures)
     (λ x i. c.add-3.ensures.added x i ∙ ap (λ a. joined c.add-2.new.self x || has a x) c.expressions.ensures))

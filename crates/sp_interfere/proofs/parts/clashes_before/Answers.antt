@@ -8,16 +8,27 @@ use Rattle.sp_interfere.proofs.parts.clashes_before.Goals as goal
 pub returns-then-meets : goal.returns-then-meets
 returns-then-meets c =
     let w = c.meets.ensures.0 c.if-meets.true in
-    sym (hit_target c.args.s.now (numbers_of (statements (map statement_of c.args.earlier.now))) c.args.n c.args.targets.now c.args.used.now c.requires.targets c.requires.used w.0 w.1 w.2 (subst (λ a. has a w.0 ≡ true) c.targets.ensures w.3))
+    sym (hit_target c.args.s.now (numbers_of (statements (map statement_of c.args.earlier.now))) c.args.n
+    c.args.targets.now c.args.used.now c.requires.targets c.requires.used w.0 w.1 w.2
+    (subst (λ a. has a w.0 ≡ true) c.targets.ensures w.3))
 
 pub returns-then-meets-2 : goal.returns-then-meets-2
 returns-then-meets-2 c =
     let w = c.meets-2.ensures.0 c.if-meets-2.true in
-    sym (hit_seen c.args.s.now (numbers_of (statements (map statement_of c.args.earlier.now))) c.args.n c.args.targets.now c.args.used.now c.requires.targets c.requires.used w.0 w.1 w.2 (subst (λ a. has a w.0 ≡ true) c.expressions.ensures w.3))
+    sym (hit_seen c.args.s.now (numbers_of (statements (map statement_of c.args.earlier.now))) c.args.n
+    c.args.targets.now c.args.used.now c.requires.targets c.requires.used w.0 w.1 w.2
+    (subst (λ a. has a w.0 ≡ true) c.expressions.ensures w.3))
 
 pub returns : goal.returns
 returns c =
-    no_hit c.args.s.now (numbers_of (statements (map statement_of c.args.earlier.now))) c.args.n c.args.targets.now c.args.used.now c.requires.targets c.requires.used
+    no_hit c.args.s.now (numbers_of (statements (map statement_of c.args.earlier.now))) c.args.n c.args.targets.now
+    c.args.used.now c.requires.targets c.requires.used
     (c.is_wide.ensures c.if-is_wide.false)
-    (λ w. let yes = c.meets.ensures.1 (w.0, w.1, w.2, subst (λ a. has a w.0 ≡ true) (sym c.targets.ensures) w.3) in cc (yes, c.if-meets.false))
-    (λ w. let yes = c.meets-2.ensures.1 (w.0, w.1, w.2, subst (λ a. has a w.0 ≡ true) (sym c.expressions.ensures) w.3) in cc (yes, c.if-meets-2.false))
+    (λ w. let yes = c.meets.ensures.1 (w.0, w.1, w.2, subst (λ a. has a w.0 ≡ true) (sym c.targets.ensures) w.3) in
+    cc (yes, c.if-meets.false))
+    (λ w. let yes = c.meets-2.ensures.1 (
+      w.0,
+      w.1,
+      w.2,
+      subst (λ a. has a w.0 ≡ true) (sym c.expressions.ensures) w.3,
+    ) in cc (yes, c.if-meets-2.false))

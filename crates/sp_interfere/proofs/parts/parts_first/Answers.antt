@@ -10,8 +10,15 @@ pub each-preserved : goal.each-preserved
 each-preserved c =
     let before = numbers_of (statements (map statement_of (take c.each.i c.args.parts.now))) in
     let more = more_numbers c.args.parts.now c.each.i c.index-parts-i.result c.each-test.true c.index-parts-i.is in (
-      subst (λ ns. Joins c.add_part.new.targets (is_target c.args.s.now) ns) (sym more) (subst (λ m. Joins c.add_part.new.targets (is_target c.args.s.now) (before ++ m ∷ [])) c.number_of.ensures (c.add_part.ensures.targets before c.each.invariant.0)),
-      subst (λ ns. Joins c.add_part.new.used (is_used c.args.s.now) ns) (sym more) (subst (λ m. Joins c.add_part.new.used (is_used c.args.s.now) (before ++ m ∷ [])) c.number_of.ensures (c.add_part.ensures.used before c.each.invariant.1)),
-      ap (parts_first c.args.s.now (numbers_of (statements (map statement_of (take (c.each.i + 1) c.args.parts.now)))) (statements (map statement_of (drop (c.each.i + 1) c.args.parts.now)))) (c.lesser-first.ensures ∙ ap (lesser c.each.first) c.part_rule.ensures)
-          ∙ (more_parts c.args.s.now c.args.parts.now c.each.i c.index-parts-i.result c.each.first c.each-test.true c.index-parts-i.is ∙ c.each.invariant.2),
+      subst (λ ns. Joins c.add_part.new.targets (is_target c.args.s.now) ns) (sym more)
+          (subst (λ m. Joins c.add_part.new.targets (is_target c.args.s.now) (before ++ m ∷ [])) c.number_of.ensures
+          (c.add_part.ensures.targets before c.each.invariant.0)),
+      subst (λ ns. Joins c.add_part.new.used (is_used c.args.s.now) ns) (sym more)
+          (subst (λ m. Joins c.add_part.new.used (is_used c.args.s.now) (before ++ m ∷ [])) c.number_of.ensures
+          (c.add_part.ensures.used before c.each.invariant.1)),
+      ap (parts_first c.args.s.now (numbers_of (statements (map statement_of (take (c.each.i + 1) c.args.parts.now))))
+          (statements (map statement_of (drop (c.each.i + 1) c.args.parts.now))))
+          (c.lesser-first.ensures ∙ ap (lesser c.each.first) c.part_rule.ensures)
+          ∙ (more_parts c.args.s.now c.args.parts.now c.each.i c.index-parts-i.result c.each.first c.each-test.true
+          c.index-parts-i.is ∙ c.each.invariant.2),
     )

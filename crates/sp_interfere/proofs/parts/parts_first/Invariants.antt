@@ -8,4 +8,6 @@ abbrev pub invariant-each : goal.invariant-each
 invariant-each l =
     Joins l.targets (is_target l.s) (numbers_of (statements (map statement_of (take l.i l.parts)))) ×
     Joins l.used (is_used l.s) (numbers_of (statements (map statement_of (take l.i l.parts)))) ×
-    (parts_first l.s (numbers_of (statements (map statement_of (take l.i l.parts)))) (statements (map statement_of (drop l.i l.parts))) l.first ≡ parts_first l.s [] (statements (map statement_of l.parts)) l.fn.first)
+    (parts_first l.s (numbers_of (statements (map statement_of (take l.i l.parts))))
+    (statements (map statement_of (drop l.i l.parts))) l.first
+    ≡ parts_first l.s [] (statements (map statement_of l.parts)) l.fn.first)

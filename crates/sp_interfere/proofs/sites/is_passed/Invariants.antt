@@ -5,4 +5,5 @@ use Rattle.sp_interfere.specs.Rules.{references}
 use Rattle.sp_interfere.proofs.sites.is_passed.Given as goal
 
 abbrev pub invariant-loop-a : goal.invariant-loop-a
-invariant-loop-a l = list_any (λ x. l.y == x) (references (actuals (map actual_of (drop l.a-index l.earlier)))) ≡ list_any (λ x. l.y == x) (references (actuals (map actual_of l.earlier)))
+invariant-loop-a l = list_any (λ x. l.y == x) (references (actuals (map actual_of (drop l.a-index l.earlier))))
+    ≡ list_any (λ x. l.y == x) (references (actuals (map actual_of l.earlier)))

@@ -4,4 +4,6 @@ use Rattle.sp_interfere.specs.Rules.{stands_in}
 use Rattle.sp_interfere.proofs.sites.stands_in.Given as goal
 
 abbrev pub invariant-up : goal.invariant-up
-invariant-up l = (length (program_of l.c).blocks ≡ l.end) × (stands_in (program_of l.c).blocks (l.end - l.counter) l.here l.f ≡ stands_in (program_of l.c).blocks (length (program_of l.c).blocks) (Some l.d) l.f)
+invariant-up l = (length (program_of l.c).blocks ≡ l.end)
+    × (stands_in (program_of l.c).blocks (l.end - l.counter) l.here l.f
+    ≡ stands_in (program_of l.c).blocks (length (program_of l.c).blocks) (Some l.d) l.f)

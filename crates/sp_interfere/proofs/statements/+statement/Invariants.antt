@@ -5,7 +5,12 @@ use Rattle.sp_interfere.specs.Walk.{statements_first, arms_first}
 use Rattle.sp_interfere.proofs.statements.+statement.Given as goal
 
 abbrev pub invariant-statements_first-loop-x : goal.invariant-statements_first-loop-x
-invariant-statements_first-loop-x l = statements_first (site_first l.s (program_of l.c) l.in_function l.d) (statements (map statement_of (drop l.x-index l.xs))) l.first ≡ statements_first (site_first l.s (program_of l.c) l.in_function l.d) (statements (map statement_of l.xs)) l.fn.first
+invariant-statements_first-loop-x l = statements_first (site_first l.s (program_of l.c) l.in_function l.d)
+    (statements (map statement_of (drop l.x-index l.xs))) l.first
+    ≡ statements_first (site_first l.s (program_of l.c) l.in_function l.d) (statements (map statement_of l.xs))
+    l.fn.first
 
 abbrev pub invariant-arms_first-loop-x : goal.invariant-arms_first-loop-x
-invariant-arms_first-loop-x l = arms_first (site_first l.s (program_of l.c) l.in_function l.d) (arms (map arm_of (drop l.x-index l.xs))) l.first ≡ arms_first (site_first l.s (program_of l.c) l.in_function l.d) (arms (map arm_of l.xs)) l.fn.first
+invariant-arms_first-loop-x l = arms_first (site_first l.s (program_of l.c) l.in_function l.d)
+    (arms (map arm_of (drop l.x-index l.xs))) l.first
+    ≡ arms_first (site_first l.s (program_of l.c) l.in_function l.d) (arms (map arm_of l.xs)) l.fn.first

@@ -9,5 +9,9 @@ pub returns : goal.returns
 returns c =
     let some : length c.args.vs.now ≡ 0 → ⊥ = λ e. omega arith in
     c.variables_first.ensures
-    ∙ (ap (each_first (variable_first (site_first c.args.s.now (program_of c.args.c.now) c.args.in_function c.args.d)) (map variable_of c.args.vs.now)) (c.expression_first-first.ensures ∙ ap (expression_first (site_first c.args.s.now (program_of c.args.c.now) c.args.in_function c.args.d) (expression_of c.args.channel.now)) c.stop_first-first.ensures)
-    ∙ sym (receives_some c.args.s.now (program_of c.args.c.now) c.args.in_function c.args.d variable_of c.args.n c.args.at (expression_of c.args.channel.now) c.args.vs.now some c.args.first))
+    ∙ (ap (each_first (variable_first (site_first c.args.s.now (program_of c.args.c.now) c.args.in_function c.args.d))
+    (map variable_of c.args.vs.now)) (c.expression_first-first.ensures
+    ∙ ap (expression_first (site_first c.args.s.now (program_of c.args.c.now) c.args.in_function c.args.d)
+    (expression_of c.args.channel.now)) c.stop_first-first.ensures)
+    ∙ sym (receives_some c.args.s.now (program_of c.args.c.now) c.args.in_function c.args.d variable_of c.args.n
+    c.args.at (expression_of c.args.channel.now) c.args.vs.now some c.args.first))

@@ -9,5 +9,9 @@ pub returns : goal.returns
 returns c =
     let some : length c.args.es.now ≡ 0 → ⊥ = λ e. omega arith in
     c.values_first.ensures
-    ∙ (ap (each_first (expression_first (site_first c.args.s.now (program_of c.args.c.now) c.args.in_function c.args.d)) (map expression_of c.args.es.now)) (c.expression_first-first.ensures ∙ ap (expression_first (site_first c.args.s.now (program_of c.args.c.now) c.args.in_function c.args.d) (expression_of c.args.channel.now)) c.stop_first-first.ensures)
-    ∙ sym (sends_some c.args.s.now (program_of c.args.c.now) c.args.in_function c.args.d expression_of c.args.n c.args.at (expression_of c.args.channel.now) c.args.es.now some c.args.first))
+    ∙ (ap (each_first (expression_first (site_first c.args.s.now (program_of c.args.c.now) c.args.in_function c.args.d))
+    (map expression_of c.args.es.now)) (c.expression_first-first.ensures
+    ∙ ap (expression_first (site_first c.args.s.now (program_of c.args.c.now) c.args.in_function c.args.d)
+    (expression_of c.args.channel.now)) c.stop_first-first.ensures)
+    ∙ sym (sends_some c.args.s.now (program_of c.args.c.now) c.args.in_function c.args.d expression_of c.args.n
+    c.args.at (expression_of c.args.channel.now) c.args.es.now some c.args.first))

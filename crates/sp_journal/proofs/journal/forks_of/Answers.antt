@@ -23,10 +23,19 @@ loop-entry-preserved c =
     let s : Births = births (take i es) in
     let q : ℕ = (this es i l).process in
     elim c.match-entry.branch [
-      | in-Fork+then-entry-process w ↦
-          (w.forks-is ∙ ap (λ (x : ℕ). x + 1) h.0 ∙ sym (fork_here s q w.in-Fork.field-0 p w.if-entry-process.true) ∙ ap (λ (x : Births). x.forks p) (sym (after_fork es i l w.in-Fork.field-0 w.in-Fork.is)), let f = w.forks-is in omega arith)
-      | in-Fork+else-entry-process w ↦
-          (w.forks-is ∙ h.0 ∙ sym (fork_apart s q w.in-Fork.field-0 p w.if-entry-process.false) ∙ ap (λ (x : Births). x.forks p) (sym (after_fork es i l w.in-Fork.field-0 w.in-Fork.is)), let f = w.forks-is in omega arith)
-      | in_default w ↦
-          (w.forks-is ∙ h.0 ∙ sym ((no_fork s q (this es i l).event w.in_default.not-Fork).2 p) ∙ ap (λ (x : Births). x.forks p) (sym (more_births es i any_entry l)), let f = w.forks-is in omega arith)
+      | in-Fork+then-entry-process w ↦ (
+        w.forks-is ∙ ap (λ (x : ℕ). x + 1) h.0 ∙ sym (fork_here s q w.in-Fork.field-0 p w.if-entry-process.true)
+            ∙ ap (λ (x : Births). x.forks p) (sym (after_fork es i l w.in-Fork.field-0 w.in-Fork.is)),
+        let f = w.forks-is in omega arith,
+      )
+      | in-Fork+else-entry-process w ↦ (
+        w.forks-is ∙ h.0 ∙ sym (fork_apart s q w.in-Fork.field-0 p w.if-entry-process.false)
+            ∙ ap (λ (x : Births). x.forks p) (sym (after_fork es i l w.in-Fork.field-0 w.in-Fork.is)),
+        let f = w.forks-is in omega arith,
+      )
+      | in_default w ↦ (
+        w.forks-is ∙ h.0 ∙ sym ((no_fork s q (this es i l).event w.in_default.not-Fork).2 p)
+            ∙ ap (λ (x : Births). x.forks p) (sym (more_births es i any_entry l)),
+        let f = w.forks-is in omega arith,
+      )
     ]

@@ -6,7 +6,8 @@ use Rattle.sp_journal.proofs.Walk.{any_entry, kept_whole, still_nameable, text_m
 use Rattle.sp_journal.proofs.print.print_journal.Goals as goal
 
 -- the line that was put, and what is left
-put_one : (a b c whole line rest all : List ℕ) → b ≡ a ++ line → c ≡ b ++ codes "\n" → a ++ whole ≡ all → whole ≡ (line ++ codes "\n") ++ rest → c ++ rest ≡ all
+put_one : (a b c whole line rest all : List ℕ) → b ≡ a ++ line → c ≡ b ++ codes "\n" → a ++ whole ≡ all
+    → whole ≡ (line ++ codes "\n") ++ rest → c ++ rest ≡ all
 put_one a b c whole line rest all e f g h =
     ap (λ (x : List ℕ). x ++ rest) (f ∙ ap (λ (x : List ℕ). x ++ codes "\n") e ∙ append_assoc a line (codes "\n"))
     ∙ append_assoc a (line ++ codes "\n") rest ∙ ap (λ (x : List ℕ). a ++ x) (sym h) ∙ g
@@ -17,9 +18,13 @@ loop-entry-preserved c =
     let i = c.loop-entry.entry-index in
     let h = c.loop-entry.invariant in
     let line : List ℕ = entry_text (births (take i es)) (this es i c.loop-entry-test.true) in
-    let e = c.in_ok-put_entry.ensures.ok ∙ ap (λ (x : List Entry). c.loop-entry.out.items ++ entry_text (births x) (this es i c.loop-entry-test.true)) h.1 in (
+    let e = c.in_ok-put_entry.ensures.ok ∙ ap
+    (λ (x : List Entry). c.loop-entry.out.items ++ entry_text (births x) (this es i c.loop-entry-test.true)) h.1 in (
       c.in_ok-add.ensures.ledger,
-      kept_whole es i c.loop-entry-test.true c.loop-entry.ledger.journal.entries c.add.new.self.journal.entries h.1 c.in_ok-add.ensures.added,
+      kept_whole es i c.loop-entry-test.true c.loop-entry.ledger.journal.entries c.add.new.self.journal.entries h.1
+          c.in_ok-add.ensures.added,
       still_nameable es i any_entry c.loop-entry-test.true h.2,
-      put_one c.loop-entry.out.items c.put_entry.new.out.items c.extend_from_slice.new.self.items (entries_text (births (take i es)) (drop i es)) line _ _ e c.in_ok-extend_from_slice.ensures.items h.3 (text_more es i any_entry c.loop-entry-test.true),
+      put_one c.loop-entry.out.items c.put_entry.new.out.items c.extend_from_slice.new.self.items
+          (entries_text (births (take i es)) (drop i es)) line _ _ e c.in_ok-extend_from_slice.ensures.items h.3
+          (text_more es i any_entry c.loop-entry-test.true),
     )

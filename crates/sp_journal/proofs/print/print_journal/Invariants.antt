@@ -7,5 +7,7 @@ use Rattle.sp_journal.proofs.print.print_journal.Given as goal
 
 abbrev pub invariant-loop-entry : goal.invariant-loop-entry
 invariant-loop-entry l =
-    IsLedger l.ledger × (l.ledger.journal.entries ≡ take l.entry-index l.entry-items) × NameableFrom (births (take l.entry-index l.entry-items)) (drop l.entry-index l.entry-items)
-    × (l.out.items ++ entries_text (births (take l.entry-index l.entry-items)) (drop l.entry-index l.entry-items) ≡ journal_text version.Two (record { entries = l.entry-items }))
+    IsLedger l.ledger × (l.ledger.journal.entries ≡ take l.entry-index l.entry-items)
+    × NameableFrom (births (take l.entry-index l.entry-items)) (drop l.entry-index l.entry-items)
+    × (l.out.items ++ entries_text (births (take l.entry-index l.entry-items)) (drop l.entry-index l.entry-items)
+    ≡ journal_text version.Two (record { entries = l.entry-items }))

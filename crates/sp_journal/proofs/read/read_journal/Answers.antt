@@ -1,4 +1,5 @@
-use Rattle.std.proofs.Common.{◌≡◌, ◌≢◌, ◌+◌, ◌∙◌, ◌++◌, ◌∷◌, [], ◌==◌, Bool, true, false, List, ℕ, length, length-append, Some, None, Option, refl, sym, ap, subst, arith}
+use Rattle.std.proofs.Common.{◌≡◌, ◌≢◌, ◌+◌, ◌∙◌, ◌++◌, ◌∷◌, [], ◌==◌, Bool, true, false, List, ℕ, length}
+use Rattle.std.proofs.Common.{length-append, Some, None, Option, refl, sym, ap, subst, arith}
 use Rattle.std.proofs.lemmas.Option.{none-some}
 use Rattle.sp_journal.specs.declared.version.Version.{Version}
 use Rattle.sp_journal.specs.declared.entry.Entry.{Entry}
@@ -10,7 +11,8 @@ use Rattle.sp_journal.specs.Reader.{known, CanCome, IsNext}
 use Rattle.sp_journal.specs.Begun.{Begun}
 use Rattle.sp_journal.proofs.Facts.{same}
 use Rattle.sp_journal.proofs.TextLaws.{parts_first}
-use Rattle.sp_journal.proofs.BegunLaws.{first_joins, read_alone, bad_here, none_here, begun_on, begun_first, bad_first, none_first, some_line}
+use Rattle.sp_journal.proofs.BegunLaws.{first_joins, read_alone, bad_here, none_here, begun_on, begun_first, bad_first}
+use Rattle.sp_journal.proofs.BegunLaws.{none_first, some_line}
 use Rattle.sp_journal.proofs.read.read_journal.Goals as goal
 
 -- the parts are shorter than the text
@@ -33,20 +35,29 @@ empty xs b e f = by xs (same (length xs) 0 (sym e ∙ f))
     by [] h = refl
     by (x ∷ xs) h = absurd (omega arith)
 
-no_version : (bytes first rest : List ℕ) → Some (first, rest) ≡ first_split 10 bytes → ((v : Version) → first ≡ first_line v → ⊥) → (v : Version) (more : List ℕ) → first_split 10 bytes ≡ Some (first_line v, more) → ⊥
+no_version : (bytes first rest : List ℕ) → Some (first, rest) ≡ first_split 10 bytes
+    → ((v : Version) → first ≡ first_line v → ⊥) → (v : Version) (more : List ℕ)
+    → first_split 10 bytes ≡ Some (first_line v, more) → ⊥
 no_version bytes first rest e n v more f = n v (parts_first _ _ _ _ (e ∙ f))
 
-no_line : (v : Version) (s : Births) (rest : List ℕ) → None ≡ first_split 10 rest → (e : Entry) (more : List ℕ) → CanCome v s e → first_split 10 rest ≡ Some (entry_text s e, more) → ⊥
+no_line : (v : Version) (s : Births) (rest : List ℕ) → None ≡ first_split 10 rest → (e : Entry) (more : List ℕ)
+    → CanCome v s e → first_split 10 rest ≡ Some (entry_text s e, more) → ⊥
 no_line v s rest n e more h f = none-some _ (n ∙ f)
 
-no_next : (v : Version) (s : Births) (rest text after : List ℕ) (o : Option Entry) → Some (text, after) ≡ first_split 10 rest → IsNext v s text o → o ≡ None → (e : Entry) (more : List ℕ) → CanCome v s e → first_split 10 rest ≡ Some (entry_text s e, more) → ⊥
+no_next : (v : Version) (s : Births) (rest text after : List ℕ) (o : Option Entry)
+    → Some (text, after) ≡ first_split 10 rest → IsNext v s text o → o ≡ None → (e : Entry) (more : List ℕ)
+    → CanCome v s e → first_split 10 rest ≡ Some (entry_text s e, more) → ⊥
 no_next v s rest text after o g n z e more h f = (subst (IsNext v s text) z n) e h (parts_first _ _ _ _ (g ∙ f))
 
 pub returns-in_default-version_of-clause-reads : goal.returns-in_default-version_of-clause-reads
-returns-in_default-version_of-clause-reads c = bad_first c.args.bytes.now (no_version c.args.bytes.now c.in-Some.first.now c.in-Some.rest.now c.in-Some.ensures c.in_default-version_of.ensures)
+returns-in_default-version_of-clause-reads c =
+    bad_first c.args.bytes.now (no_version c.args.bytes.now c.in-Some.first.now c.in-Some.rest.now c.in-Some.ensures
+    c.in_default-version_of.ensures)
 
 pub returns-in_default-version_of-clause-alone : goal.returns-in_default-version_of-clause-alone
-returns-in_default-version_of-clause-alone c = none_first c.args.bytes.now (no_version c.args.bytes.now c.in-Some.first.now c.in-Some.rest.now c.in-Some.ensures c.in_default-version_of.ensures)
+returns-in_default-version_of-clause-alone c =
+    none_first c.args.bytes.now (no_version c.args.bytes.now c.in-Some.first.now c.in-Some.rest.now c.in-Some.ensures
+    c.in_default-version_of.ensures)
 
 pub loop-rest-init : goal.loop-rest-init
 loop-rest-init c =
@@ -54,12 +65,15 @@ loop-rest-init c =
     let r = c.new-reader.result in
     let v = c.in-Some-version_of.version in
     let first : c.in-Some.first.now ≡ first_line v = c.in-Some-version_of.ensures in
-    let begun : Begun bytes v [] c.in-Some.rest.now = begun_first bytes c.in-Some.first.now c.in-Some.rest.now v c.in-Some.ensures first in
+    let begun : Begun bytes v [] c.in-Some.rest.now =
+    begun_first bytes c.in-Some.first.now c.in-Some.rest.now v c.in-Some.ensures first in
     let short = shorter bytes c.in-Some.first.now c.in-Some.rest.now c.in-Some.ensures in
     let long : length c.in-Some.first.now ≡ length (first_line v) = ap length first in
     let some = some_line v in (
       c.new-reader.ensures.reader,
-      subst (λ (w : Version). Begun bytes w r.ledger.journal.entries c.in-Some.rest.now) (sym c.new-reader.ensures.version) (subst (λ (es : List Entry). Begun bytes v es c.in-Some.rest.now) (sym c.new-reader.ensures.empty) begun),
+      subst (λ (w : Version). Begun bytes w r.ledger.journal.entries c.in-Some.rest.now)
+          (sym c.new-reader.ensures.version)
+          (subst (λ (es : List Entry). Begun bytes v es c.in-Some.rest.now) (sym c.new-reader.ensures.empty) begun),
       ap (λ (es : List Entry). length es + 2) (sym c.new-reader.ensures.empty),
       omega arith,
     )
@@ -68,23 +82,28 @@ pub returns-in_default-split_first-clause-reads : goal.returns-in_default-split_
 returns-in_default-split_first-clause-reads c =
     let r = c.loop-rest.reader in
     let rest = c.loop-rest.rest.now in
-    bad_here c.args.bytes.now r.version r.ledger.journal.entries rest c.loop-rest.invariant.1 c.loop-rest.line c.loop-rest.invariant.2
-    (not_empty rest c.is_empty.result c.is_empty.ensures c.loop-rest-test.true) (no_line r.version (known r) rest c.in_default-split_first.ensures)
+    bad_here c.args.bytes.now r.version r.ledger.journal.entries rest c.loop-rest.invariant.1 c.loop-rest.line
+    c.loop-rest.invariant.2
+    (not_empty rest c.is_empty.result c.is_empty.ensures c.loop-rest-test.true)
+    (no_line r.version (known r) rest c.in_default-split_first.ensures)
 
 pub returns-in_default-split_first-clause-alone : goal.returns-in_default-split_first-clause-alone
 returns-in_default-split_first-clause-alone c =
     let r = c.loop-rest.reader in
     let rest = c.loop-rest.rest.now in
     none_here c.args.bytes.now r.version r.ledger.journal.entries rest c.loop-rest.invariant.1
-    (not_empty rest c.is_empty.result c.is_empty.ensures c.loop-rest-test.true) (no_line r.version (known r) rest c.in_default-split_first.ensures)
+    (not_empty rest c.is_empty.result c.is_empty.ensures c.loop-rest-test.true)
+    (no_line r.version (known r) rest c.in_default-split_first.ensures)
 
 pub returns-in_default-2-clause-reads : goal.returns-in_default-2-clause-reads
 returns-in_default-2-clause-reads c =
     let r = c.loop-rest.reader in
     let rest = c.loop-rest.rest.now in
-    bad_here c.args.bytes.now r.version r.ledger.journal.entries rest c.loop-rest.invariant.1 c.loop-rest.line c.loop-rest.invariant.2
+    bad_here c.args.bytes.now r.version r.ledger.journal.entries rest c.loop-rest.invariant.1 c.loop-rest.line
+    c.loop-rest.invariant.2
     (not_empty rest c.is_empty.result c.is_empty.ensures c.loop-rest-test.true)
-    (no_next r.version (known r) rest c.in-Some-split_first.text.now c.in-Some-split_first.after.now c.in_ok-entry.field-0 c.in-Some-split_first.ensures c.in_ok-entry.ensures c.in_default-2.is)
+    (no_next r.version (known r) rest c.in-Some-split_first.text.now c.in-Some-split_first.after.now
+    c.in_ok-entry.field-0 c.in-Some-split_first.ensures c.in_ok-entry.ensures c.in_default-2.is)
 
 pub returns-in_default-2-clause-alone : goal.returns-in_default-2-clause-alone
 returns-in_default-2-clause-alone c =
@@ -92,10 +111,12 @@ returns-in_default-2-clause-alone c =
     let rest = c.loop-rest.rest.now in
     none_here c.args.bytes.now r.version r.ledger.journal.entries rest c.loop-rest.invariant.1
     (not_empty rest c.is_empty.result c.is_empty.ensures c.loop-rest-test.true)
-    (no_next r.version (known r) rest c.in-Some-split_first.text.now c.in-Some-split_first.after.now c.in_ok-entry.field-0 c.in-Some-split_first.ensures c.in_ok-entry.ensures c.in_default-2.is)
+    (no_next r.version (known r) rest c.in-Some-split_first.text.now c.in-Some-split_first.after.now
+    c.in_ok-entry.field-0 c.in-Some-split_first.ensures c.in_ok-entry.ensures c.in_default-2.is)
 
 pub loop-rest-smaller : goal.loop-rest-smaller
-loop-rest-smaller c = let short = shorter c.loop-rest.rest.now c.in-Some-split_first.text.now c.in-Some-split_first.after.now c.in-Some-split_first.ensures in omega arith
+loop-rest-smaller c = let short = shorter c.loop-rest.rest.now c.in-Some-split_first.text.now
+    c.in-Some-split_first.after.now c.in-Some-split_first.ensures in omega arith
 
 pub loop-rest-preserved : goal.loop-rest-preserved
 loop-rest-preserved c =
@@ -106,15 +127,19 @@ loop-rest-preserved c =
     let after = c.in-Some-split_first.after.now in
     let e = c.in-Some-2.entry in
     let h = c.loop-rest.invariant in
-    let next : IsNext r.version (known r) text (Some e) = subst (IsNext r.version (known r) text) c.in-Some-2.is c.in_ok-entry.ensures in
+    let next : IsNext r.version (known r) text (Some e) =
+    subst (IsNext r.version (known r) text) c.in-Some-2.is c.in_ok-entry.ensures in
     let short = shorter rest text after c.in-Some-split_first.ensures in
-    let more : length c.add.new.self.ledger.journal.entries ≡ length (r.ledger.journal.entries ++ e ∷ []) = ap length c.in_ok-add.ensures.added in
+    let more : length c.add.new.self.ledger.journal.entries ≡ length (r.ledger.journal.entries ++ e ∷ []) =
+    ap length c.in_ok-add.ensures.added in
     let sum = length-append r.ledger.journal.entries (e ∷ []) in
     let one = h.2 in
     let two = h.3 in (
       c.in_ok-add.ensures.reader,
-      subst (λ (w : Version). Begun bytes w c.add.new.self.ledger.journal.entries after) (sym c.in_ok-add.ensures.version)
-          (begun_on bytes r.version r.ledger.journal.entries rest h.1 e text after c.add.new.self.ledger.journal.entries c.in-Some-split_first.ensures next c.in_ok-add.ensures.added),
+      subst (λ (w : Version). Begun bytes w c.add.new.self.ledger.journal.entries after)
+          (sym c.in_ok-add.ensures.version)
+          (begun_on bytes r.version r.ledger.journal.entries rest h.1 e text after c.add.new.self.ledger.journal.entries
+          c.in-Some-split_first.ensures next c.in_ok-add.ensures.added),
       omega arith,
       omega arith,
     )
@@ -123,4 +148,5 @@ pub returns-clause-alone : goal.returns-clause-alone
 returns-clause-alone c = λ v k t.
     let r = c.loop-rest.reader in
     let rest = c.loop-rest.rest.now in
-    read_alone c.args.bytes.now r.version r.ledger.journal.entries rest c.loop-rest.invariant.1 (empty rest c.is_empty.result c.is_empty.ensures c.loop-rest-test.false) v k t ∙ sym c.into_journal.ensures
+    read_alone c.args.bytes.now r.version r.ledger.journal.entries rest c.loop-rest.invariant.1
+    (empty rest c.is_empty.result c.is_empty.ensures c.loop-rest-test.false) v k t ∙ sym c.into_journal.ensures

@@ -5,8 +5,11 @@ use Rattle.sp_judge.proofs.knowing.first_unknown.Given as goal
 
 abbrev pub invariant-loop-known : goal.invariant-loop-known
 invariant-loop-known l =
-    (l.first ≤ l.at) × ((k : ℕ) → k < l.known → IsUnknown (births l.entries) (named (births l.entries) (take l.at l.entries)) l.entries l.racer.process l.racer.way l.racer.channel k → ⊥)
-    × (l.first < l.at → IsUnknown (births l.entries) (named (births l.entries) (take l.at l.entries)) l.entries l.racer.process l.racer.way l.racer.channel l.first)
+    (l.first ≤ l.at) × ((k : ℕ) → k < l.known
+    → IsUnknown (births l.entries) (named (births l.entries) (take l.at l.entries)) l.entries l.racer.process
+    l.racer.way l.racer.channel k → ⊥)
+    × (l.first < l.at → IsUnknown (births l.entries) (named (births l.entries) (take l.at l.entries)) l.entries
+    l.racer.process l.racer.way l.racer.channel l.first)
 
 abbrev pub decreases-loop-known : goal.decreases-loop-known
 decreases-loop-known l = l.first - l.known

@@ -12,7 +12,8 @@ returns-then-is_offer c =
     let low = h.0 in
     let inside : c.loop-i.i - 1 < length c.args.entries.now = omega (arith, test, room, low) in (
       omega (arith, test, low),
-      offer_here c.args.entries.now c.args.way c.args.channel (c.loop-i.i - 1) _ inside (c.is_offer.ensures.0 c.if-is_offer.true),
+      offer_here c.args.entries.now c.args.way c.args.channel (c.loop-i.i - 1) _ inside
+          (c.is_offer.ensures.0 c.if-is_offer.true),
       λ k a b. h.1 k (omega (arith, a, test)) b,
     )
 
@@ -23,7 +24,10 @@ loop-i-preserved c =
     let low = h.0 in (
       omega (arith, low),
       λ k a b o. ⊎_elim
-          (λ (x : k < c.loop-i.i). true≢false (sym (c.is_offer.ensures.1 (offer_there c.args.entries.now c.args.way c.args.channel (c.loop-i.i - 1) (subst (IsOfferAt c.args.entries.now c.args.way c.args.channel) (only k (c.loop-i.i) a x) o) _)) ∙ c.if-is_offer.false))
+          (λ (x : k < c.loop-i.i). true≢false
+          (sym (c.is_offer.ensures.1 (offer_there c.args.entries.now c.args.way c.args.channel (c.loop-i.i - 1)
+          (subst (IsOfferAt c.args.entries.now c.args.way c.args.channel) (only k (c.loop-i.i) a x) o) _))
+          ∙ c.if-is_offer.false))
           (λ (x : c.loop-i.i ≤ k). h.1 k x b o)
           (low_or_not k c.loop-i.i),
     )

@@ -6,5 +6,7 @@ use Rattle.sp_judge.proofs.table.raise.Goals as goal
 
 pub returns-clause-clocks : goal.returns-clause-clocks
 returns-clause-clocks c =
-    on_ok_weaker c.renew.result (λ h p q a. own_raised c.args.clocks.now.items c.args.process c.args.count c.index_mut.result.now c.renew.new.self (IsAsked c.args.until.now c.args.now) c.requires
-    (λ r. ap (λ x. count_of x r) c.index_mut.ensures.value ∙ clock_is c.args.clocks.now.items c.args.process c.index_mut.result.now r c.requires) h p q a) c.renew.ensures
+    on_ok_weaker c.renew.result (λ h p q a. own_raised c.args.clocks.now.items c.args.process c.args.count
+    c.index_mut.result.now c.renew.new.self (IsAsked c.args.until.now c.args.now) c.requires
+    (λ r. ap (λ x. count_of x r) c.index_mut.ensures.value
+    ∙ clock_is c.args.clocks.now.items c.args.process c.index_mut.result.now r c.requires) h p q a) c.renew.ensures

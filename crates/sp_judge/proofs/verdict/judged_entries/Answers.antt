@@ -15,22 +15,35 @@ pub loop-at-init : goal.loop-at-init
 loop-at-init c =
     let es = c.items-entries.result.now in
     let is : c.args.journal.now.entries ≡ es = sym c.items-entries.ensures in
-    let p : c.processes-2.result ≡ (births es).processes = c.processes-2.ensures.value ∙ ap (λ (j : Journal). (births j.entries).processes) c.in_ok-ledger.ensures.1 ∙ ap (λ xs. (births xs).processes) is in
-    let q : c.channels-2.result ≡ (births es).channels = c.channels-2.ensures.value ∙ ap (λ (j : Journal). (births j.entries).channels) c.in_ok-ledger.ensures.1 ∙ ap (λ xs. (births xs).channels) is in
-    (blank_holds es c.in_ok-bench.bench (subst (λ n. IsBlank c.in_ok-bench.bench n (births es).channels) p (subst (λ n. IsBlank c.in_ok-bench.bench c.processes-2.result n) q c.in_ok-bench.ensures)) c.in_ok-until.until.items, tt)
+    let p : c.processes-2.result ≡ (births es).processes = c.processes-2.ensures.value
+    ∙ ap (λ (j : Journal). (births j.entries).processes) c.in_ok-ledger.ensures.1
+    ∙ ap (λ xs. (births xs).processes) is in
+    let q : c.channels-2.result ≡ (births es).channels = c.channels-2.ensures.value
+    ∙ ap (λ (j : Journal). (births j.entries).channels) c.in_ok-ledger.ensures.1
+    ∙ ap (λ xs. (births xs).channels) is in (
+      blank_holds es c.in_ok-bench.bench (subst (λ n. IsBlank c.in_ok-bench.bench n (births es).channels) p
+          (subst (λ n. IsBlank c.in_ok-bench.bench c.processes-2.result n) q c.in_ok-bench.ensures))
+          c.in_ok-until.until.items,
+      tt,
+    )
 
 pub racing-requires-clause-tame : goal.racing-requires-clause-tame
-racing-requires-clause-tame c = subst IsTame (sym c.items-entries.ensures) (tame_of c.args.journal.now c.requires.nameable c.requires.quiet)
+racing-requires-clause-tame c = subst IsTame (sym c.items-entries.ensures)
+    (tame_of c.args.journal.now c.requires.nameable c.requires.quiet)
 
 pub race-requires-clause-tame : goal.race-requires-clause-tame
-race-requires-clause-tame c = subst IsTame (sym c.items-entries.ensures) (tame_of c.args.journal.now c.requires.nameable c.requires.quiet)
+race-requires-clause-tame c = subst IsTame (sym c.items-entries.ensures)
+    (tame_of c.args.journal.now c.requires.nameable c.requires.quiet)
 
 pub see-requires-clause-tame : goal.see-requires-clause-tame
-see-requires-clause-tame c = subst IsTame (sym c.items-entries.ensures) (tame_of c.args.journal.now c.requires.nameable c.requires.quiet)
+see-requires-clause-tame c = subst IsTame (sym c.items-entries.ensures)
+    (tame_of c.args.journal.now c.requires.nameable c.requires.quiet)
 
 pub returns-in-Some : goal.returns-in-Some
 returns-in-Some c =
-    let is : named (births c.items-entries.result.now) c.items-entries.result.now ≡ occurrences c.args.journal.now = ap (λ xs. named (births xs) xs) c.items-entries.ensures ∙ sym (all_named c.args.journal.now.entries c.requires.nameable) in
+    let is : named (births c.items-entries.result.now) c.items-entries.result.now ≡ occurrences c.args.journal.now =
+    ap (λ xs. named (births xs) xs) c.items-entries.ensures
+    ∙ sym (all_named c.args.journal.now.entries c.requires.nameable) in
     subst (λ os. IfOk c.race.result (λ v. IsJudged os v)) is c.race.ensures
 
 pub loop-at-preserved : goal.loop-at-preserved
@@ -39,9 +52,12 @@ loop-at-preserved c =
     let at = c.loop-at.at in
     let e = get_or es at any_entry in
     let inside : slice_get es at ≡ Some e = slice_get-get_or es at any_entry c.loop-at-test.true in
-    let tame = subst IsTame (sym c.items-entries.ensures) (tame_of c.args.journal.now c.requires.nameable c.requires.quiet) in (
-      subst (λ u. Holds (births es) u (take (at + 1) es) c.see.new.self) c.deref-in-loop-at.ensures.value c.in_ok-see.ensures,
-      known_next es tame at e inside c.loop-at.invariant.1 (none_racing es at c.in_ok-found.found c.in_ok-found.ensures c.in_default.not-Some e inside),
+    let tame = subst IsTame (sym c.items-entries.ensures)
+    (tame_of c.args.journal.now c.requires.nameable c.requires.quiet) in (
+      subst (λ u. Holds (births es) u (take (at + 1) es) c.see.new.self) c.deref-in-loop-at.ensures.value
+          c.in_ok-see.ensures,
+      known_next es tame at e inside c.loop-at.invariant.1
+          (none_racing es at c.in_ok-found.found c.in_ok-found.ensures c.in_default.not-Some e inside),
     )
 
 pub returns : goal.returns
@@ -50,4 +66,5 @@ returns c =
     let is = c.items-entries.ensures in
     let f = c.loop-at-test.false in
     let l = ap length is in
-    all_ordered c.args.journal.now c.requires.nameable c.loop-at.at (omega (arith, f, l)) (subst (λ xs. AreKnown (named (births xs) (take c.loop-at.at xs))) is c.loop-at.invariant.1)
+    all_ordered c.args.journal.now c.requires.nameable c.loop-at.at (omega (arith, f, l))
+    (subst (λ xs. AreKnown (named (births xs) (take c.loop-at.at xs))) is c.loop-at.invariant.1)

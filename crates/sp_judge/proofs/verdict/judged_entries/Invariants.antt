@@ -5,4 +5,5 @@ use Rattle.sp_judge.specs.Bench.{named, Holds}
 use Rattle.sp_judge.proofs.verdict.judged_entries.Given as goal
 
 abbrev pub invariant-loop-at : goal.invariant-loop-at
-invariant-loop-at l = Holds (births l.entries) l.until.items (take l.at l.entries) l.bench × AreKnown (named (births l.entries) (take l.at l.entries))
+invariant-loop-at l = Holds (births l.entries) l.until.items (take l.at l.entries) l.bench
+    × AreKnown (named (births l.entries) (take l.at l.entries))

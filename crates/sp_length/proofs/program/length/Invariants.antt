@@ -5,4 +5,6 @@ use Rattle.sp_length.specs.Told.{told}
 use Rattle.sp_length.proofs.program.length.Given as goal
 
 abbrev pub invariant-loop-b : goal.invariant-loop-b
-invariant-loop-b l = (l.q ≤ 4294967295) × (told (l.q + blocks_length (program_of l.program) (blocks_of (drop l.b-index l.program.blocks))) ≡ told (blocks_length (program_of l.program) (blocks_of l.program.blocks)))
+invariant-loop-b l = (l.q ≤ 4294967295) × (told
+    (l.q + blocks_length (program_of l.program) (blocks_of (drop l.b-index l.program.blocks)))
+    ≡ told (blocks_length (program_of l.program) (blocks_of l.program.blocks)))

@@ -5,10 +5,16 @@ use Rattle.sp_length.specs.Told.{told}
 use Rattle.sp_length.proofs.statements.+stmt.Given as goal
 
 abbrev pub invariant-all_length-loop-s : goal.invariant-all_length-loop-s
-invariant-all_length-loop-s l = (l.q ≤ 4294967295) × (told (l.q + all_length (program_of l.program) (stmts_of (drop l.s-index l.ss))) ≡ told (l.fn.q + all_length (program_of l.program) (stmts_of l.ss)))
+invariant-all_length-loop-s l = (l.q ≤ 4294967295)
+    × (told (l.q + all_length (program_of l.program) (stmts_of (drop l.s-index l.ss)))
+    ≡ told (l.fn.q + all_length (program_of l.program) (stmts_of l.ss)))
 
 abbrev pub invariant-children_length-loop-s : goal.invariant-children_length-loop-s
-invariant-children_length-loop-s l = (l.q ≤ 4294967295) × (told (l.q + children_length (program_of l.program) (stmts_of (drop l.s-index l.ss))) ≡ told (l.fn.q + children_length (program_of l.program) (stmts_of l.ss)))
+invariant-children_length-loop-s l = (l.q ≤ 4294967295)
+    × (told (l.q + children_length (program_of l.program) (stmts_of (drop l.s-index l.ss)))
+    ≡ told (l.fn.q + children_length (program_of l.program) (stmts_of l.ss)))
 
 abbrev pub invariant-arms_length-loop-a : goal.invariant-arms_length-loop-a
-invariant-arms_length-loop-a l = (l.q ≤ 4294967295) × (told (l.q + arms_length (program_of l.program) (arms_of (drop l.a-index l.arms))) ≡ told (l.fn.q + arms_length (program_of l.program) (arms_of l.arms)))
+invariant-arms_length-loop-a l = (l.q ≤ 4294967295)
+    × (told (l.q + arms_length (program_of l.program) (arms_of (drop l.a-index l.arms)))
+    ≡ told (l.fn.q + arms_length (program_of l.program) (arms_of l.arms)))

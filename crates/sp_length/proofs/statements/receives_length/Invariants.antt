@@ -5,4 +5,6 @@ use Rattle.sp_length.specs.Told.{told}
 use Rattle.sp_length.proofs.statements.receives_length.Given as goal
 
 abbrev pub invariant-loop-v : goal.invariant-loop-v
-invariant-loop-v l = (l.q ≤ 4294967295) × (told (l.q + all_length (program_of l.program) (receives (expr_of l.channel) (map var_of (drop l.v-index l.variables)))) ≡ told (l.fn.q + all_length (program_of l.program) (receives (expr_of l.channel) (map var_of l.variables))))
+invariant-loop-v l = (l.q ≤ 4294967295) × (told
+    (l.q + all_length (program_of l.program) (receives (expr_of l.channel) (map var_of (drop l.v-index l.variables))))
+    ≡ told (l.fn.q + all_length (program_of l.program) (receives (expr_of l.channel) (map var_of l.variables))))

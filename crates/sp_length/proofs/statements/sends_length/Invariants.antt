@@ -5,4 +5,6 @@ use Rattle.sp_length.specs.Told.{told}
 use Rattle.sp_length.proofs.statements.sends_length.Given as goal
 
 abbrev pub invariant-loop-e : goal.invariant-loop-e
-invariant-loop-e l = (l.q ≤ 4294967295) × (told (l.q + all_length (program_of l.program) (sends (expr_of l.channel) (map expr_of (drop l.e-index l.values)))) ≡ told (l.fn.q + all_length (program_of l.program) (sends (expr_of l.channel) (map expr_of l.values))))
+invariant-loop-e l = (l.q ≤ 4294967295) × (told
+    (l.q + all_length (program_of l.program) (sends (expr_of l.channel) (map expr_of (drop l.e-index l.values))))
+    ≡ told (l.fn.q + all_length (program_of l.program) (sends (expr_of l.channel) (map expr_of l.values))))

@@ -5,4 +5,5 @@ use Rattle.sp_length.specs.Told.{told}
 use Rattle.sp_length.proofs.statements.tests_length.Given as goal
 
 abbrev pub invariant-loop-a : goal.invariant-loop-a
-invariant-loop-a l = (l.q ≤ 4294967295) × (told (l.q + tests_length (arms_of (drop l.a-index l.arms))) ≡ told (l.fn.q + tests_length (arms_of l.arms)))
+invariant-loop-a l = (l.q ≤ 4294967295) × (told (l.q + tests_length (arms_of (drop l.a-index l.arms)))
+    ≡ told (l.fn.q + tests_length (arms_of l.arms)))

@@ -8,6 +8,7 @@ use Rattle.sp_machine.proofs.calls.fill.Given as goal
 abbrev pub invariant-loop-argument : goal.invariant-loop-argument
 invariant-loop-argument l = record {
   place : l.k ≡ l.argument-index;
-  filled : filled plain l.frame 0 (entries_of l.arguments) l.fn.store ≡ filled plain l.frame l.argument-index (entries_of (drop l.argument-index l.arguments)) l.store;
+  filled : filled plain l.frame 0 (entries_of l.arguments) l.fn.store
+      ≡ filled plain l.frame l.argument-index (entries_of (drop l.argument-index l.arguments)) l.store;
   take : TakeAll l.store.map l.frame l.argument-index (entries_of (drop l.argument-index l.arguments));
 }

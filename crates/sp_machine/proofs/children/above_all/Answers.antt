@@ -5,5 +5,11 @@ use Rattle.sp_machine.proofs.children.above_all.Goals.{then-least-spot, else-lea
 
 pub loop-spot-preserved : goal.loop-spot-preserved
 loop-spot-preserved c =
-    let step = above_step c.args.spots.now c.loop-spot.spot-index (record { frame = 0; variable = 0 }) c.loop-spot-test.true in
-    elim c.if-least-spot.branch [ then-least-spot w ↦ omega (arith, step, c.loop-spot.invariant, w.least-is, w.if-least-spot.true) | else-least-spot w ↦ omega (arith, step, c.loop-spot.invariant, w.least-is, w.if-least-spot.false) ]
+    let step = above_step c.args.spots.now c.loop-spot.spot-index (record { frame = 0; variable = 0 })
+    c.loop-spot-test.true in
+    elim c.if-least-spot.branch [
+      | then-least-spot w ↦ omega
+          (arith, step, c.loop-spot.invariant, w.least-is, w.if-least-spot.true)
+      | else-least-spot w ↦ omega
+          (arith, step, c.loop-spot.invariant, w.least-is, w.if-least-spot.false)
+    ]

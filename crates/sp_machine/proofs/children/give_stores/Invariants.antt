@@ -8,7 +8,8 @@ invariant-loop-store l = record {
   rest : l.stores ≡ take (length l.stores) l.fn.stores;
   few : length l.stores ≤ length l.fn.children.items;
   many : length l.children.items ≡ length l.fn.children.items;
-  done : (k : ℕ) (d : State) (s : Plain) → length l.stores ≤ k → k < length l.fn.children.items → get_or l.children.items k d ≡ record (get_or l.fn.children.items k d) { store = get_or l.fn.stores k s };
+  done : (k : ℕ) (d : State) (s : Plain) → length l.stores ≤ k → k < length l.fn.children.items
+      → get_or l.children.items k d ≡ record (get_or l.fn.children.items k d) { store = get_or l.fn.stores k s };
   left : (k : ℕ) (d : State) → k < length l.stores → get_or l.children.items k d ≡ get_or l.fn.children.items k d;
 }
 

@@ -5,4 +5,5 @@ use Rattle.sp_meaning.proofs.Journeys.{along_goes}
 use Rattle.sp_meaning.proofs.laws.journals_have_schedules.Goals as goal
 
 pub returns : goal.returns
-returns c = λ g turn es n t a clean. let x = along_goes g turn es no_course (start g) n t a clean refl in (x.names, x.size, x.leads)
+returns c = λ g turn es n t a clean. let x = along_goes g turn es no_course (start g) n t a clean refl in
+    (x.names, x.size, x.leads)

@@ -8,10 +8,15 @@ use Rattle.sp_parse.proofs.Declares.{halts_longer}
 use Rattle.sp_parse.proofs.constants.constant_then.Goals as goal
 
 pub returns-in_err-value : goal.returns-in_err-value
-returns-in_err-value c = read_err _ _ _ _ c.from_residual.result _ (err_from_is_err_and c.from_residual.result c.from_residual.ensures.1) (halts_longer c.args.source.now (AConstant ∷ []) (AToken c.args.kind ∷ []) _ _ c.in_err-value.ensures)
+returns-in_err-value c = read_err _ _ _ _ c.from_residual.result _
+    (err_from_is_err_and c.from_residual.result c.from_residual.ensures.1)
+    (halts_longer c.args.source.now (AConstant ∷ []) (AToken c.args.kind ∷ []) _ _ c.in_err-value.ensures)
 
 pub returns-in_err-rest : goal.returns-in_err-rest
-returns-in_err-rest c = read_err _ _ _ _ c.from_residual-in_err-rest.result _ (err_from_is_err_and c.from_residual-in_err-rest.result c.from_residual-in_err-rest.ensures.1) (halts_after (AToken c.args.kind ∷ []) c.in_ok-value.ensures _ c.in_err-rest.ensures)
+returns-in_err-rest c = read_err _ _ _ _ c.from_residual-in_err-rest.result _
+    (err_from_is_err_and c.from_residual-in_err-rest.result c.from_residual-in_err-rest.ensures.1)
+    (halts_after (AToken c.args.kind ∷ []) c.in_ok-value.ensures _ c.in_err-rest.ensures)
 
 pub returns : goal.returns
-returns c = has_read c.in_ok-rest.ensures.first.ready (and (one c.in_ok-value.ensures) (and (expected c.in_ok-rest.ensures) none)) c.in_ok-value.ensures.same
+returns c = has_read c.in_ok-rest.ensures.first.ready
+    (and (one c.in_ok-value.ensures) (and (expected c.in_ok-rest.ensures) none)) c.in_ok-value.ensures.same

@@ -20,13 +20,24 @@ pub more-smaller : goal.more-smaller
 more-smaller c = name_less (c.more.invariant 0).ready c.in_ok-next.ensures
 
 pub returns-in_err-next : goal.returns-in_err-next
-returns-in_err-next c = λ d. so_far_err _ _ _ _ _ c.from_residual.result _ (err_from_is_err_and c.from_residual.result c.from_residual.ensures.1) (no_item (AName ∷ AToken w.Equal ∷ AConstant ∷ AToken w.Semicolon ∷ []) (MoreConstants d ∷ []) (c.more.invariant d) _ c.in_err-next.ensures)
+returns-in_err-next c = λ d. so_far_err _ _ _ _ _ c.from_residual.result _
+    (err_from_is_err_and c.from_residual.result c.from_residual.ensures.1)
+    (no_item (AName ∷ AToken w.Equal ∷ AConstant ∷ AToken w.Semicolon ∷ []) (MoreConstants d ∷ []) (c.more.invariant d)
+    _ c.in_err-next.ensures)
 
 pub returns-in_err-pass : goal.returns-in_err-pass
-returns-in_err-pass c = λ d. so_far_err _ _ _ _ _ c.from_residual-in_err-pass.result _ (err_from_is_err_and c.from_residual-in_err-pass.result c.from_residual-in_err-pass.ensures.1) (halts_pending (constants_read c.args.all c.more.all c.push.new.self c.more.invariant c.in_ok-next.ensures c.in_ok-push.ensures.ok d) _ (halts_short c.args.source.now kind.Name c.in_ok-next.left.now _ c.in_err-pass.ensures (MoreConstants d)))
+returns-in_err-pass c = λ d. so_far_err _ _ _ _ _ c.from_residual-in_err-pass.result _
+    (err_from_is_err_and c.from_residual-in_err-pass.result c.from_residual-in_err-pass.ensures.1)
+    (halts_pending (constants_read c.args.all c.more.all c.push.new.self c.more.invariant c.in_ok-next.ensures
+    c.in_ok-push.ensures.ok d) _ (halts_short c.args.source.now kind.Name c.in_ok-next.left.now _ c.in_err-pass.ensures
+    (MoreConstants d)))
 
 pub returns-in_default : goal.returns-in_default
-returns-in_default c = constants_end c.args.all c.push.new.self (constants_read c.args.all c.more.all c.push.new.self c.more.invariant c.in_ok-next.ensures c.in_ok-push.ensures.ok) (not_passed c.args.source.now kind.Name c.in_ok-next.left.now _ c.in_ok-pass.ensures c.in_default.is)
+returns-in_default c = constants_end c.args.all c.push.new.self
+    (constants_read c.args.all c.more.all c.push.new.self c.more.invariant c.in_ok-next.ensures c.in_ok-push.ensures.ok)
+    (not_passed c.args.source.now kind.Name c.in_ok-next.left.now _ c.in_ok-pass.ensures c.in_default.is)
 
 pub more-preserved : goal.more-preserved
-more-preserved c = constants_on c.args.all c.push.new.self (constants_read c.args.all c.more.all c.push.new.self c.more.invariant c.in_ok-next.ensures c.in_ok-push.ensures.ok) (passed c.args.source.now kind.Name c.in_ok-next.left.now _ c.in-Some.field-0 c.in_ok-pass.ensures c.in-Some.is)
+more-preserved c = constants_on c.args.all c.push.new.self
+    (constants_read c.args.all c.more.all c.push.new.self c.more.invariant c.in_ok-next.ensures c.in_ok-push.ensures.ok)
+    (passed c.args.source.now kind.Name c.in_ok-next.left.now _ c.in-Some.field-0 c.in_ok-pass.ensures c.in-Some.is)

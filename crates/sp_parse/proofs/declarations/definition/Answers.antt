@@ -7,7 +7,8 @@ use Rattle.sp_parse.proofs.Behind.{halts_after}
 use Rattle.sp_parse.proofs.declarations.definition.Goals as goal
 
 pub returns-in-Ok : goal.returns-in-Ok
-returns-in-Ok c = has_read c.in-Ok.ensures.first.ready (and (one c.in_ok-kind.ensures) (and (expected c.in-Ok.ensures) none)) c.in_ok-kind.ensures.same
+returns-in-Ok c = has_read c.in-Ok.ensures.first.ready
+    (and (one c.in_ok-kind.ensures) (and (expected c.in-Ok.ensures) none)) c.in_ok-kind.ensures.same
 
 pub returns-in-Err : goal.returns-in-Err
 returns-in-Err c = halts_after (AToken w.Semicolon ∷ []) c.in_ok-kind.ensures _ c.in-Err.ensures

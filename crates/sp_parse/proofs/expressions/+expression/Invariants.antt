@@ -40,19 +40,22 @@ abbrev pub decreases-selectors : goal.decreases-selectors
 decreases-selectors l = 8 * length l.tokens.now
 
 abbrev pub invariant-simple-more : goal.invariant-simple-more
-invariant-simple-more l = SoFar l.source (ASimple l.depth ∷ []) (λ vs. vs.0) (MoreTerms l.depth) (λ f. f (expression_of l.sum)) l.tokens l.rest
+invariant-simple-more l = SoFar l.source (ASimple l.depth ∷ []) (λ vs. vs.0) (MoreTerms l.depth)
+    (λ f. f (expression_of l.sum)) l.tokens l.rest
 
 abbrev pub decreases-simple-more : goal.decreases-simple-more
 decreases-simple-more l = length l.rest
 
 abbrev pub invariant-term-more : goal.invariant-term-more
-invariant-term-more l = SoFar l.source (AFactor l.depth ∷ MoreFactors l.depth ∷ []) (λ vs. vs.1.0 vs.0) (MoreFactors l.depth) (λ f. f (expression_of l.product)) l.tokens l.rest
+invariant-term-more l = SoFar l.source (AFactor l.depth ∷ MoreFactors l.depth ∷ []) (λ vs. vs.1.0 vs.0)
+    (MoreFactors l.depth) (λ f. f (expression_of l.product)) l.tokens l.rest
 
 abbrev pub decreases-term-more : goal.decreases-term-more
 decreases-term-more l = length l.rest
 
 abbrev pub invariant-selectors-more : goal.invariant-selectors-more
-invariant-selectors-more l = SoFar l.source (Selectors l.depth ∷ []) (λ vs. vs.0) (Selectors l.depth) (and_selectors l.all) l.tokens l.rest
+invariant-selectors-more l = SoFar l.source (Selectors l.depth ∷ []) (λ vs. vs.0) (Selectors l.depth)
+    (and_selectors l.all) l.tokens l.rest
 
 abbrev pub decreases-selectors-more : goal.decreases-selectors-more
 decreases-selectors-more l = length l.rest

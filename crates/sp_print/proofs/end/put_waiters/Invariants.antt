@@ -4,4 +4,5 @@ use Rattle.sp_print.specs.Lines.{waiter_line}
 use Rattle.sp_print.proofs.end.put_waiters.Given as goal
 
 abbrev pub invariant-loop-waiter : goal.invariant-loop-waiter
-invariant-loop-waiter l = l.out.items ++ flat_map waiter_line (drop l.waiter-index l.waiters) ≡ l.fn.out.items ++ flat_map waiter_line l.waiters
+invariant-loop-waiter l = l.out.items ++ flat_map waiter_line (drop l.waiter-index l.waiters) ≡ l.fn.out.items
+    ++ flat_map waiter_line l.waiters

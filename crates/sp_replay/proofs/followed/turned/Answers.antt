@@ -10,4 +10,8 @@ pub turn-requires-clause-formals : goal.turn-requires-clause-formals
 turn-requires-clause-formals c = c.requires.sound.formals
 
 pub returns-in_default : goal.returns-in_default
-returns-in_default c = record { turn = c.turn.ensures.turn; same = c.turn.ensures.same; whole = c.in_default.not-Memory }
+returns-in_default c = record {
+  turn = c.turn.ensures.turn;
+  same = c.turn.ensures.same;
+  whole = c.in_default.not-Memory;
+}

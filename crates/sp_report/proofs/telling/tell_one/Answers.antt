@@ -13,7 +13,8 @@ see-requires g c κs = (
     (
       (λ a m. incl a (meet_⊑_right _ _ a m)),
       nameable_next _ c.items-entry-items.result.now c.loop-entry.entry-index _ c.loop-entry.invariant.0
-          (subst (λ (es : List Entry). NameableFrom at_start es) (sym c.items-entry-items.ensures) c.requires.nameable) c.loop-entry-test.true,
+          (subst (λ (es : List Entry). NameableFrom at_start es) (sym c.items-entry-items.ensures) c.requires.nameable)
+          c.loop-entry-test.true,
     ),
   ),
 )

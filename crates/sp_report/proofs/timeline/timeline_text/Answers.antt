@@ -7,5 +7,6 @@ use Rattle.sp_report.proofs.timeline.timeline_text.Goals as goal
 pub returns : goal.returns
 returns c = c.in_ok-put_numbered.ensures
     ∙ ap₂ (λ (a b : List ℕ). a ++ numbered true 0 b) c.in_ok-text.ensures.items
-    (whole_rest 22 c.as_slice.result.now ∙ ap (λ (xs : List ℕ). drop 22 xs) (c.as_slice.ensures.value ∙ c.in_ok-printed.ensures))
+    (whole_rest 22 c.as_slice.result.now ∙ ap (λ (xs : List ℕ). drop 22 xs)
+    (c.as_slice.ensures.value ∙ c.in_ok-printed.ensures))
     ∙ ap (λ (ys : List ℕ). codes "timeline\n" ++ ys) (numbered_entries 0 at_start c.args.journal.now.entries)

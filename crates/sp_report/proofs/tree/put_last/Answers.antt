@@ -1,4 +1,5 @@
-use Rattle.std.proofs.Common.{◌≡◌, ◌∙◌, ◌++◌, ◌-◌, ◌∷◌, [], ℕ, suc, List, Option, Some, None, length, slice_get, codes, decimal, ap, subst, arith}
+use Rattle.std.proofs.Common.{◌≡◌, ◌∙◌, ◌++◌, ◌-◌, ◌∷◌, [], ℕ, suc, List, Option, Some, None, length, slice_get, codes}
+use Rattle.std.proofs.Common.{decimal, ap, subst, arith}
 use Rattle.std.specs.Result.{OnOk}
 use Rattle.sp_base.specs.declared.name.Pair.{Pair}
 use Rattle.sp_report.specs.Tree.{last_pair}
@@ -10,7 +11,8 @@ some_is x y e = cc
 no_last : (x : Pair) → ◌≡◌ {A = Option Pair} (Some x) None → ⊥
 no_last x e = cc
 
-last_is : (ps : List Pair) (x : Pair) → Some x ≡ slice_get ps (length ps - 1) → decimal x.fork ++ codes "." ++ decimal x.child ≡ last_pair ps
+last_is : (ps : List Pair) (x : Pair) → Some x ≡ slice_get ps (length ps - 1)
+    → decimal x.fork ++ codes "." ++ decimal x.child ≡ last_pair ps
 last_is [] x e = absurd (no_last x e)
 last_is (p ∷ []) x e = ap (λ (y : Pair). decimal y.fork ++ codes "." ++ decimal y.child) (some_is x p e)
 last_is (p ∷ (q ∷ ps)) x e =

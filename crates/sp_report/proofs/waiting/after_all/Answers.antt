@@ -22,13 +22,15 @@ pub tell-requires-clause-next : goal.tell-requires-clause-next
 tell-requires-clause-next c =
     let es = c.items-entry-items.result.now in
     let h = c.loop-entry.invariant in
-    subst (λ (xs : List Entry). CanFollow (births xs) (this es c.loop-entry.entry-index c.loop-entry-test.true)) (sym h.1) (can_follow es c.loop-entry.entry-index any_entry c.loop-entry-test.true h.2)
+    subst (λ (xs : List Entry). CanFollow (births xs) (this es c.loop-entry.entry-index c.loop-entry-test.true))
+    (sym h.1) (can_follow es c.loop-entry.entry-index any_entry c.loop-entry-test.true h.2)
 
 pub add-requires-clause-next : goal.add-requires-clause-next
 add-requires-clause-next c =
     let es = c.items-entry-items.result.now in
     let h = c.loop-entry.invariant in
-    subst (λ (xs : List Entry). CanFollow (births xs) (this es c.loop-entry.entry-index c.loop-entry-test.true)) (sym h.1) (can_follow es c.loop-entry.entry-index any_entry c.loop-entry-test.true h.2)
+    subst (λ (xs : List Entry). CanFollow (births xs) (this es c.loop-entry.entry-index c.loop-entry-test.true))
+    (sym h.1) (can_follow es c.loop-entry.entry-index any_entry c.loop-entry-test.true h.2)
 
 pub loop-entry-preserved : goal.loop-entry-preserved
 loop-entry-preserved c =
@@ -37,7 +39,8 @@ loop-entry-preserved c =
     let l = c.loop-entry-test.true in
     let h = c.loop-entry.invariant in (
       c.in_ok-add.ensures.ledger,
-      kept_whole es i l c.loop-entry.ledger.journal.entries c.add.new.self.journal.entries h.1 c.in_ok-add.ensures.added,
+      kept_whole es i l c.loop-entry.ledger.journal.entries c.add.new.self.journal.entries h.1
+          c.in_ok-add.ensures.added,
       still_nameable es i any_entry l h.2,
       one_told es i l _ _ _ h.1 c.in_ok-tell.ensures h.3,
       one_fits es i l _ _ _ h.1 c.in_ok-tell.ensures h.2 h.4,
@@ -47,18 +50,24 @@ pub returns-clause-ledger : goal.returns-clause-ledger
 returns-clause-ledger c = c.loop-entry.invariant.0
 
 pub returns-clause-journal : goal.returns-clause-journal
-returns-clause-journal c = c.loop-entry.invariant.1 ∙ take_all c.loop-entry.entry-index c.items-entry-items.result.now c.loop-entry-test.false ∙ c.items-entry-items.ensures
+returns-clause-journal c = c.loop-entry.invariant.1
+    ∙ take_all c.loop-entry.entry-index c.items-entry-items.result.now c.loop-entry-test.false
+    ∙ c.items-entry-items.ensures
 
 pub returns-clause-table : goal.returns-clause-table
 returns-clause-table c =
     let es = c.items-entry-items.result.now in
     let t = seen c.loop-entry.table in
-    sym (ap (after_all (births (take c.loop-entry.entry-index es)) t) (drop_all c.loop-entry.entry-index es c.loop-entry-test.false))
+    sym (ap (after_all (births (take c.loop-entry.entry-index es)) t)
+    (drop_all c.loop-entry.entry-index es c.loop-entry-test.false))
     ∙ c.loop-entry.invariant.3 ∙ ap conditions c.items-entry-items.ensures
 
 pub returns-clause-fit : goal.returns-clause-fit
 returns-clause-fit c =
     let es = c.items-entry-items.result.now in
     let whole = take_all c.loop-entry.entry-index es c.loop-entry-test.false ∙ c.items-entry-items.ensures in
-    let told = sym (ap (after_all (births (take c.loop-entry.entry-index es)) (seen c.loop-entry.table)) (drop_all c.loop-entry.entry-index es c.loop-entry-test.false)) ∙ c.loop-entry.invariant.3 ∙ ap conditions c.items-entry-items.ensures in
-    subst (AllFit (births c.args.journal.now.entries)) told (subst (λ (xs : List Entry). AllFit (births xs) (seen c.loop-entry.table)) whole c.loop-entry.invariant.4)
+    let told = sym (ap (after_all (births (take c.loop-entry.entry-index es)) (seen c.loop-entry.table))
+    (drop_all c.loop-entry.entry-index es c.loop-entry-test.false)) ∙ c.loop-entry.invariant.3
+    ∙ ap conditions c.items-entry-items.ensures in
+    subst (AllFit (births c.args.journal.now.entries)) told
+    (subst (λ (xs : List Entry). AllFit (births xs) (seen c.loop-entry.table)) whole c.loop-entry.invariant.4)

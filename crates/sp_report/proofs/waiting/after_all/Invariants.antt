@@ -8,5 +8,7 @@ use Rattle.sp_report.proofs.waiting.after_all.Given as goal
 -- the ledger and the table hold the entries so far
 abbrev pub invariant-loop-entry : goal.invariant-loop-entry
 invariant-loop-entry l =
-    IsLedger l.ledger × (l.ledger.journal.entries ≡ take l.entry-index l.entry-items) × NameableFrom (births (take l.entry-index l.entry-items)) (drop l.entry-index l.entry-items)
-    × (after_all (births (take l.entry-index l.entry-items)) (seen l.table) (drop l.entry-index l.entry-items) ≡ conditions l.entry-items) × AllFit (births (take l.entry-index l.entry-items)) (seen l.table)
+    IsLedger l.ledger × (l.ledger.journal.entries ≡ take l.entry-index l.entry-items)
+    × NameableFrom (births (take l.entry-index l.entry-items)) (drop l.entry-index l.entry-items)
+    × (after_all (births (take l.entry-index l.entry-items)) (seen l.table) (drop l.entry-index l.entry-items)
+    ≡ conditions l.entry-items) × AllFit (births (take l.entry-index l.entry-items)) (seen l.table)

@@ -6,4 +6,5 @@ use Rattle.sp_report.proofs.waiting.put_children.Given as goal
 
 -- the children so far
 abbrev pub invariant-loop-child : goal.invariant-loop-child
-invariant-loop-child l = l.out.items ≡ l.initial.out.items ++ children_text (births l.ledger.journal.entries) (left_of (seen l.table) l.first (l.child - l.first))
+invariant-loop-child l = l.out.items ≡ l.initial.out.items
+    ++ children_text (births l.ledger.journal.entries) (left_of (seen l.table) l.first (l.child - l.first))

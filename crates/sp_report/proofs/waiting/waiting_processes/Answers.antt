@@ -10,8 +10,12 @@ pub loop-process-preserved : goal.loop-process-preserved
 loop-process-preserved c =
     let s = births c.args.ledger.now.journal.entries in
     let p = c.loop-process.process in
-    let is : is_waiting ((seen c.args.table.now).of p) ≡ c.is_waiting.result = ap is_waiting (sym c.of.ensures) ∙ sym c.is_waiting.ensures in
+    let is : is_waiting ((seen c.args.table.now).of p) ≡ c.is_waiting.result = ap is_waiting (sym c.of.ensures)
+    ∙ sym c.is_waiting.ensures in
     elim c.if-is_waiting.branch [
-      | then-is_waiting+in_ok-name+in_ok-insert w ↦ one_passes (λ q. is_waiting ((seen c.args.table.now).of q)) p s _ _ _ c.loop-process.invariant (is ∙ w.if-is_waiting.true) w.in_ok-name.ensures ((λ i. (w.names-is i).entries) ∙ w.in_ok-insert.ensures.entries)
-      | else-is_waiting w ↦ one_fails (λ q. is_waiting ((seen c.args.table.now).of q)) p s _ _ c.loop-process.invariant (is ∙ w.if-is_waiting.false) (λ i. (w.names-is i).entries)
+      | then-is_waiting+in_ok-name+in_ok-insert w ↦ one_passes (λ q. is_waiting ((seen c.args.table.now).of q)) p s _ _
+          _ c.loop-process.invariant (is ∙ w.if-is_waiting.true) w.in_ok-name.ensures
+          ((λ i. (w.names-is i).entries) ∙ w.in_ok-insert.ensures.entries)
+      | else-is_waiting w ↦ one_fails (λ q. is_waiting ((seen c.args.table.now).of q)) p s _ _ c.loop-process.invariant
+          (is ∙ w.if-is_waiting.false) (λ i. (w.names-is i).entries)
     ]

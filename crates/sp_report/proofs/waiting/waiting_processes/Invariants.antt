@@ -8,4 +8,5 @@ use Rattle.sp_report.proofs.waiting.waiting_processes.Given as goal
 
 -- those so far that wait
 abbrev pub invariant-loop-process : goal.invariant-loop-process
-invariant-loop-process l = l.names.entries ≡ in_order (births l.ledger.journal.entries) (filter (λ q. is_waiting ((seen l.table).of q)) (numbers 0 l.process))
+invariant-loop-process l = l.names.entries ≡ in_order (births l.ledger.journal.entries)
+    (filter (λ q. is_waiting ((seen l.table).of q)) (numbers 0 l.process))

@@ -4,7 +4,11 @@ use Rattle.sp_room.proofs.RoomKeeps.{takes_turn}
 use Rattle.sp_room.proofs.turn.take_turn.Goals as goal
 
 pub compare_exchange-found-requires : goal.compare_exchange-found-requires
-compare_exchange-found-requires g c = (search rules, search rules, takes_turn g.K.Kept.opens g.K.Kept.steps g.K.Kept.author _ _ _ _ _ (search rules) (search rules) (search rules))
+compare_exchange-found-requires g c = (
+  search rules,
+  search rules,
+  takes_turn g.K.Kept.opens g.K.Kept.steps g.K.Kept.author _ _ _ _ _ (search rules) (search rules) (search rules),
+)
 
 pub exchange-requires : goal.exchange-requires
 exchange-requires g c = let t = c.compare_exchange-found.ensures.2.1 c.if-found-eq0.true in

@@ -13,7 +13,10 @@ use Rattle.sp_run.proofs.Chains.{next_on, next_not}
 use Rattle.sp_run.proofs.acts.next_turn.Goals as goal
 
 pub returns-in-Halts : goal.returns-in-Halts
-returns-in-Halts c = next_not (setting_of c.args.run.now) c.args.variable c.args.limit c.args.down (stmt_of c.args.body.now) (items_of c.args.todo.now.items) (plain_who c.args.who.now) (plain_own c.args.machine.now.own) (store_of c.args.run.now c.args.machine.now.log) c.in-Halts.halted c.in-Halts.ensures
+returns-in-Halts c = next_not (setting_of c.args.run.now) c.args.variable c.args.limit c.args.down
+    (stmt_of c.args.body.now) (items_of c.args.todo.now.items) (plain_who c.args.who.now)
+    (plain_own c.args.machine.now.own) (store_of c.args.run.now c.args.machine.now.log) c.in-Halts.halted
+    c.in-Halts.ensures
 
 pub returns : goal.returns
 returns c =
@@ -21,5 +24,9 @@ returns c =
     let z : to_z w64 (of_z w64 c.in-Gives.value) ≡ c.in-Gives.value = to_z-of_z w64 c.in-Gives.value f in
     let y : to_z w64 (of_z w64 c.args.limit) ≡ c.args.limit = to_z-of_z w64 c.args.limit c.ranges.limit in
     let e = c.in-Gives.ensures in
-    let k = next_on (setting_of c.args.run.now) c.args.variable c.args.limit c.args.down (stmt_of c.args.body.now) (items_of c.args.todo.now.items) (plain_who c.args.who.now) (plain_own c.args.machine.now.own) (plain_own c.index_value.new.machine.own) (store_of c.args.run.now c.args.machine.now.log) (store_of c.args.run.now c.index_value.new.machine.log) c.in-Gives.value e in
-    subst (λ (x : Came Deed). Comes c.args.run.now (plain_deed (items_of c.turn_after.new.todo.items)) c.turn_after.result c.turn_after.new.machine x) (sym k) (rw (z, y) at c.turn_after.ensures)
+    let k = next_on (setting_of c.args.run.now) c.args.variable c.args.limit c.args.down (stmt_of c.args.body.now)
+    (items_of c.args.todo.now.items) (plain_who c.args.who.now) (plain_own c.args.machine.now.own)
+    (plain_own c.index_value.new.machine.own) (store_of c.args.run.now c.args.machine.now.log)
+    (store_of c.args.run.now c.index_value.new.machine.log) c.in-Gives.value e in
+    subst (λ (x : Came Deed). Comes c.args.run.now (plain_deed (items_of c.turn_after.new.todo.items))
+    c.turn_after.result c.turn_after.new.machine x) (sym k) (rw (z, y) at c.turn_after.ensures)

@@ -3,7 +3,8 @@ use Rattle.sp_run.proofs.Blocks.{some_block, no_block}
 use Rattle.sp_run.proofs.calls.enter.Goals as goal
 
 pub returns-in-None : goal.returns-in-None
-returns-in-None c = let e : slice_get c.args.run.now.checked.now.blocks c.args.f ≡ None = search rules in rw (no_block c.args.run.now.checked.now.blocks c.args.f e) refl
+returns-in-None c = let e : slice_get c.args.run.now.checked.now.blocks c.args.f ≡ None = search rules in
+    rw (no_block c.args.run.now.checked.now.blocks c.args.f e) refl
 
 pub returns-in-Gives-widen : goal.returns-in-Gives-widen
 returns-in-Gives-widen c =

@@ -16,5 +16,7 @@ pub returns-in-Gives : goal.returns-in-Gives
 returns-in-Gives c =
     let f : SFits w64 c.in-Takes.n = search rules in
     let z : to_z w64 (of_z w64 c.in-Takes.n) ≡ c.in-Takes.n = to_z-of_z w64 c.in-Takes.n f in
-    rw c.in-Takes.is (does_then c.args.run.now c.args.who.now same c.args.machine.now c.advance.new.machine c.assign.new.machine c.assign.result (advance (setting_of c.args.run.now) c.in-Takes.bytes) (λ u. assign (plain_address c.args.at.now) (Ordinal c.in-Takes.n)) tt
+    rw c.in-Takes.is (does_then c.args.run.now c.args.who.now same c.args.machine.now c.advance.new.machine
+    c.assign.new.machine c.assign.result (advance (setting_of c.args.run.now) c.in-Takes.bytes)
+    (λ u. assign (plain_address c.args.at.now) (Ordinal c.in-Takes.n)) tt
     c.in-Gives.ensures (rw (z, plain_ordinal c.in-Takes.n) at c.assign.ensures))

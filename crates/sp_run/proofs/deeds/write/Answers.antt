@@ -11,7 +11,15 @@ use Rattle.sp_run.proofs.deeds.write.Goals as goal
 pub returns : goal.returns
 returns c =
     let b : c.bytes_of-bytes.result ≡ bytes_in (plain_held c.in-Gives.value) = c.bytes_of-bytes.ensures in
-    let n : nat_lt c.args.run.now.limits.now.output (length (bytes_in (plain_held c.in-Gives.value)) + length (replicate c.args.blanks 32 ++ c.args.text.now)) ≡ false = rw (c.items.ensures, b) at (sym c.is_full.ensures ∙ c.if-is_full.false) in
-    let j : c.in-Ok-joined.value ≡ bytes_in (plain_held c.in-Gives.value) ++ (replicate c.args.blanks 32 ++ c.args.text.now) = rw (b, c.items-2.ensures, c.in-Ok.ensures) at c.in-Ok-joined.ensures in
-    does_then c.args.run.now c.args.who.now same c.args.machine.now c.look.new.machine c.put.new.machine c.put.result (look Output) (λ h. if nat_lt c.args.run.now.limits.now.output (length (bytes_in h) + length (replicate c.args.blanks 32 ++ c.args.text.now)) then fail fault.F16 else put Output (Written (bytes_in h ++ (replicate c.args.blanks 32 ++ c.args.text.now)))) (plain_held c.in-Gives.value)
+    let n : nat_lt c.args.run.now.limits.now.output
+    (length (bytes_in (plain_held c.in-Gives.value)) + length (replicate c.args.blanks 32 ++ c.args.text.now))
+    ≡ false = rw (c.items.ensures, b) at (sym c.is_full.ensures ∙ c.if-is_full.false) in
+    let j : c.in-Ok-joined.value ≡ bytes_in (plain_held c.in-Gives.value)
+    ++ (replicate c.args.blanks 32 ++ c.args.text.now) =
+    rw (b, c.items-2.ensures, c.in-Ok.ensures) at c.in-Ok-joined.ensures in
+    does_then c.args.run.now c.args.who.now same c.args.machine.now c.look.new.machine c.put.new.machine c.put.result
+    (look Output) (λ h. if nat_lt c.args.run.now.limits.now.output
+    (length (bytes_in h) + length (replicate c.args.blanks 32 ++ c.args.text.now)) then fail fault.F16 else
+    put Output (Written (bytes_in h ++ (replicate c.args.blanks 32 ++ c.args.text.now))))
+    (plain_held c.in-Gives.value)
     c.in-Gives.ensures (rw (n, ← j) c.put.ensures)

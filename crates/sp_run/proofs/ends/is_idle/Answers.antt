@@ -14,10 +14,12 @@ loop-became-preserved c =
     let i = c.loop-became.became-index in
     let b = c.became-item.result in
     let at : name_at bs i ≡ b.name = name_at_is bs i b (search rules) (search rules) in
-    let none : running g s b.name ≡ None = none_runs c.in_ok-running.field-0 (running g s b.name) (search rules) (search rules) in
+    let none : running g s b.name ≡ None = none_runs c.in_ok-running.field-0 (running g s b.name) (search rules)
+    (search rules) in
     below_more (λ k. running g s (name_at bs k) ≡ None) i c.loop-became.invariant (ap (running g s) at ∙ none)
 
 pub returns : goal.returns
 returns c =
-    let l : length c.args.s.now.conditions ≤ c.loop-became.became-index = rw c.items-conditions.ensures at c.loop-became-test.false in
+    let l : length c.args.s.now.conditions ≤ c.loop-became.became-index =
+    rw c.items-conditions.ensures at c.loop-became-test.false in
     idle_all c.args.run.now c.args.s.now (λ k h. c.loop-became.invariant k (omega arith))

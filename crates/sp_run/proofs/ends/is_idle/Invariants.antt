@@ -6,4 +6,5 @@ use Rattle.sp_run.proofs.Collecting.{name_at}
 use Rattle.sp_run.proofs.ends.is_idle.Given as goal
 
 abbrev pub invariant-loop-became : goal.invariant-loop-became
-invariant-loop-became l = (k : ℕ) → k < l.became-index → running (setting_of l.run) (state_of l.run l.s) (name_at l.s.conditions k) ≡ None
+invariant-loop-became l = (k : ℕ) → k < l.became-index
+    → running (setting_of l.run) (state_of l.run l.s) (name_at l.s.conditions k) ≡ None

@@ -6,8 +6,10 @@ use Rattle.sp_run.proofs.interpret.+interpret.Given as goal
 
 abbrev pub invariant-all-loop-left : goal.invariant-all-loop-left
 invariant-all-loop-left l =
-    all (setting_of l.run) l.left (items_of l.todo.items) (plain_who l.who) (plain_own l.machine.own) (store_of l.run l.machine.log) ≡
-    all (setting_of l.run) l.initial.left (items_of l.initial.todo.items) (plain_who l.who) (plain_own l.initial.machine.own) (store_of l.run l.initial.machine.log)
+    all (setting_of l.run) l.left (items_of l.todo.items) (plain_who l.who) (plain_own l.machine.own)
+    (store_of l.run l.machine.log) ≡
+    all (setting_of l.run) l.initial.left (items_of l.initial.todo.items) (plain_who l.who)
+    (plain_own l.initial.machine.own) (store_of l.run l.initial.machine.log)
 
 abbrev pub decreases-all-loop-left : goal.decreases-all-loop-left
 decreases-all-loop-left l = l.left

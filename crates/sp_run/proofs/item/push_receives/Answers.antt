@@ -7,8 +7,17 @@ use Rattle.sp_run.proofs.Pushing.{push_all_back, receives_start}
 use Rattle.sp_run.proofs.item.push_receives.Goals as goal
 
 pub loop-i-preserved : goal.loop-i-preserved
-loop-i-preserved c =
-    (omega arith, rw c.in_ok-push_item.ensures (push_all_back (λ (x : Var). Receive (expr_of c.args.channel.now) (var_of x)) c.args.variables.now c.loop-i.i c.index-variables-i.result (items_of c.loop-i.todo.items) (omega arith) (omega arith) (search rules) ∙ c.loop-i.invariant.1))
+loop-i-preserved c = (
+  omega arith,
+  rw c.in_ok-push_item.ensures
+      (push_all_back (λ (x : Var). Receive (expr_of c.args.channel.now) (var_of x)) c.args.variables.now c.loop-i.i
+      c.index-variables-i.result (items_of c.loop-i.todo.items) (omega arith) (omega arith) (search rules)
+      ∙ c.loop-i.invariant.1),
+)
 
 pub loop-i-init : goal.loop-i-init
-loop-i-init c = (omega arith, receives_start (expr_of c.args.channel.now) c.args.variables.now _ (items_of c.args.todo.now.items) (omega arith))
+loop-i-init c = (
+  omega arith,
+  receives_start (expr_of c.args.channel.now) c.args.variables.now _
+      (items_of c.args.todo.now.items) (omega arith),
+)

@@ -5,4 +5,5 @@ use Rattle.sp_tree.specs.Cells.{first_or}
 use Rattle.sp_run.proofs.kinds.fields_of.Given as goal
 
 abbrev pub invariant-loop-f : goal.invariant-loop-f
-invariant-loop-f l = map plain_value l.out ≡ map (λ f. first_or Undefined (slice_get (map plain_value l.known) f.1)) (take l.f-index l.fields)
+invariant-loop-f l = map plain_value l.out ≡ map (λ f. first_or Undefined (slice_get (map plain_value l.known) f.1))
+    (take l.f-index l.fields)

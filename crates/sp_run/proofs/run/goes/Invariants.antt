@@ -7,4 +7,5 @@ use Rattle.sp_run.proofs.run.goes.Given as goal
 
 abbrev pub invariant-loop-name : goal.invariant-loop-name
 invariant-loop-name l =
-    longest_from (setting_of l.run) (names_of l.schedule) 0 (state_of l.run l.initial.s) ≡ longest_from (setting_of l.run) (names_of (drop l.name-index l.schedule)) l.n (state_of l.run l.s)
+    longest_from (setting_of l.run) (names_of l.schedule) 0 (state_of l.run l.initial.s)
+    ≡ longest_from (setting_of l.run) (names_of (drop l.name-index l.schedule)) l.n (state_of l.run l.s)

@@ -5,4 +5,5 @@ use Rattle.sp_run.proofs.run.ran.Goals as goal
 
 pub returns : goal.returns
 returns c =
-    meaning_is c.args.run.now c.args.s.now c.goes.new.s (names_of c.args.schedule.now) c.in_ok-steps.steps c.of-output.result c.in_ok-end.end c.requires.opening (search rules) (search rules) (search rules)
+    meaning_is c.args.run.now c.args.s.now c.goes.new.s (names_of c.args.schedule.now) c.in_ok-steps.steps
+    c.of-output.result c.in_ok-end.end c.requires.opening (search rules) (search rules) (search rules)

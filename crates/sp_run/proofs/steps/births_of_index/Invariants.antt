@@ -11,5 +11,9 @@ use Rattle.sp_run.proofs.steps.births_of_index.Given as goal
 
 abbrev pub invariant-loop-i : goal.invariant-loop-i
 invariant-loop-i l =
-    after (births {L = superpascal (setting_of l.run)} l.p l.fork l.i (newborns (plain_who l.parent.who) (plain_own l.parent.own) l.i (indexed_children l.variable (stmt_of l.body) (l.low +ℤ pos l.i) (l.count - l.i)))) (state_of l.run l.s)
-    ≡ after (births {L = superpascal (setting_of l.run)} l.p l.fork 0 (newborns (plain_who l.parent.who) (plain_own l.parent.own) 0 (indexed_children l.variable (stmt_of l.body) l.low l.count))) (state_of l.run l.initial.s)
+    after (births {L = superpascal (setting_of l.run)} l.p l.fork l.i
+    (newborns (plain_who l.parent.who) (plain_own l.parent.own) l.i
+    (indexed_children l.variable (stmt_of l.body) (l.low +ℤ pos l.i) (l.count - l.i)))) (state_of l.run l.s)
+    ≡ after (births {L = superpascal (setting_of l.run)} l.p l.fork 0
+    (newborns (plain_who l.parent.who) (plain_own l.parent.own) 0
+    (indexed_children l.variable (stmt_of l.body) l.low l.count))) (state_of l.run l.initial.s)

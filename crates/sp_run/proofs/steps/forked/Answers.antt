@@ -8,4 +8,5 @@ pub returns : goal.returns
 returns c =
     let e : plain_process c.in_ok-todo.field-0 ≡ plain_process c.args.parent.now = c.in_ok-todo.ensures in
     let n : c.in_ok-forks.forks ≡ c.args.parent.now.who.forks + 1 = c.in_ok-forks.ensures in
-    rw n (ap (λ (x : o.Process). with_todo x.todo (record { name = x.who.name; forks = c.args.parent.now.who.forks + 1; opens = x.who.opens }) x.own) e)
+    rw n (ap (λ (x : o.Process). with_todo x.todo
+    (record { name = x.who.name; forks = c.args.parent.now.who.forks + 1; opens = x.who.opens }) x.own) e)

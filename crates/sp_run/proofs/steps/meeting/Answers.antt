@@ -5,5 +5,9 @@ use Rattle.sp_run.proofs.Changing.{ok_then, meeting_is}
 use Rattle.sp_run.proofs.steps.meeting.Goals as goal
 
 pub returns : goal.returns
-returns c = ok_then c.adds.result c.adds.ensures (λ h. meeting_is c.args.run.now c.args.s.now c.becomes.new.s c.becomes-2.new.s c.set_pending.new.s c.delivers.new.s c.adds.new.s c.args.p.now c.args.z.now (plain_process c.args.next) (plain_process c.args.other) (plain_channel c.args.channel) (plain_address c.args.a.now) (Tree (plain_value c.args.v.now))
-    c.in_ok-becomes.ensures (rw c.items.ensures at c.in_ok-becomes-2.ensures) c.in_ok-set_pending.ensures c.in_ok-delivers.ensures h)
+returns c = ok_then c.adds.result c.adds.ensures
+    (λ h. meeting_is c.args.run.now c.args.s.now c.becomes.new.s c.becomes-2.new.s c.set_pending.new.s c.delivers.new.s
+    c.adds.new.s c.args.p.now c.args.z.now (plain_process c.args.next) (plain_process c.args.other)
+    (plain_channel c.args.channel) (plain_address c.args.a.now) (Tree (plain_value c.args.v.now))
+    c.in_ok-becomes.ensures (rw c.items.ensures at c.in_ok-becomes-2.ensures) c.in_ok-set_pending.ensures
+    c.in_ok-delivers.ensures h)

@@ -11,16 +11,25 @@ use Rattle.sp_run.proofs.steps.opens.Goals as goal
 pub returns-in-Some : goal.returns-in-Some
 unfolding state_of
 returns-in-Some c =
-    let n : passed (most (setting_of c.args.run.now)) (plain_totals c.args.s.now.totals) (Some (record { processes = 0; channels = 1; entries = 1 })) ≡ Some c.in-Some.f = sym c.passed.ensures ∙ c.in-Some.is in
+    let n : passed (most (setting_of c.args.run.now)) (plain_totals c.args.s.now.totals)
+    (Some (record { processes = 0; channels = 1; entries = 1 })) ≡ Some c.in-Some.f = sym c.passed.ensures
+    ∙ c.in-Some.is in
     ok_then c.fails.result c.fails.ensures (λ h. opens_not c.args.run.now c.args.s.now c.fails.new.s c.args.p.now
-    (with_todo (items_of c.args.next.todo.items) (record { name = c.args.next.who.name; forks = c.args.next.who.forks; opens = c.args.next.who.opens + 1 }) (plain_own c.args.next.own))
-    (store_of c.args.run.now c.args.log) (passed (most (setting_of c.args.run.now)) (plain_totals c.args.s.now.totals) (Some (record { processes = 0; channels = 1; entries = 1 }))) c.in-Some.f n h)
+    (with_todo (items_of c.args.next.todo.items)
+    (record { name = c.args.next.who.name; forks = c.args.next.who.forks; opens = c.args.next.who.opens + 1 })
+    (plain_own c.args.next.own))
+    (store_of c.args.run.now c.args.log) (passed (most (setting_of c.args.run.now)) (plain_totals c.args.s.now.totals)
+    (Some (record { processes = 0; channels = 1; entries = 1 }))) c.in-Some.f n h)
 
 pub returns : goal.returns
 unfolding state_of
 returns c =
-    let n : passed (most (setting_of c.args.run.now)) (plain_totals c.args.s.now.totals) (Some (record { processes = 0; channels = 1; entries = 1 })) ≡ None = sym c.passed.ensures ∙ c.in_default.is in
+    let n : passed (most (setting_of c.args.run.now)) (plain_totals c.args.s.now.totals)
+    (Some (record { processes = 0; channels = 1; entries = 1 })) ≡ None = sym c.passed.ensures ∙ c.in_default.is in
     opens_is c.args.run.now c.args.s.now c.becomes.new.s c.adds.new.s c.args.p.now
-    (with_todo (items_of c.args.next.todo.items) (record { name = c.args.next.who.name; forks = c.args.next.who.forks; opens = c.args.next.who.opens + 1 }) (plain_own c.args.next.own))
-    (store_of c.args.run.now c.args.log) (passed (most (setting_of c.args.run.now)) (plain_totals c.args.s.now.totals) (Some (record { processes = 0; channels = 1; entries = 1 }))) n
+    (with_todo (items_of c.args.next.todo.items)
+    (record { name = c.args.next.who.name; forks = c.args.next.who.forks; opens = c.args.next.who.opens + 1 })
+    (plain_own c.args.next.own))
+    (store_of c.args.run.now c.args.log) (passed (most (setting_of c.args.run.now)) (plain_totals c.args.s.now.totals)
+    (Some (record { processes = 0; channels = 1; entries = 1 }))) n
     (rw c.in_ok-sum_of.ensures at c.in_ok-becomes.ensures) c.in_ok-adds.ensures

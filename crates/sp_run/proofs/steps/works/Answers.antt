@@ -12,16 +12,28 @@ use Rattle.sp_run.proofs.steps.works.Goals as goal
 
 pub returns-in-Gives : goal.returns-in-Gives
 returns-in-Gives c =
-    let b : c.in-Ok.both.0 ≡ enough (setting_of c.args.run.now) (plain_own c.args.process.own) = ap (λ (r : ℕ × List Write). r.0) c.in-Ok.ensures in
+    let b : c.in-Ok.both.0 ≡ enough (setting_of c.args.run.now) (plain_own c.args.process.own) =
+    ap (λ (r : ℕ × List Write). r.0) c.in-Ok.ensures in
     let l : c.in-Ok.both.1 ≡ c.args.s.now.log = ap (λ (r : ℕ × List Write). r.1) c.in-Ok.ensures ∙ c.items.ensures in
-    let e : deed (setting_of c.args.run.now) (enough (setting_of c.args.run.now) (plain_own c.args.process.own)) (items_of c.args.process.todo.items) (plain_who c.args.process.who) (plain_own c.args.process.own) (store_of c.args.run.now c.args.s.now.log)
-    ≡ Got (plain_deed (items_of c.deed_of-came.new.todo.items) c.in-Gives.deed) (plain_own c.deed_of-came.new.machine.own) (store_of c.args.run.now c.deed_of-came.new.machine.log) = rw (c.in-Gives.is, b, l) at c.deed_of-came.ensures in
-    ok_then c.completes.result c.completes.ensures (λ h. h ∙ ap (stepped (setting_of c.args.run.now) c.args.p.now (plain_who c.args.process.who) (state_of c.args.run.now c.args.s.now)) (sym e))
+    let e : deed (setting_of c.args.run.now) (enough (setting_of c.args.run.now) (plain_own c.args.process.own))
+    (items_of c.args.process.todo.items) (plain_who c.args.process.who) (plain_own c.args.process.own)
+    (store_of c.args.run.now c.args.s.now.log)
+    ≡ Got (plain_deed (items_of c.deed_of-came.new.todo.items) c.in-Gives.deed)
+    (plain_own c.deed_of-came.new.machine.own) (store_of c.args.run.now c.deed_of-came.new.machine.log) =
+    rw (c.in-Gives.is, b, l) at c.deed_of-came.ensures in
+    ok_then c.completes.result c.completes.ensures
+    (λ h. h ∙ ap (stepped (setting_of c.args.run.now) c.args.p.now (plain_who c.args.process.who)
+    (state_of c.args.run.now c.args.s.now)) (sym e))
 
 pub returns-in-Halts : goal.returns-in-Halts
 returns-in-Halts c =
-    let b : c.in-Ok.both.0 ≡ enough (setting_of c.args.run.now) (plain_own c.args.process.own) = ap (λ (r : ℕ × List Write). r.0) c.in-Ok.ensures in
+    let b : c.in-Ok.both.0 ≡ enough (setting_of c.args.run.now) (plain_own c.args.process.own) =
+    ap (λ (r : ℕ × List Write). r.0) c.in-Ok.ensures in
     let l : c.in-Ok.both.1 ≡ c.args.s.now.log = ap (λ (r : ℕ × List Write). r.1) c.in-Ok.ensures ∙ c.items.ensures in
-    let e : deed (setting_of c.args.run.now) (enough (setting_of c.args.run.now) (plain_own c.args.process.own)) (items_of c.args.process.todo.items) (plain_who c.args.process.who) (plain_own c.args.process.own) (store_of c.args.run.now c.args.s.now.log)
+    let e : deed (setting_of c.args.run.now) (enough (setting_of c.args.run.now) (plain_own c.args.process.own))
+    (items_of c.args.process.todo.items) (plain_who c.args.process.who) (plain_own c.args.process.own)
+    (store_of c.args.run.now c.args.s.now.log)
     ≡ Not c.in-Halts.halted = rw (c.in-Halts.is, b, l) at c.deed_of-came.ensures in
-    ok_then c.stops.result (c.stops.ensures (plain_who c.args.process.who)) (λ h. h ∙ ap (stepped (setting_of c.args.run.now) c.args.p.now (plain_who c.args.process.who) (state_of c.args.run.now c.args.s.now)) (sym e))
+    ok_then c.stops.result (c.stops.ensures (plain_who c.args.process.who))
+    (λ h. h ∙ ap (stepped (setting_of c.args.run.now) c.args.p.now (plain_who c.args.process.who)
+    (state_of c.args.run.now c.args.s.now)) (sym e))

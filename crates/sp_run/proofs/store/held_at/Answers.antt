@@ -6,4 +6,5 @@ use Rattle.sp_run.proofs.Stores.{written_none}
 use Rattle.sp_run.proofs.store.held_at.Goals as goal
 
 pub returns : goal.returns
-returns c = rw (sym (written_none (first_store (setting_of c.args.run.now)) c.args.log.now c.loop-i.i (plain_loc c.args.at.now) c.loop-i.invariant.1 (omega arith))) c.first_held.ensures
+returns c = rw (sym (written_none (first_store (setting_of c.args.run.now)) c.args.log.now c.loop-i.i
+    (plain_loc c.args.at.now) c.loop-i.invariant.1 (omega arith))) c.first_held.ensures

@@ -6,7 +6,8 @@ use Rattle.sp_run.proofs.store.held_at.Given as goal
 
 abbrev pub invariant-loop-i : goal.invariant-loop-i
 invariant-loop-i l =
-    (l.i ≤ length l.log) × (written (first_store (setting_of l.run)) (take l.i l.log) (plain_loc l.at) ≡ written (first_store (setting_of l.run)) l.log (plain_loc l.at))
+    (l.i ≤ length l.log) × (written (first_store (setting_of l.run)) (take l.i l.log) (plain_loc l.at)
+    ≡ written (first_store (setting_of l.run)) l.log (plain_loc l.at))
 
 abbrev pub decreases-loop-i : goal.decreases-loop-i
 decreases-loop-i l = l.i

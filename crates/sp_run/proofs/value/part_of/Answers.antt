@@ -5,7 +5,8 @@ use Rattle.sp_run.proofs.Values.{item_values}
 use Rattle.sp_run.proofs.value.part_of.Goals as goal
 
 pub returns-in-Parts : goal.returns-in-Parts
-returns-in-Parts c = rw (c.in-Parts.is, plain_parts, item_values plain_value c.in-Parts.vs c.args.at, c.get.ensures) refl
+returns-in-Parts c = rw (c.in-Parts.is, plain_parts, item_values plain_value c.in-Parts.vs c.args.at, c.get.ensures)
+    refl
 
 pub returns-in-Undefined : goal.returns-in-Undefined
 returns-in-Undefined c = rw (c.in-Undefined.is, plain_undefined) refl

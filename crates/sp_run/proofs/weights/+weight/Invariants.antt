@@ -7,4 +7,5 @@ abbrev pub invariant-weight_of_all-loop-s : goal.invariant-weight_of_all-loop-s
 invariant-weight_of_all-loop-s l = weight_all (stmts_of l.ss) ≡ l.n + weight_all (stmts_of (drop l.s-index l.ss))
 
 abbrev pub invariant-weight_of_arms-loop-arm : goal.invariant-weight_of_arms-loop-arm
-invariant-weight_of_arms-loop-arm l = weight_arms (arms_of l.arms) ≡ l.n + weight_arms (arms_of (drop l.arm-index l.arms))
+invariant-weight_of_arms-loop-arm l = weight_arms (arms_of l.arms) ≡ l.n
+    + weight_arms (arms_of (drop l.arm-index l.arms))

@@ -1,5 +1,6 @@
 use Rattle.std.proofs.Common.{arith, refl}
-use Rattle.sp_scan.proofs.Scanning.{scan_shorter, scan_line, scan_column, scan_done, too_long, scan_breaks, pass_start, pass_item, item_shorter}
+use Rattle.sp_scan.proofs.Scanning.{scan_shorter, scan_line, scan_column, scan_done, too_long, scan_breaks, pass_start}
+use Rattle.sp_scan.proofs.Scanning.{pass_item, item_shorter}
 use Rattle.sp_scan.proofs.scanner.first_breach.Goals as goal
 
 pub returns-then-text-gt-MAX_TEXT : goal.returns-then-text-gt-MAX_TEXT
@@ -9,22 +10,41 @@ pub items-init : goal.items-init
 items-init c = pass_start c.args.text.now _ refl (omega (arith, c.if-text-gt-MAX_TEXT.false))
 
 pub moved-at-requires-clause-last : goal.moved-at-requires-clause-last
-moved-at-requires-clause-last c = omega (arith, item_shorter c.items.rest.now c.in-Ok.after.now c.in-Ok.field-0-0 c.in-Ok.ensures.0)
+moved-at-requires-clause-last c = omega (
+  arith,
+  item_shorter c.items.rest.now c.in-Ok.after.now c.in-Ok.field-0-0 c.in-Ok.ensures.0,
+)
 
 pub moved-at-requires-clause-line : goal.moved-at-requires-clause-line
-moved-at-requires-clause-line c = omega (arith, scan_line c.items.invariant.1, scan_shorter c.items.invariant.1, c.items.invariant.1.short)
+moved-at-requires-clause-line c = omega (
+  arith,
+  scan_line c.items.invariant.1,
+  scan_shorter c.items.invariant.1,
+  c.items.invariant.1.short,
+)
 
 pub moved-at-requires-clause-column : goal.moved-at-requires-clause-column
-moved-at-requires-clause-column c = omega (arith, scan_column c.items.invariant.1, scan_shorter c.items.invariant.1, c.items.invariant.1.short)
+moved-at-requires-clause-column c = omega (
+  arith,
+  scan_column c.items.invariant.1,
+  scan_shorter c.items.invariant.1,
+  c.items.invariant.1.short,
+)
 
 pub items-smaller : goal.items-smaller
 items-smaller c = item_shorter c.items.rest.now c.in-Ok.after.now c.in-Ok.field-0-0 c.in-Ok.ensures.0
 
 pub items-preserved : goal.items-preserved
-items-preserved c = pass_item c.args.text.now c.items.rest.now c.in-Ok.after.now c.items.at c.moved-at.result c.in-Ok.field-0-0 c.items.invariant c.in-Ok.ensures.0 c.in-Ok.ensures.1 c.moved-at.ensures
+items-preserved c = pass_item c.args.text.now c.items.rest.now c.in-Ok.after.now c.items.at c.moved-at.result
+    c.in-Ok.field-0-0 c.items.invariant c.in-Ok.ensures.0 c.in-Ok.ensures.1 c.moved-at.ensures
 
 pub returns-in-Err : goal.returns-in-Err
-returns-in-Err c = scan_breaks c.args.text.now c.items.rest.now c.items.invariant.0 c.items.at c.in-Err.rule c.items.invariant.1 c.in-Err.ensures
+returns-in-Err c = scan_breaks c.args.text.now c.items.rest.now c.items.invariant.0 c.items.at c.in-Err.rule
+    c.items.invariant.1 c.in-Err.ensures
 
 pub returns : goal.returns
-returns c = (c.items.invariant.0, scan_done c.args.text.now c.items.rest.now c.items.invariant.0 c.items.at c.items.invariant.1 c.in_default.ensures)
+returns c = (
+  c.items.invariant.0,
+  scan_done c.args.text.now c.items.rest.now c.items.invariant.0 c.items.at
+      c.items.invariant.1 c.in_default.ensures,
+)

@@ -1,6 +1,7 @@
 use Rattle.std.proofs.Common.{arith, refl}
 use Rattle.sp_grammar.proofs.Rising.{lexeme_length}
-use Rattle.sp_scan.proofs.Scanning.{scan_start, scan_shorter, scan_line, scan_column, scan_gap, scan_token, scan_done, too_long, scan_breaks, gap_shorter, as_gap, as_token}
+use Rattle.sp_scan.proofs.Scanning.{scan_start, scan_shorter, scan_line, scan_column, scan_gap, scan_token, scan_done}
+use Rattle.sp_scan.proofs.Scanning.{too_long, scan_breaks, gap_shorter, as_gap, as_token}
 use Rattle.sp_scan.proofs.scanner.scan.Goals as goal
 
 pub returns-then-text-gt-MAX_TEXT : goal.returns-then-text-gt-MAX_TEXT
@@ -10,43 +11,81 @@ pub items-init : goal.items-init
 items-init c = scan_start c.args.text.now _ _ c.new-tokens.ensures refl (omega (arith, c.if-text-gt-MAX_TEXT.false))
 
 pub moved-at-requires-clause-last : goal.moved-at-requires-clause-last
-moved-at-requires-clause-last c = omega (arith, gap_shorter (as_gap c.items.rest.now c.in-Ok-None-default.after.now c.in-Ok-None-default.field-0-0 c.in-Ok-None-default.field-0-0-is c.in-Ok-None-default.ensures.0))
+moved-at-requires-clause-last c = omega (
+  arith,
+  gap_shorter (as_gap c.items.rest.now c.in-Ok-None-default.after.now c.in-Ok-None-default.field-0-0
+      c.in-Ok-None-default.field-0-0-is c.in-Ok-None-default.ensures.0),
+)
 
 pub moved-at-requires-clause-line : goal.moved-at-requires-clause-line
-moved-at-requires-clause-line c = omega (arith, scan_line c.items.invariant, scan_shorter c.items.invariant, c.items.invariant.short)
+moved-at-requires-clause-line c = omega (
+  arith,
+  scan_line c.items.invariant,
+  scan_shorter c.items.invariant,
+  c.items.invariant.short,
+)
 
 pub moved-at-requires-clause-column : goal.moved-at-requires-clause-column
-moved-at-requires-clause-column c = omega (arith, scan_column c.items.invariant, scan_shorter c.items.invariant, c.items.invariant.short)
+moved-at-requires-clause-column c = omega (
+  arith,
+  scan_column c.items.invariant,
+  scan_shorter c.items.invariant,
+  c.items.invariant.short,
+)
 
 pub items-smaller-in-Ok-None-default : goal.items-smaller-in-Ok-None-default
-items-smaller-in-Ok-None-default c = gap_shorter (as_gap c.items.rest.now c.in-Ok-None-default.after.now c.in-Ok-None-default.field-0-0 c.in-Ok-None-default.field-0-0-is c.in-Ok-None-default.ensures.0)
+items-smaller-in-Ok-None-default c = gap_shorter
+    (as_gap c.items.rest.now c.in-Ok-None-default.after.now c.in-Ok-None-default.field-0-0
+    c.in-Ok-None-default.field-0-0-is c.in-Ok-None-default.ensures.0)
 
 pub items-preserved-in-Ok-None-default : goal.items-preserved-in-Ok-None-default
-items-preserved-in-Ok-None-default c = scan_gap c.items.invariant c.in-Ok-None-default.after.now c.moved-at.result (as_gap c.items.rest.now c.in-Ok-None-default.after.now c.in-Ok-None-default.field-0-0 c.in-Ok-None-default.field-0-0-is c.in-Ok-None-default.ensures.0) c.in-Ok-None-default.ensures.1 c.moved-at.ensures
+items-preserved-in-Ok-None-default c = scan_gap c.items.invariant c.in-Ok-None-default.after.now c.moved-at.result
+    (as_gap c.items.rest.now c.in-Ok-None-default.after.now c.in-Ok-None-default.field-0-0
+    c.in-Ok-None-default.field-0-0-is c.in-Ok-None-default.ensures.0) c.in-Ok-None-default.ensures.1 c.moved-at.ensures
 
 pub overflow_sub-from : goal.overflow_sub-from
 overflow_sub-from c = scan_shorter c.items.invariant
 
 pub overflow_sub-to : goal.overflow_sub-to
-overflow_sub-to c = omega (arith, scan_shorter c.items.invariant, lexeme_length (as_token c.items.rest.now c.in-Ok-Some-default.after.now c.in-Ok-Some-default.field-0-0 c.in-Ok-Some-default.kind c.in-Ok-Some-default.field-0-0-is c.in-Ok-Some-default.ensures.0).1.spelled)
+overflow_sub-to c = omega (
+  arith,
+  scan_shorter c.items.invariant,
+  lexeme_length (as_token c.items.rest.now c.in-Ok-Some-default.after.now c.in-Ok-Some-default.field-0-0
+      c.in-Ok-Some-default.kind c.in-Ok-Some-default.field-0-0-is c.in-Ok-Some-default.ensures.0).1.spelled,
+)
 
 pub moved-at-requires-in-Ok-Some-default-clause-last : goal.moved-at-requires-in-Ok-Some-default-clause-last
-moved-at-requires-in-Ok-Some-default-clause-last c = omega (arith, lexeme_length (as_token c.items.rest.now c.in-Ok-Some-default.after.now c.in-Ok-Some-default.field-0-0 c.in-Ok-Some-default.kind c.in-Ok-Some-default.field-0-0-is c.in-Ok-Some-default.ensures.0).1.spelled)
+moved-at-requires-in-Ok-Some-default-clause-last c =
+    omega (
+      arith,
+      lexeme_length (as_token c.items.rest.now c.in-Ok-Some-default.after.now c.in-Ok-Some-default.field-0-0
+          c.in-Ok-Some-default.kind c.in-Ok-Some-default.field-0-0-is c.in-Ok-Some-default.ensures.0).1.spelled,
+    )
 
 pub moved-at-requires-in-Ok-Some-default-clause-line : goal.moved-at-requires-in-Ok-Some-default-clause-line
-moved-at-requires-in-Ok-Some-default-clause-line c = omega (arith, scan_line c.items.invariant, scan_shorter c.items.invariant, c.items.invariant.short)
+moved-at-requires-in-Ok-Some-default-clause-line c =
+    omega (arith, scan_line c.items.invariant, scan_shorter c.items.invariant, c.items.invariant.short)
 
 pub moved-at-requires-in-Ok-Some-default-clause-column : goal.moved-at-requires-in-Ok-Some-default-clause-column
-moved-at-requires-in-Ok-Some-default-clause-column c = omega (arith, scan_column c.items.invariant, scan_shorter c.items.invariant, c.items.invariant.short)
+moved-at-requires-in-Ok-Some-default-clause-column c =
+    omega (arith, scan_column c.items.invariant, scan_shorter c.items.invariant, c.items.invariant.short)
 
 pub items-smaller : goal.items-smaller
-items-smaller c = lexeme_length (as_token c.items.rest.now c.in-Ok-Some-default.after.now c.in-Ok-Some-default.field-0-0 c.in-Ok-Some-default.kind c.in-Ok-Some-default.field-0-0-is c.in-Ok-Some-default.ensures.0).1.spelled
+items-smaller c = lexeme_length (as_token c.items.rest.now c.in-Ok-Some-default.after.now c.in-Ok-Some-default.field-0-0
+    c.in-Ok-Some-default.kind c.in-Ok-Some-default.field-0-0-is c.in-Ok-Some-default.ensures.0).1.spelled
 
 pub items-preserved : goal.items-preserved
-items-preserved c = scan_token c.items.invariant c.in-Ok-Some-default.after.now c.moved-at-in-Ok-Some-default.result c.in-Ok-Some-default.kind c.push.new.self (as_token c.items.rest.now c.in-Ok-Some-default.after.now c.in-Ok-Some-default.field-0-0 c.in-Ok-Some-default.kind c.in-Ok-Some-default.field-0-0-is c.in-Ok-Some-default.ensures.0).0 (as_token c.items.rest.now c.in-Ok-Some-default.after.now c.in-Ok-Some-default.field-0-0 c.in-Ok-Some-default.kind c.in-Ok-Some-default.field-0-0-is c.in-Ok-Some-default.ensures.0).1 c.in-Ok-Some-default.ensures.1 c.moved-at-in-Ok-Some-default.ensures c.in_ok-push-in-Ok-Some-default.ensures.ok
+items-preserved c = scan_token c.items.invariant c.in-Ok-Some-default.after.now c.moved-at-in-Ok-Some-default.result
+    c.in-Ok-Some-default.kind c.push.new.self
+    (as_token c.items.rest.now c.in-Ok-Some-default.after.now c.in-Ok-Some-default.field-0-0 c.in-Ok-Some-default.kind
+    c.in-Ok-Some-default.field-0-0-is c.in-Ok-Some-default.ensures.0).0
+    (as_token c.items.rest.now c.in-Ok-Some-default.after.now c.in-Ok-Some-default.field-0-0 c.in-Ok-Some-default.kind
+    c.in-Ok-Some-default.field-0-0-is c.in-Ok-Some-default.ensures.0).1 c.in-Ok-Some-default.ensures.1
+    c.moved-at-in-Ok-Some-default.ensures c.in_ok-push-in-Ok-Some-default.ensures.ok
 
 pub returns-in-Err : goal.returns-in-Err
-returns-in-Err c = scan_breaks c.args.text.now c.items.rest.now c.items.tokens c.items.at c.in-Err.rule c.items.invariant c.in-Err.ensures
+returns-in-Err c = scan_breaks c.args.text.now c.items.rest.now c.items.tokens c.items.at c.in-Err.rule
+    c.items.invariant c.in-Err.ensures
 
 pub returns : goal.returns
 returns c = scan_done c.args.text.now c.items.rest.now c.items.tokens c.items.at c.items.invariant c.in_default.ensures

@@ -7,4 +7,5 @@ pub slice_bounds-word_of-count : goal.slice_bounds-word_of-count
 slice_bounds-word_of-count c = omega (arith, run_shorter c.after_name-after.ensures.is, ap length c.requires.starts)
 
 pub returns : goal.returns
-returns c = longest_name c.args.bytes.now c.args.rest.now c.after_name-after.result.now c.args.first c.word_of.result c.requires.starts c.requires.letter c.after_name-after.ensures c.word_of.ensures
+returns c = longest_name c.args.bytes.now c.args.rest.now c.after_name-after.result.now c.args.first c.word_of.result
+    c.requires.starts c.requires.letter c.after_name-after.ensures c.word_of.ensures

@@ -14,17 +14,23 @@ use Rattle.sp_scope.proofs.blocks.+block.Goals as goal
 
 pub name_procedure-returns-clause-found : goal.name_procedure-returns-clause-found
 name_procedure-returns-clause-found t c =
-    titled_found _ c.args.scopes.now.around c.args.scopes.now.local c.args.x.now c.args.fs.now c.args.answer.now (block_of c.args.b).parts (block_of c.args.b).body c.in_ok-heading.heading.tree c.args.first c.in_ok-heading.heading.first
+    titled_found _ c.args.scopes.now.around c.args.scopes.now.local c.args.x.now c.args.fs.now c.args.answer.now
+    (block_of c.args.b).parts (block_of c.args.b).body c.in_ok-heading.heading.tree c.args.first
+    c.in_ok-heading.heading.first
     c.in_ok-heading.ensures c.name_titled.ensures.found
 
 pub name_part-returns-in-Proc-clause-found : goal.name_part-returns-in-Proc-clause-found
 name_part-returns-in-Proc-clause-found t c =
-    part_found _ c.args.scopes.now.around c.args.scopes.now.local c.args.first (part_of c.args.p) (p.Proc c.in-Proc.name c.items-in-Proc.result.now c.in-Proc.answer (block_of c.in-Proc.block).parts (block_of c.in-Proc.block).body) c.name_procedure.ensures.found (search (rules, the_lemmas))
+    part_found _ c.args.scopes.now.around c.args.scopes.now.local c.args.first (part_of c.args.p)
+    (p.Proc c.in-Proc.name c.items-in-Proc.result.now c.in-Proc.answer (block_of c.in-Proc.block).parts
+    (block_of c.in-Proc.block).body) c.name_procedure.ensures.found (search (rules, the_lemmas))
 
 pub name_titled-returns-clause-found : goal.name_titled-returns-clause-found
 name_titled-returns-clause-found t c =
-    block_found c.args.h c.args.x.now c.args.fs.now c.args.answer.now (block_of c.args.b).parts (block_of c.args.b).body c.args.first
-    _ (inside c.args.scopes.now.around (title_local c.args.scopes.now.local c.args.x.now c.args.fs.now c.args.answer.now))
+    block_found c.args.h c.args.x.now c.args.fs.now c.args.answer.now (block_of c.args.b).parts (block_of c.args.b).body
+    c.args.first
+    _ (inside c.args.scopes.now.around (title_local c.args.scopes.now.local c.args.x.now c.args.fs.now
+    c.args.answer.now))
     (seen_block c.in_ok-inner.inner.tree) c.in_ok-inner.inner.first (named.program_of c.in_ok-tree.tree)
     c.in_ok-declare_title.ensures.after c.in_ok-inner.ensures.found c.in_ok-tree.ensures
 

@@ -12,6 +12,10 @@ abbrev pub invariant-name_parts-loop-p : goal.invariant-name_parts-loop-p
 invariant-name_parts-loop-p l =
     (goal.iterator-name_parts-loop-p).can_next l.p-iterator ×
     (goal.iterator-name_parts-loop-p).is_finite l.p-iterator ×
-    (beside (named.program_of l.out) (parts_named l.scopes.around l.scopes.local (parts (map part_of (into_iter_items l.p-iterator)))) ≡ parts_named l.fn.scopes.around l.fn.scopes.local (parts (map part_of l.fn.ps))) ×
-    (parts_first l.scopes.around l.scopes.local (parts (map part_of (into_iter_items l.p-iterator))) l.first ≡ parts_first l.fn.scopes.around l.fn.scopes.local (parts (map part_of l.fn.ps)) l.fn.first) ×
-    (inside l.scopes.around (parts_local l.scopes.local (parts (map part_of (into_iter_items l.p-iterator)))) ≡ inside l.fn.scopes.around (parts_local l.fn.scopes.local (parts (map part_of l.fn.ps))))
+    (beside (named.program_of l.out) (parts_named l.scopes.around l.scopes.local
+    (parts (map part_of (into_iter_items l.p-iterator))))
+    ≡ parts_named l.fn.scopes.around l.fn.scopes.local (parts (map part_of l.fn.ps))) ×
+    (parts_first l.scopes.around l.scopes.local (parts (map part_of (into_iter_items l.p-iterator))) l.first
+    ≡ parts_first l.fn.scopes.around l.fn.scopes.local (parts (map part_of l.fn.ps)) l.fn.first) ×
+    (inside l.scopes.around (parts_local l.scopes.local (parts (map part_of (into_iter_items l.p-iterator))))
+    ≡ inside l.fn.scopes.around (parts_local l.fn.scopes.local (parts (map part_of l.fn.ps))))

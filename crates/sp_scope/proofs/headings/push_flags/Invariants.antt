@@ -3,4 +3,5 @@ use Rattle.sp_scope.specs.Flags.{flags}
 use Rattle.sp_scope.proofs.headings.push_flags.Given as goal
 
 abbrev pub invariant-loop-x : goal.invariant-loop-x
-invariant-loop-x l = l.out.items ++ flags l.by_reference (drop l._x-index l.xs) ≡ l.fn.out.items ++ flags l.by_reference l.xs
+invariant-loop-x l = l.out.items ++ flags l.by_reference (drop l._x-index l.xs) ≡ l.fn.out.items
+    ++ flags l.by_reference l.xs

@@ -3,4 +3,5 @@ use Rattle.sp_scope.specs.Fields.{groups_held}
 use Rattle.sp_scope.proofs.kinds.check_groups.Given as goal
 
 abbrev pub invariant-loop-g : goal.invariant-loop-g
-invariant-loop-g l = groups_held l.scopes l.own l.names.keys (drop l.g-index l.gs) l.first ≡ groups_held l.scopes l.own [] l.gs l.fn.first
+invariant-loop-g l = groups_held l.scopes l.own l.names.keys (drop l.g-index l.gs) l.first
+    ≡ groups_held l.scopes l.own [] l.gs l.fn.first

@@ -3,4 +3,5 @@ use Rattle.sp_tree.specs.NamedTree.{fields_named}
 use Rattle.sp_scope.proofs.kinds.push_fields.Given as goal
 
 abbrev pub invariant-loop-x : goal.invariant-loop-x
-invariant-loop-x l = l.out.items ++ fields_named l.kind (drop l.x-index l.xs) ≡ l.fn.out.items ++ fields_named l.kind l.xs
+invariant-loop-x l = l.out.items ++ fields_named l.kind (drop l.x-index l.xs) ≡ l.fn.out.items
+    ++ fields_named l.kind l.xs

@@ -6,5 +6,7 @@ use Rattle.sp_scope.proofs.parts.declare_constants.Given as goal
 
 abbrev pub invariant-loop-x : goal.invariant-loop-x
 invariant-loop-x l =
-    (enumerated_first l.scopes.around l.scopes.local (drop l.x-index l.xs) l.first ≡ enumerated_first l.fn.scopes.around l.fn.scopes.local l.xs l.fn.first) ×
-    (inside l.scopes.around (constants_local l.scopes.local (drop l.x-index l.xs)) ≡ inside l.fn.scopes.around (constants_local l.fn.scopes.local l.xs))
+    (enumerated_first l.scopes.around l.scopes.local (drop l.x-index l.xs) l.first
+    ≡ enumerated_first l.fn.scopes.around l.fn.scopes.local l.xs l.fn.first) ×
+    (inside l.scopes.around (constants_local l.scopes.local (drop l.x-index l.xs))
+    ≡ inside l.fn.scopes.around (constants_local l.fn.scopes.local l.xs))

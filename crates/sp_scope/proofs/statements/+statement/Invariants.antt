@@ -12,22 +12,36 @@ abbrev pub invariant-name_statements-loop-s : goal.invariant-name_statements-loo
 invariant-name_statements-loop-s l =
     (goal.iterator-name_statements-loop-s).can_next l.s-iterator ×
     (goal.iterator-name_statements-loop-s).is_finite l.s-iterator ×
-    (map named.statement_of l.out.items ++ named_statements l.scopes.around l.scopes.local (statements (map statement_of (into_iter_items l.s-iterator))) ≡ named_statements l.fn.scopes.around l.fn.scopes.local (statements (map statement_of l.fn.ss))) ×
-    (statements_first l.scopes.around l.scopes.local (statements (map statement_of (into_iter_items l.s-iterator))) l.first ≡ statements_first l.fn.scopes.around l.fn.scopes.local (statements (map statement_of l.fn.ss)) l.fn.first) ×
-    (inside l.scopes.around (statements_local l.scopes.local (statements (map statement_of (into_iter_items l.s-iterator)))) ≡ inside l.fn.scopes.around (statements_local l.fn.scopes.local (statements (map statement_of l.fn.ss))))
+    (map named.statement_of l.out.items ++ named_statements l.scopes.around l.scopes.local
+    (statements (map statement_of (into_iter_items l.s-iterator)))
+    ≡ named_statements l.fn.scopes.around l.fn.scopes.local (statements (map statement_of l.fn.ss))) ×
+    (statements_first l.scopes.around l.scopes.local (statements (map statement_of (into_iter_items l.s-iterator)))
+    l.first ≡ statements_first l.fn.scopes.around l.fn.scopes.local (statements (map statement_of l.fn.ss))
+    l.fn.first) ×
+    (inside l.scopes.around (statements_local l.scopes.local
+    (statements (map statement_of (into_iter_items l.s-iterator))))
+    ≡ inside l.fn.scopes.around (statements_local l.fn.scopes.local (statements (map statement_of l.fn.ss))))
 
 abbrev pub invariant-name_arms-loop-a : goal.invariant-name_arms-loop-a
 invariant-name_arms-loop-a l =
     (goal.iterator-name_arms-loop-a).can_next l.a-iterator ×
     (goal.iterator-name_arms-loop-a).is_finite l.a-iterator ×
-    (map named.arm_of l.out.items ++ named_arms l.scopes.around l.scopes.local (arms (map arm_of (into_iter_items l.a-iterator))) ≡ named_arms l.fn.scopes.around l.fn.scopes.local (arms (map arm_of l.fn.choices))) ×
-    (arms_first l.scopes.around l.scopes.local (arms (map arm_of (into_iter_items l.a-iterator))) l.first ≡ arms_first l.fn.scopes.around l.fn.scopes.local (arms (map arm_of l.fn.choices)) l.fn.first) ×
-    (inside l.scopes.around (arms_local l.scopes.local (arms (map arm_of (into_iter_items l.a-iterator)))) ≡ inside l.fn.scopes.around (arms_local l.fn.scopes.local (arms (map arm_of l.fn.choices))))
+    (map named.arm_of l.out.items ++ named_arms l.scopes.around l.scopes.local
+    (arms (map arm_of (into_iter_items l.a-iterator)))
+    ≡ named_arms l.fn.scopes.around l.fn.scopes.local (arms (map arm_of l.fn.choices))) ×
+    (arms_first l.scopes.around l.scopes.local (arms (map arm_of (into_iter_items l.a-iterator))) l.first
+    ≡ arms_first l.fn.scopes.around l.fn.scopes.local (arms (map arm_of l.fn.choices)) l.fn.first) ×
+    (inside l.scopes.around (arms_local l.scopes.local (arms (map arm_of (into_iter_items l.a-iterator))))
+    ≡ inside l.fn.scopes.around (arms_local l.fn.scopes.local (arms (map arm_of l.fn.choices))))
 
 abbrev pub invariant-name_branches-loop-b : goal.invariant-name_branches-loop-b
 invariant-name_branches-loop-b l =
     (goal.iterator-name_branches-loop-b).can_next l.b-iterator ×
     (goal.iterator-name_branches-loop-b).is_finite l.b-iterator ×
-    (map named.branch_of l.out.items ++ named_branches l.scopes.around l.scopes.local (branches (map branch_of (into_iter_items l.b-iterator))) ≡ named_branches l.fn.scopes.around l.fn.scopes.local (branches (map branch_of l.fn.bs))) ×
-    (branches_first l.scopes.around l.scopes.local (branches (map branch_of (into_iter_items l.b-iterator))) l.first ≡ branches_first l.fn.scopes.around l.fn.scopes.local (branches (map branch_of l.fn.bs)) l.fn.first) ×
-    (inside l.scopes.around (branches_local l.scopes.local (branches (map branch_of (into_iter_items l.b-iterator)))) ≡ inside l.fn.scopes.around (branches_local l.fn.scopes.local (branches (map branch_of l.fn.bs))))
+    (map named.branch_of l.out.items ++ named_branches l.scopes.around l.scopes.local
+    (branches (map branch_of (into_iter_items l.b-iterator)))
+    ≡ named_branches l.fn.scopes.around l.fn.scopes.local (branches (map branch_of l.fn.bs))) ×
+    (branches_first l.scopes.around l.scopes.local (branches (map branch_of (into_iter_items l.b-iterator))) l.first
+    ≡ branches_first l.fn.scopes.around l.fn.scopes.local (branches (map branch_of l.fn.bs)) l.fn.first) ×
+    (inside l.scopes.around (branches_local l.scopes.local (branches (map branch_of (into_iter_items l.b-iterator))))
+    ≡ inside l.fn.scopes.around (branches_local l.fn.scopes.local (branches (map branch_of l.fn.bs))))

@@ -6,5 +6,7 @@ use Rattle.sp_scope.proofs.variables.declare_formals.Given as goal
 
 abbrev pub invariant-loop-f : goal.invariant-loop-f
 invariant-loop-f l =
-    (formals_first l.scopes.around l.scopes.local (drop l.f-index l.fs) l.first ≡ formals_first l.fn.scopes.around l.fn.scopes.local l.fs l.fn.first) ×
-    (inside l.scopes.around (formals_local l.scopes.local (drop l.f-index l.fs)) ≡ inside l.fn.scopes.around (formals_local l.fn.scopes.local l.fs))
+    (formals_first l.scopes.around l.scopes.local (drop l.f-index l.fs) l.first
+    ≡ formals_first l.fn.scopes.around l.fn.scopes.local l.fs l.fn.first) ×
+    (inside l.scopes.around (formals_local l.scopes.local (drop l.f-index l.fs))
+    ≡ inside l.fn.scopes.around (formals_local l.fn.scopes.local l.fs))

@@ -6,5 +6,7 @@ use Rattle.sp_scope.proofs.variables.declare_variables.Given as goal
 
 abbrev pub invariant-loop-x : goal.invariant-loop-x
 invariant-loop-x l =
-    (names_first l.scopes.around l.role l.scopes.local (drop l.x-index l.xs) l.first ≡ names_first l.fn.scopes.around l.role l.fn.scopes.local l.xs l.fn.first) ×
-    (inside l.scopes.around (names_local l.role l.scopes.local (drop l.x-index l.xs)) ≡ inside l.fn.scopes.around (names_local l.role l.fn.scopes.local l.xs))
+    (names_first l.scopes.around l.role l.scopes.local (drop l.x-index l.xs) l.first
+    ≡ names_first l.fn.scopes.around l.role l.fn.scopes.local l.xs l.fn.first) ×
+    (inside l.scopes.around (names_local l.role l.scopes.local (drop l.x-index l.xs))
+    ≡ inside l.fn.scopes.around (names_local l.role l.fn.scopes.local l.xs))

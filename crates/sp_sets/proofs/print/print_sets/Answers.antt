@@ -8,4 +8,9 @@ use Rattle.sp_sets.proofs.print.print_sets.Goals as goal
 
 pub returns : goal.returns
 returns c =
-    put_sets_is (program_of c.args.checked.now) c.args.sets.now c.items-variables.result.now (map block_of c.items-blocks.result.now) _ c.as_slice.result.now _ _ _ c.items-variables.ensures (ap (map block_of) c.items-blocks.ensures) (ap length c.items-blocks.ensures ∙ sym (length-map c.args.checked.now.blocks block_of)) c.new-out.ensures.items (subst (IsInOrder line_cmp (tree_lines (program_of c.args.checked.now))) (sym c.as_slice.ensures.value) c.in_ok-lines.ensures) c.in_ok-put_blocks.ensures c.in_ok-put_lines.ensures
+    put_sets_is (program_of c.args.checked.now) c.args.sets.now c.items-variables.result.now
+    (map block_of c.items-blocks.result.now) _ c.as_slice.result.now _ _ _ c.items-variables.ensures
+    (ap (map block_of) c.items-blocks.ensures)
+    (ap length c.items-blocks.ensures ∙ sym (length-map c.args.checked.now.blocks block_of)) c.new-out.ensures.items
+    (subst (IsInOrder line_cmp (tree_lines (program_of c.args.checked.now))) (sym c.as_slice.ensures.value)
+    c.in_ok-lines.ensures) c.in_ok-put_blocks.ensures c.in_ok-put_lines.ensures

@@ -5,9 +5,13 @@ use Rattle.sp_sets.proofs.Joins.{at_index, put_block_is, put_no_block}
 use Rattle.sp_sets.proofs.print.put_block.Goals as goal
 
 pub returns-then-b-eq0 : goal.returns-then-b-eq0
-returns-then-b-eq0 c = put_no_block c.args.variables.now c.args.sets.now (map block_of c.args.blocks.now) c.args.b c.args.out.now.items (search rules)
+returns-then-b-eq0 c = put_no_block c.args.variables.now c.args.sets.now (map block_of c.args.blocks.now) c.args.b
+    c.args.out.now.items (search rules)
 
 pub returns : goal.returns
 returns c =
-    put_block_is c.args.variables.now c.args.sets.now (map block_of c.args.blocks.now) c.args.b (block_of c.index-blocks-b.result) c.args.out.now.items _ (search rules)
-    (get_of_map block_of c.args.blocks.now c.args.b c.index-blocks-b.result (at_index c.args.blocks.now c.args.b c.index-blocks-b.result c.requires.there c.index-blocks-b.is)) c.in_ok-put_implicit.ensures
+    put_block_is c.args.variables.now c.args.sets.now (map block_of c.args.blocks.now) c.args.b
+    (block_of c.index-blocks-b.result) c.args.out.now.items _ (search rules)
+    (get_of_map block_of c.args.blocks.now c.args.b c.index-blocks-b.result
+    (at_index c.args.blocks.now c.args.b c.index-blocks-b.result c.requires.there c.index-blocks-b.is))
+    c.in_ok-put_implicit.ensures

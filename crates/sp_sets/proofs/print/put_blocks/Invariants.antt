@@ -4,4 +4,5 @@ use Rattle.sp_sets.specs.SetsText.{IsOfBlock, Joined}
 use Rattle.sp_sets.proofs.print.put_blocks.Given as goal
 
 abbrev pub invariant-each : goal.invariant-each
-invariant-each l = (t : List ℕ) × Joined (IsOfBlock l.variables l.sets (map block_of l.blocks)) l.b t × (l.out.items ≡ l.fn.out.items ++ t)
+invariant-each l = (t : List ℕ) × Joined (IsOfBlock l.variables l.sets (map block_of l.blocks)) l.b t
+    × (l.out.items ≡ l.fn.out.items ++ t)

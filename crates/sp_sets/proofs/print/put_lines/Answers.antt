@@ -5,5 +5,7 @@ use Rattle.sp_sets.proofs.print.put_lines.Goals as goal
 
 pub each-preserved : goal.each-preserved
 each-preserved c =
-    joined_more (IsLineAt c.args.variables.now c.args.sets.now c.args.lines.now) c.each.i c.args.out.now.items _ _ c.each.invariant
-    (put_line_at c.args.variables.now c.args.sets.now c.args.lines.now c.each.i _ _ _ (at_default c.args.lines.now c.each.i _ (search rules)) c.in_ok-put_line.ensures)
+    joined_more (IsLineAt c.args.variables.now c.args.sets.now c.args.lines.now) c.each.i c.args.out.now.items _ _
+    c.each.invariant
+    (put_line_at c.args.variables.now c.args.sets.now c.args.lines.now c.each.i _ _ _
+    (at_default c.args.lines.now c.each.i _ (search rules)) c.in_ok-put_line.ensures)

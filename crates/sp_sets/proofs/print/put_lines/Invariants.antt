@@ -3,4 +3,5 @@ use Rattle.sp_sets.specs.SetsText.{IsLineAt, Joined}
 use Rattle.sp_sets.proofs.print.put_lines.Given as goal
 
 abbrev pub invariant-each : goal.invariant-each
-invariant-each l = (t : List ℕ) × Joined (IsLineAt l.variables l.sets l.lines) l.i t × (l.out.items ≡ l.fn.out.items ++ t)
+invariant-each l = (t : List ℕ) × Joined (IsLineAt l.variables l.sets l.lines) l.i t
+    × (l.out.items ≡ l.fn.out.items ++ t)

@@ -6,4 +6,9 @@ use Rattle.sp_sets.proofs.Ordering.{variable_total, ranks}
 use Rattle.sp_sets.proofs.variables.in_order.Goals as goal
 
 pub returns : goal.returns
-returns c = (search rules, c.sort_unstable_by.ensures.sorted (λ a b. is_lt (variable_cmp c.args.variables.now a b)) (ranks (variable_cmp c.args.variables.now) (variable_total c.args.variables.now)) (always_returns_same _ _ _ (λ a r g h. (ap is_lt (search rules), search rules))))
+returns c = (
+  search rules,
+  c.sort_unstable_by.ensures.sorted (λ a b. is_lt (variable_cmp c.args.variables.now a b))
+      (ranks (variable_cmp c.args.variables.now) (variable_total c.args.variables.now))
+      (always_returns_same _ _ _ (λ a r g h. (ap is_lt (search rules), search rules))),
+)

@@ -6,4 +6,8 @@ use Rattle.sp_sets.proofs.Ordering.{line_total, ranks}
 use Rattle.sp_sets.proofs.walk.ordered_lines.Goals as goal
 
 pub returns : goal.returns
-returns c = (search rules, c.sort_unstable_by.ensures.sorted (λ a b. is_lt (line_cmp a b)) (ranks line_cmp line_total) (answers_always _ _ _ (λ f a r g h. ap is_lt (search rules))))
+returns c = (
+  search rules,
+  c.sort_unstable_by.ensures.sorted (λ a b. is_lt (line_cmp a b)) (ranks line_cmp line_total)
+      (answers_always _ _ _ (λ f a r g h. ap is_lt (search rules))),
+)

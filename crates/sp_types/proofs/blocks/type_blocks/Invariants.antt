@@ -12,6 +12,13 @@ abbrev pub invariant-loop-b : goal.invariant-loop-b
 invariant-loop-b l =
     (goal.iterator-loop-b).can_next l.b-iterator ×
     (goal.iterator-loop-b).is_finite l.b-iterator ×
-    (map checked.block_of l.out.items ++ checked_blocks l.t (starts_in l.bodies (map block_of (into_iter_items l.b-iterator))) (map block_of (into_iter_items l.b-iterator)) ≡ checked_blocks l.fn.t (starts_in l.bodies (map block_of l.fn.blocks)) (map block_of l.fn.blocks)) ×
-    (blocks_first l.numbers l.cells l.variables l.n l.t (starts_in l.bodies (map block_of (into_iter_items l.b-iterator))) (map block_of (into_iter_items l.b-iterator)) l.first ≡ blocks_first l.numbers l.cells l.variables 0 l.fn.t (starts_in l.bodies (map block_of l.fn.blocks)) (map block_of l.fn.blocks) l.fn.first) ×
-    (blocks_after l.t (starts_in l.bodies (map block_of (into_iter_items l.b-iterator))) (map block_of (into_iter_items l.b-iterator)) ≡ blocks_after l.fn.t (starts_in l.bodies (map block_of l.fn.blocks)) (map block_of l.fn.blocks))
+    (map checked.block_of l.out.items ++ checked_blocks l.t
+    (starts_in l.bodies (map block_of (into_iter_items l.b-iterator))) (map block_of (into_iter_items l.b-iterator))
+    ≡ checked_blocks l.fn.t (starts_in l.bodies (map block_of l.fn.blocks)) (map block_of l.fn.blocks)) ×
+    (blocks_first l.numbers l.cells l.variables l.n l.t
+    (starts_in l.bodies (map block_of (into_iter_items l.b-iterator))) (map block_of (into_iter_items l.b-iterator))
+    l.first ≡ blocks_first l.numbers l.cells l.variables 0 l.fn.t (starts_in l.bodies (map block_of l.fn.blocks))
+    (map block_of l.fn.blocks) l.fn.first) ×
+    (blocks_after l.t (starts_in l.bodies (map block_of (into_iter_items l.b-iterator)))
+    (map block_of (into_iter_items l.b-iterator))
+    ≡ blocks_after l.fn.t (starts_in l.bodies (map block_of l.fn.blocks)) (map block_of l.fn.blocks))

@@ -10,5 +10,8 @@ abbrev pub invariant-loop-x : goal.invariant-loop-x
 invariant-loop-x l =
     (goal.iterator-loop-x).can_next l.x-iterator ×
     (goal.iterator-loop-x).is_finite l.x-iterator ×
-    (map checked.statement_form_of l.out.items ++ opens l.t (arguments (map argument_of (into_iter_items l.x-iterator))) ≡ opens l.t (arguments (map argument_of l.fn.xs))) ×
-    (each_first l.t (channel_first l.t) (arguments (map argument_of (into_iter_items l.x-iterator))) l.first ≡ each_first l.t (channel_first l.t) (arguments (map argument_of l.fn.xs)) l.fn.first)
+    (map checked.statement_form_of l.out.items
+    ++ opens l.t (arguments (map argument_of (into_iter_items l.x-iterator)))
+    ≡ opens l.t (arguments (map argument_of l.fn.xs))) ×
+    (each_first l.t (channel_first l.t) (arguments (map argument_of (into_iter_items l.x-iterator))) l.first
+    ≡ each_first l.t (channel_first l.t) (arguments (map argument_of l.fn.xs)) l.fn.first)

@@ -3,4 +3,5 @@ use Rattle.sp_types.specs.DeclarationFirsts.{constants_first}
 use Rattle.sp_types.proofs.declarations.check_constants.Given as goal
 
 abbrev pub invariant-loop-c : goal.invariant-loop-c
-invariant-loop-c l = constants_first l.known (drop l.c-index l.constants) l.first ≡ constants_first l.known l.constants l.fn.first
+invariant-loop-c l = constants_first l.known (drop l.c-index l.constants) l.first
+    ≡ constants_first l.known l.constants l.fn.first

@@ -5,4 +5,5 @@ use Rattle.sp_types.proofs.entries.index_of.Given as goal
 
 -- a name that is not in the table is looked for among the fields that are left
 abbrev pub invariant-loop-f : goal.invariant-loop-f
-invariant-loop-f l = (l.n ≡ l.f-index) × ((name : List ℕ) → option_or (under l.index name) (field_from l.n name (drop l.f-index l.fields)) ≡ field_from 0 name l.fields)
+invariant-loop-f l = (l.n ≡ l.f-index) × ((name : List ℕ)
+    → option_or (under l.index name) (field_from l.n name (drop l.f-index l.fields)) ≡ field_from 0 name l.fields)

@@ -5,4 +5,5 @@ use Rattle.sp_types.proofs.entries.numbers_of.Given as goal
 
 -- a number is in the set or among those that are left
 abbrev pub invariant-loop-k : goal.invariant-loop-k
-invariant-loop-k l = (k : ℕ) → list_any (λ j. is_eq (nat_cmp k j)) l.numbers.keys || list_any (nat_eq k) (drop l.k-index l.kinds) ≡ list_any (nat_eq k) l.kinds
+invariant-loop-k l = (k : ℕ) → list_any (λ j. is_eq (nat_cmp k j)) l.numbers.keys
+    || list_any (nat_eq k) (drop l.k-index l.kinds) ≡ list_any (nat_eq k) l.kinds

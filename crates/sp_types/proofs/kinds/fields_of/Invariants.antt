@@ -7,4 +7,5 @@ abbrev pub invariant-loop-f : goal.invariant-loop-f
 invariant-loop-f l =
     (goal.iterator-loop-f).can_next l.f-iterator ×
     (goal.iterator-loop-f).is_finite l.f-iterator ×
-    (l.out.items ++ map (λ (f : List ℕ × ℕ). (f.0, type_number l.numbers f.1)) (into_iter_items l.f-iterator) ≡ map (λ (f : List ℕ × ℕ). (f.0, type_number l.numbers f.1)) l.fn.fields)
+    (l.out.items ++ map (λ (f : List ℕ × ℕ). (f.0, type_number l.numbers f.1)) (into_iter_items l.f-iterator)
+    ≡ map (λ (f : List ℕ × ℕ). (f.0, type_number l.numbers f.1)) l.fn.fields)

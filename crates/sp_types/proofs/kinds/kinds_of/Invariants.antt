@@ -7,4 +7,5 @@ abbrev pub invariant-loop-k : goal.invariant-loop-k
 invariant-loop-k l =
     (goal.iterator-loop-k).can_next l.k-iterator ×
     (goal.iterator-loop-k).is_finite l.k-iterator ×
-    (l.out.items ++ kinds_from l.numbers l.known (into_iter_items l.k-iterator) ≡ kinds_from l.numbers l.known l.fn.kinds)
+    (l.out.items ++ kinds_from l.numbers l.known (into_iter_items l.k-iterator)
+    ≡ kinds_from l.numbers l.known l.fn.kinds)

@@ -8,4 +8,6 @@ abbrev pub invariant-loop-form : goal.invariant-loop-form
 invariant-loop-form l =
     (goal.iterator-loop-form).can_next l.form-iterator ×
     (goal.iterator-loop-form).is_finite l.form-iterator ×
-    (map checked.statement_of l.out.items ++ numbered l.n l.at (map checked.statement_form_of (into_iter_items l.form-iterator)) ≡ numbered l.fn.n l.at (map checked.statement_form_of l.fn.forms))
+    (map checked.statement_of l.out.items ++ numbered l.n l.at
+    (map checked.statement_form_of (into_iter_items l.form-iterator))
+    ≡ numbered l.fn.n l.at (map checked.statement_form_of l.fn.forms))

@@ -11,4 +11,6 @@ returns-in_ok-push-in-Some c =
     let all : c.args.variables ≡ c.pop.new.self.items ++ c.in-Some.last ∷ [] = search rules in
     let same : c.args.variables ≡ c.of-else-is_empty.result = search rules in
     let some : c.pop.new.self.items ≢ [] = search rules in
-    ap Ok (each_received c.args.n c.args.at c.args.channel c.args.variables c.pop.new.self.items c.in-Some.last all some ∙ ap (λ (xs : List Var). checked.statement_form_of (form.ReceiveEach c.args.at c.args.n c.args.channel xs)) same)
+    ap Ok (each_received c.args.n c.args.at c.args.channel c.args.variables c.pop.new.self.items c.in-Some.last all some
+    ∙ ap (λ (xs : List Var). checked.statement_form_of (form.ReceiveEach c.args.at c.args.n c.args.channel xs))
+    same)

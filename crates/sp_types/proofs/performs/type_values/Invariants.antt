@@ -10,5 +10,8 @@ abbrev pub invariant-loop-x : goal.invariant-loop-x
 invariant-loop-x l =
     (goal.iterator-loop-x).can_next l.x-iterator ×
     (goal.iterator-loop-x).is_finite l.x-iterator ×
-    (map checked.expression_of l.out.items ++ checked_arguments l.t (arguments (map argument_of (into_iter_items l.x-iterator))) ≡ checked_arguments l.t (arguments (map argument_of (into_iter_items l.fn.xs)))) ×
-    (each_first l.t (message_first l.t l.kind) (arguments (map argument_of (into_iter_items l.x-iterator))) l.first ≡ each_first l.t (message_first l.t l.kind) (arguments (map argument_of (into_iter_items l.fn.xs))) l.fn.first)
+    (map checked.expression_of l.out.items ++ checked_arguments l.t
+    (arguments (map argument_of (into_iter_items l.x-iterator)))
+    ≡ checked_arguments l.t (arguments (map argument_of (into_iter_items l.fn.xs)))) ×
+    (each_first l.t (message_first l.t l.kind) (arguments (map argument_of (into_iter_items l.x-iterator))) l.first
+    ≡ each_first l.t (message_first l.t l.kind) (arguments (map argument_of (into_iter_items l.fn.xs))) l.fn.first)

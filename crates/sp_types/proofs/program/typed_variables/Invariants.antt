@@ -7,4 +7,5 @@ abbrev pub invariant-loop-x : goal.invariant-loop-x
 invariant-loop-x l =
     (goal.iterator-loop-x).can_next l.x-iterator ×
     (goal.iterator-loop-x).is_finite l.x-iterator ×
-    (l.out.items ++ checked_variables (drop l.i l.kinds) (into_iter_items l.x-iterator) ≡ checked_variables l.kinds l.fn.variables)
+    (l.out.items ++ checked_variables (drop l.i l.kinds) (into_iter_items l.x-iterator)
+    ≡ checked_variables l.kinds l.fn.variables)

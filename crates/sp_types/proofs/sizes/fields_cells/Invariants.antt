@@ -7,4 +7,5 @@ use Rattle.sp_types.proofs.sizes.fields_cells.Given as goal
 abbrev pub invariant-loop-f : goal.invariant-loop-f
 invariant-loop-f l =
     (l.cells ≤ 1048577) ×
-    (capped (l.cells + sum (map (λ (f : List ℕ × ℕ). first_or 0 (slice_get l.known f.1)) (drop l.f-index l.fields))) ≡ capped (sum (map (λ (f : List ℕ × ℕ). first_or 0 (slice_get l.known f.1)) l.fields)))
+    (capped (l.cells + sum (map (λ (f : List ℕ × ℕ). first_or 0 (slice_get l.known f.1)) (drop l.f-index l.fields)))
+    ≡ capped (sum (map (λ (f : List ℕ × ℕ). first_or 0 (slice_get l.known f.1)) l.fields)))

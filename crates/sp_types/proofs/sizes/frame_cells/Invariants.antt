@@ -6,4 +6,5 @@ use Rattle.sp_types.proofs.sizes.frame_cells.Given as goal
 abbrev pub invariant-loop-x : goal.invariant-loop-x
 invariant-loop-x l =
     (l.cells ≤ 1048577) ×
-    (capped (l.cells + frame_cells l.numbers l.sizes l.block (drop l.x-index l.variables)) ≡ capped (frame_cells l.numbers l.sizes l.block l.variables))
+    (capped (l.cells + frame_cells l.numbers l.sizes l.block (drop l.x-index l.variables))
+    ≡ capped (frame_cells l.numbers l.sizes l.block l.variables))

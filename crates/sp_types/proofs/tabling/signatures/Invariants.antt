@@ -4,4 +4,5 @@ use Rattle.sp_types.specs.Tables.{signatures}
 use Rattle.sp_types.proofs.tabling.signatures.Given as goal
 
 abbrev pub invariant-loop-b : goal.invariant-loop-b
-invariant-loop-b l = l.out.items ++ signatures (map block_of (drop l.b-index l.blocks)) ≡ signatures (map block_of l.blocks)
+invariant-loop-b l = l.out.items ++ signatures (map block_of (drop l.b-index l.blocks))
+    ≡ signatures (map block_of l.blocks)

@@ -9,31 +9,46 @@ use Rattle.sp_varsets.proofs.bodies.+declare.Goals as goal
 pub returns : goal.returns
 returns t c =
     let g : slice_get c.args.checked.now.blocks c.args.block ≡ Some c.in-Some.k.now = search rules in
-    let at = get_of_map bare_block (map block_of c.args.checked.now.blocks) c.args.block (block_of c.in-Some.k.now) (get_of_map block_of c.args.checked.now.blocks c.args.block c.in-Some.k.now g) in
+    let at = get_of_map bare_block (map block_of c.args.checked.now.blocks) c.args.block (block_of c.in-Some.k.now)
+    (get_of_map block_of c.args.checked.now.blocks c.args.block c.in-Some.k.now g) in
     let up : c.in-Some.k.now.parent ≡ Some c.in-Some-parent.q = search rules in
-    let l : length c.args.rows.now ≡ length (map bare_block (map block_of c.args.checked.now.blocks)) = c.requires.rows ∙ (sym (length_of_map block_of c.args.checked.now.blocks) ∙ sym (length_of_map bare_block (map block_of c.args.checked.now.blocks))) in
-    declares_more (bare (program_of c.args.checked.now)) c.args.rows.now c.put_into.new.rows c.declare.new.rows c.args.variable c.args.block c.in-Some-parent.q (bare_block (block_of c.in-Some.k.now)) l c.in_ok-put_into.ensures.rows at up
-    (in_put c.args.rows.now c.put_into.new.rows c.args.block c.args.variable c.in_ok-put_into.ensures.put) c.in_ok-declare.ensures
+    let l : length c.args.rows.now ≡ length (map bare_block (map block_of c.args.checked.now.blocks)) = c.requires.rows
+    ∙ (sym (length_of_map block_of c.args.checked.now.blocks)
+    ∙ sym (length_of_map bare_block (map block_of c.args.checked.now.blocks))) in
+    declares_more (bare (program_of c.args.checked.now)) c.args.rows.now c.put_into.new.rows c.declare.new.rows
+    c.args.variable c.args.block c.in-Some-parent.q (bare_block (block_of c.in-Some.k.now)) l
+    c.in_ok-put_into.ensures.rows at up
+    (in_put c.args.rows.now c.put_into.new.rows c.args.block c.args.variable c.in_ok-put_into.ensures.put)
+    c.in_ok-declare.ensures
 
 pub returns-in-None : goal.returns-in-None
 returns-in-None t c =
     let g : slice_get c.args.checked.now.blocks c.args.block ≡ None = search rules in
-    let l : length c.args.rows.now ≡ length (map bare_block (map block_of c.args.checked.now.blocks)) = c.requires.rows ∙ (sym (length_of_map block_of c.args.checked.now.blocks) ∙ sym (length_of_map bare_block (map block_of c.args.checked.now.blocks))) in
-    declares_none (bare (program_of c.args.checked.now)) c.args.rows.now c.args.variable c.args.block l (none_map bare_block (map block_of c.args.checked.now.blocks) c.args.block (none_map block_of c.args.checked.now.blocks c.args.block g))
+    let l : length c.args.rows.now ≡ length (map bare_block (map block_of c.args.checked.now.blocks)) = c.requires.rows
+    ∙ (sym (length_of_map block_of c.args.checked.now.blocks)
+    ∙ sym (length_of_map bare_block (map block_of c.args.checked.now.blocks))) in
+    declares_none (bare (program_of c.args.checked.now)) c.args.rows.now c.args.variable c.args.block l
+    (none_map bare_block (map block_of c.args.checked.now.blocks) c.args.block
+    (none_map block_of c.args.checked.now.blocks c.args.block g))
 
 pub returns-in-None-parent : goal.returns-in-None-parent
 returns-in-None-parent t c =
     let g : slice_get c.args.checked.now.blocks c.args.block ≡ Some c.in-Some.k.now = search rules in
-    let at = get_of_map bare_block (map block_of c.args.checked.now.blocks) c.args.block (block_of c.in-Some.k.now) (get_of_map block_of c.args.checked.now.blocks c.args.block c.in-Some.k.now g) in
+    let at = get_of_map bare_block (map block_of c.args.checked.now.blocks) c.args.block (block_of c.in-Some.k.now)
+    (get_of_map block_of c.args.checked.now.blocks c.args.block c.in-Some.k.now g) in
     let top : c.in-Some.k.now.parent ≡ None = search rules in
-    let l : length c.args.rows.now ≡ length (map bare_block (map block_of c.args.checked.now.blocks)) = c.requires.rows ∙ (sym (length_of_map block_of c.args.checked.now.blocks) ∙ sym (length_of_map bare_block (map block_of c.args.checked.now.blocks))) in
-    declares_top (bare (program_of c.args.checked.now)) c.args.rows.now c.put_into.new.rows c.args.variable c.args.block (bare_block (block_of c.in-Some.k.now)) l c.in_ok-put_into.ensures.rows at top
+    let l : length c.args.rows.now ≡ length (map bare_block (map block_of c.args.checked.now.blocks)) = c.requires.rows
+    ∙ (sym (length_of_map block_of c.args.checked.now.blocks)
+    ∙ sym (length_of_map bare_block (map block_of c.args.checked.now.blocks))) in
+    declares_top (bare (program_of c.args.checked.now)) c.args.rows.now c.put_into.new.rows c.args.variable c.args.block
+    (bare_block (block_of c.in-Some.k.now)) l c.in_ok-put_into.ensures.rows at top
     (in_put c.args.rows.now c.put_into.new.rows c.args.block c.args.variable c.in_ok-put_into.ensures.put)
 
 pub returns-then-q-block : goal.returns-then-q-block
 returns-then-q-block t c =
     let g : slice_get c.args.checked.now.blocks c.args.block ≡ Some c.in-Some.k.now = search rules in
     let up : c.in-Some.k.now.parent ≡ Some c.in-Some-parent.q = search rules in
-    let before = c.requires.parents c.args.block (block_of c.in-Some.k.now) c.in-Some-parent.q (get_of_map block_of c.args.checked.now.blocks c.args.block c.in-Some.k.now g) up in
+    let before = c.requires.parents c.args.block (block_of c.in-Some.k.now) c.in-Some-parent.q
+    (get_of_map block_of c.args.checked.now.blocks c.args.block c.in-Some.k.now g) up in
     let after = c.if-q-block.true in
     absurd (omega arith)

@@ -11,6 +11,11 @@ use Rattle.sp_varsets.proofs.bodies.declared.Goals as goal
 pub variables-preserved : goal.variables-preserved
 variables-preserved c =
     let inside = c.variables-test.true in
-    let at0 = slice_get_read c.items-variables.result.now (length c.items-variables.result.now) c.variables.x c.index-variables-x.result refl (omega arith) c.index-variables-x.is in
+    let at0 = slice_get_read c.items-variables.result.now (length c.items-variables.result.now) c.variables.x
+    c.index-variables-x.result refl (omega arith) c.index-variables-x.is in
     let at1 = rw c.items-variables.ensures at at0 in
-    declared_more (bare (program_of c.args.checked.now)) c.variables.rows c.declare.new.rows c.variables.x (variable_of c.index-variables-x.result) c.variables.invariant (get_of_map variable_of c.args.checked.now.variables c.variables.x c.index-variables-x.result at1) (subst (λ (z : Variable). Declares (bare (program_of c.args.checked.now)) c.variables.rows c.declare.new.rows c.variables.x z.block) (sym c.index-variables-x.is) c.in_ok-declare.ensures)
+    declared_more (bare (program_of c.args.checked.now)) c.variables.rows c.declare.new.rows c.variables.x
+    (variable_of c.index-variables-x.result) c.variables.invariant
+    (get_of_map variable_of c.args.checked.now.variables c.variables.x c.index-variables-x.result at1)
+    (subst (λ (z : Variable). Declares (bare (program_of c.args.checked.now)) c.variables.rows c.declare.new.rows
+    c.variables.x z.block) (sym c.index-variables-x.is) c.in_ok-declare.ensures)

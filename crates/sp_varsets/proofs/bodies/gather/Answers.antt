@@ -10,11 +10,16 @@ loop-block-preserved c =
     let e = c.in_ok-walk_in.ensures in
     let put = e.1 in
     let w = e.2.2 in (
-      bodies_more (map block_of c.args.blocks.now) c.loop-block.bodies c.walk_in.new.self e.0 (block_of c.block-item.result) c.loop-block.block-index c.loop-block.invariant.0
-          (block_at c.args.blocks.now c.loop-block.block-index c.block-item.result c.loop-block-test.true c.block-item.is)
+      bodies_more (map block_of c.args.blocks.now) c.loop-block.bodies c.walk_in.new.self e.0
+          (block_of c.block-item.result) c.loop-block.block-index c.loop-block.invariant.0
+          (block_at c.args.blocks.now c.loop-block.block-index c.block-item.result c.loop-block-test.true
+          c.block-item.is)
           put.aims put.sees put.runs put.stops (from_empty e.2.1 w.adds),
-      λ v f. c.loop-block.invariant.1 v (rw (blocks_on c.args.blocks.now c.loop-block.block-index c.block-item.result c.loop-block-test.true c.block-item.is) (writes_then w.writes f)),
+      λ v f. c.loop-block.invariant.1 v (rw (blocks_on c.args.blocks.now c.loop-block.block-index c.block-item.result
+          c.loop-block-test.true c.block-item.is) (writes_then w.writes f)),
     )
 
 pub returns-clause-walk : goal.returns-clause-walk
-returns-clause-walk c = c.loop-block.invariant.1 c.loop-block.walk (rw (blocks_end c.args.blocks.now c.loop-block.block-index c.loop-block-test.false) (writes_none c.loop-block.walk (λ t. ⊥) (λ t h. h)))
+returns-clause-walk c = c.loop-block.invariant.1 c.loop-block.walk
+    (rw (blocks_end c.args.blocks.now c.loop-block.block-index c.loop-block-test.false)
+    (writes_none c.loop-block.walk (λ t. ⊥) (λ t h. h)))

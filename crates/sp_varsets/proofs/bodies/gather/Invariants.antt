@@ -8,4 +8,5 @@ use Rattle.sp_varsets.proofs.bodies.gather.Given as goal
 abbrev pub invariant-loop-block : goal.invariant-loop-block
 invariant-loop-block l =
     AreBodies (map block_of l.blocks) l.bodies l.block-index
-    × ((v : Walk) → Writes l.walk v (λ t. IsInBlocks (map block_of (drop l.block-index l.blocks)) t) → Writes l.fn.walk v (λ t. IsInBlocks (map block_of l.blocks) t))
+    × ((v : Walk) → Writes l.walk v (λ t. IsInBlocks (map block_of (drop l.block-index l.blocks)) t)
+    → Writes l.fn.walk v (λ t. IsInBlocks (map block_of l.blocks) t))

@@ -3,4 +3,5 @@ use Rattle.sp_varsets.specs.Paths.{member}
 use Rattle.sp_varsets.proofs.bodies.shown.Given as goal
 
 abbrev pub invariant-rows : goal.invariant-rows
-invariant-rows l = (length l.rows ≡ l.b) × ((c x : ℕ) → c < l.b → member l.rows c x ≡ member l.own c x && not (member l.hidden c x))
+invariant-rows l = (length l.rows ≡ l.b) × ((c x : ℕ) → c < l.b
+    → member l.rows c x ≡ member l.own c x && not (member l.hidden c x))

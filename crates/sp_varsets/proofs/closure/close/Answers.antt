@@ -3,10 +3,13 @@ use Rattle.sp_varsets.proofs.Paths.{closes, follows_then, gaps_le, gaps_lt, span
 use Rattle.sp_varsets.proofs.closure.close.Goals as goal
 
 pub returns-then-not-branch : goal.returns-then-not-branch
-returns-then-not-branch c = closes c.args.runs.now c.args.hidden.now c.args.rows.now c.hurry.new.rows c.sweep.new.rows c.in_ok-sweep.field-0 c.requires.runs (follows_then c.sweeps.invariant c.in_ok-hurry.ensures) c.in_ok-sweep.ensures c.if-not-branch.true
+returns-then-not-branch c = closes c.args.runs.now c.args.hidden.now c.args.rows.now c.hurry.new.rows c.sweep.new.rows
+    c.in_ok-sweep.field-0 c.requires.runs (follows_then c.sweeps.invariant c.in_ok-hurry.ensures) c.in_ok-sweep.ensures
+    c.if-not-branch.true
 
 pub sweeps-preserved : goal.sweeps-preserved
-sweeps-preserved c = let s = c.in_ok-sweep.ensures in follows_then c.sweeps.invariant (follows_then c.in_ok-hurry.ensures s.follows)
+sweeps-preserved c = let s = c.in_ok-sweep.ensures in
+    follows_then c.sweeps.invariant (follows_then c.in_ok-hurry.ensures s.follows)
 
 pub sweeps-smaller : goal.sweeps-smaller
 sweeps-smaller c =
@@ -17,5 +20,6 @@ sweeps-smaller c =
     let l = f.led m.0 m.1 m.2 in
     let low = leads_below c.args.runs.now c.args.hidden.now c.args.rows.now l.0 m.0 m.1 l.1 in
     let one = gaps_le c.sweeps.rows c.hurry.new.rows (span c.args.rows.now) h.rows h.kept in
-    let two = gaps_lt c.hurry.new.rows c.sweep.new.rows (span c.args.rows.now) m.0 m.1 s.follows.rows s.follows.kept low m.2 m.3 in
+    let two = gaps_lt c.hurry.new.rows c.sweep.new.rows (span c.args.rows.now) m.0 m.1 s.follows.rows s.follows.kept low
+    m.2 m.3 in
     omega arith

@@ -13,7 +13,8 @@ returns c =
     record {
       declared = (
         c.in_ok-hidden.hidden,
-        subst (λ n. AreDeclared (bare (program_of c.args.checked.now)) c.in_ok-hidden.hidden n) (sym (length_of_map variable_of c.args.checked.now.variables)) c.in_ok-hidden.ensures,
+        subst (λ n. AreDeclared (bare (program_of c.args.checked.now)) c.in_ok-hidden.hidden n)
+            (sym (length_of_map variable_of c.args.checked.now.variables)) c.in_ok-hidden.ensures,
         aims,
         sees,
       );

@@ -7,11 +7,13 @@ use Rattle.sp_varsets.proofs.totals.flags.Goals as goal
 pub rows-preserved : goal.rows-preserved
 rows-preserved c =
     let inside = c.rows-test.true in
-    let at = slice_get_read c.args.rows.now (length c.args.rows.now) c.rows.b c.index-rows-b.result refl (omega arith) c.index-rows-b.is in
+    let at = slice_get_read c.args.rows.now (length c.args.rows.now) c.rows.b c.index-rows-b.result refl (omega arith)
+    c.index-rows-b.is in
     let e = c.in_ok-push.ensures.ok ∙ ap (λ z. c.rows.flags ++ z ∷ []) c.contains.ensures in
     let l = c.rows.invariant.0 in (
       ap length e ∙ (length_more c.rows.flags _ ∙ ap (λ m. m + 1) l),
-      λ d low. ap (λ z. get_or z d false) e ∙ flag_more c.rows.flags c.args.rows.now c.rows.b c.index-rows-b.result l at c.rows.invariant.1 d low,
+      λ d low. ap (λ z. get_or z d false) e ∙ flag_more c.rows.flags c.args.rows.now c.rows.b c.index-rows-b.result l at
+          c.rows.invariant.1 d low,
     )
 
 pub returns : goal.returns

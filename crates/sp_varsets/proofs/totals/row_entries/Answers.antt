@@ -8,8 +8,14 @@ pub rows-preserved : goal.rows-preserved
 rows-preserved c =
     let inside = c.rows-test.true in
     let same = c.requires in
-    let et = slice_get_read c.args.targets.now (length c.args.targets.now) c.rows.b c.index-targets-b.result refl (omega arith) c.index-targets-b.is in
-    let es = slice_get_read c.args.seen.now (length c.args.seen.now) c.rows.b c.index-seen-b.result refl (omega arith) c.index-seen-b.is in
-    subst (λ z. AreRowEntries c.args.walk.now.pool c.put_row-in-rows.new.walk.pool c.args.targets.now c.args.seen.now z (c.rows.b + 1)) (sym c.in_ok-push.ensures.ok)
-    (row_entries_more c.args.walk.now.pool c.rows.walk.pool c.put_row.new.walk.pool c.put_row-in-rows.new.walk.pool c.args.targets.now c.args.seen.now c.rows.entries c.rows.b c.in_ok-aims.aims c.in_ok-sees.sees c.index-targets-b.result c.index-seen-b.result
-    c.rows.invariant et es c.in_ok-aims.ensures.pool c.in_ok-aims.ensures.set c.in_ok-sees.ensures.pool c.in_ok-sees.ensures.set)
+    let et = slice_get_read c.args.targets.now (length c.args.targets.now) c.rows.b c.index-targets-b.result refl
+    (omega arith) c.index-targets-b.is in
+    let es = slice_get_read c.args.seen.now (length c.args.seen.now) c.rows.b c.index-seen-b.result refl (omega arith)
+    c.index-seen-b.is in
+    subst (λ z. AreRowEntries c.args.walk.now.pool c.put_row-in-rows.new.walk.pool c.args.targets.now c.args.seen.now z
+    (c.rows.b + 1)) (sym c.in_ok-push.ensures.ok)
+    (row_entries_more c.args.walk.now.pool c.rows.walk.pool c.put_row.new.walk.pool c.put_row-in-rows.new.walk.pool
+    c.args.targets.now c.args.seen.now c.rows.entries c.rows.b c.in_ok-aims.aims c.in_ok-sees.sees
+    c.index-targets-b.result c.index-seen-b.result
+    c.rows.invariant et es c.in_ok-aims.ensures.pool c.in_ok-aims.ensures.set c.in_ok-sees.ensures.pool
+    c.in_ok-sees.ensures.set)

@@ -12,6 +12,8 @@ loop-preserved c =
     let p = c.loop.store in
     let len = length-take-le (length p.own - 1) p.own (omega arith) in
     record {
-      frames = subst (λ (x : Plain). length x.own + (c.loop.counter + 1) ≡ length c.args.store.now.own) (sym c.pop_frame.ensures) (omega (arith, len, c.loop.invariant.frames, c.loop-test.true, c.requires.frames));
-      here = subst (λ (x : Plain). (q : Spot) → map.get x.map q ≢ Some Away) (sym c.pop_frame.ensures) (none_without p.map (newest p.own) c.loop.invariant.here);
+      frames = subst (λ (x : Plain). length x.own + (c.loop.counter + 1) ≡ length c.args.store.now.own)
+          (sym c.pop_frame.ensures) (omega (arith, len, c.loop.invariant.frames, c.loop-test.true, c.requires.frames));
+      here = subst (λ (x : Plain). (q : Spot) → map.get x.map q ≢ Some Away) (sym c.pop_frame.ensures)
+          (none_without p.map (newest p.own) c.loop.invariant.here);
     }

@@ -15,7 +15,10 @@ loop-preserved c =
     let number = next_pushed p (1 ∷ []) in
     let len = length-append p.own (next_frame p ∷ []) in
     record {
-      number = subst (λ (x : Plain). next_frame x ≤ c.loop.counter + 1 + 1) (sym is) (omega (arith, number, c.loop.invariant.number));
-      frames = subst (λ (x : Plain). length x.own ≡ length c.args.store.now.own + (c.loop.counter + 1)) (sym is) (omega (arith, len, c.loop.invariant.frames));
-      here = subst (λ (x : Plain). (q : Spot) → map.get x.map q ≢ Some Away) (sym is) (none_pieces p.map (next_frame p) 0 (1 ∷ []) c.loop.invariant.here);
+      number = subst (λ (x : Plain). next_frame x ≤ c.loop.counter + 1 + 1) (sym is)
+          (omega (arith, number, c.loop.invariant.number));
+      frames = subst (λ (x : Plain). length x.own ≡ length c.args.store.now.own + (c.loop.counter + 1)) (sym is)
+          (omega (arith, len, c.loop.invariant.frames));
+      here = subst (λ (x : Plain). (q : Spot) → map.get x.map q ≢ Some Away) (sym is)
+          (none_pieces p.map (next_frame p) 0 (1 ∷ []) c.loop.invariant.here);
     }

@@ -5,4 +5,5 @@ use Rattle.sp_base.proofs.name.ProcNameDisplay.fmt.Given as goal
 
 abbrev pub invariant-loop-pair : goal.invariant-loop-pair
 invariant-loop-pair g l =
-    IsPlainFormatter l.initial.f → HasWritten g.W.Write.write_str_gives l.initial.f (pairs_text (take l.pair-index l.pair-items)) l.f
+    IsPlainFormatter l.initial.f → HasWritten g.W.Write.write_str_gives l.initial.f
+    (pairs_text (take l.pair-index l.pair-items)) l.f

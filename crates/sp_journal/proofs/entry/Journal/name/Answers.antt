@@ -11,13 +11,16 @@ use Rattle.sp_journal.proofs.NameLaws.{names_differ}
 use Rattle.sp_journal.proofs.entry.Journal.name.Goals as goal
 
 -- no other process has this name
-alone : (es : List Entry) → NameableFrom at_start es → (q : ℕ) → q < (births es).processes → (r : Result ProcName Memory)
+alone : (es : List Entry) → NameableFrom at_start es → (q : ℕ) → q < (births es).processes
+    → (r : Result ProcName Memory)
     → IfOk r (λ name. name ≡ proc_name ((births es).name q))
-    → IfOk r (λ name. (other : ℕ) → other < (births es).processes → proc_name ((births es).name other) ≡ name → other ≡ q)
+    → IfOk r (λ name. (other : ℕ) → other < (births es).processes → proc_name ((births es).name other) ≡ name
+    → other ≡ q)
 alone es n q l (Ok name) e = λ other o f. (lawful es n).one_name other q o l (names_differ _ _ (f ∙ e))
 alone es n q l (Err m) e = tt
 
 pub returns-clause-alone : goal.returns-clause-alone
 returns-clause-alone c =
     alone c.args.self.now.entries c.requires.nameable c.args.process c.requires.there c.name.result
-    (subst (λ (j : Journal). IfOk c.name.result (λ name. name ≡ proc_name ((births j.entries).name c.args.process))) c.in_ok-ledger.ensures.1 c.name.ensures)
+    (subst (λ (j : Journal). IfOk c.name.result (λ name. name ≡ proc_name ((births j.entries).name c.args.process)))
+    c.in_ok-ledger.ensures.1 c.name.ensures)

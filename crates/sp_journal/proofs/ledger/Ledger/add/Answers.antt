@@ -8,7 +8,9 @@ pub returns-in_ok-push-in-Send : goal.returns-in_ok-push-in-Send
 returns-in_ok-push-in-Send c =
     let l = c.args.self.now in
     record {
-      ledger = other_ledger l _ c.args.entry.process c.requires.ledger c.args.entry.event c.requires.next (quiet (births l.journal.entries) c.args.entry.process c.args.entry.event c.in-Send.is) c.in_ok-push-in-Send.ensures.ok refl refl refl (λ q. refl);
+      ledger = other_ledger l _ c.args.entry.process c.requires.ledger c.args.entry.event c.requires.next
+          (quiet (births l.journal.entries) c.args.entry.process c.args.entry.event c.in-Send.is)
+          c.in_ok-push-in-Send.ensures.ok refl refl refl (λ q. refl);
       added = c.in_ok-push-in-Send.ensures.ok;
       kept = tt;
     }

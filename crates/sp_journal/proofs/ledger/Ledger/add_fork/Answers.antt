@@ -11,6 +11,10 @@ returns-clause-ledger c =
     fork_ledger l _ c.args.process c.requires.ledger c.args.count c.requires.next
     c.in_ok-push.ensures.ok
     (ap (λ (x : ℕ). l.processes + x) c.from.ensures)
-    (if_not_err _ _ c.is_err.ensures.value c.if-is_err.false c.push-2.ensures.ok ∙ ap (λ (x : ℕ). l.families ++ record { first = l.processes; parent = c.args.process; fork = x } ∷ []) c.made-made.ensures.forks)
+    (if_not_err _ _ c.is_err.ensures.value c.if-is_err.false c.push-2.ensures.ok
+    ∙ ap (λ (x : ℕ). l.families ++ record { first = l.processes; parent = c.args.process; fork = x } ∷ [])
+    c.made-made.ensures.forks)
     refl
-    (λ q. (if_not_err _ _ c.is_err-2.ensures.value c.if-is_err-2.false c.insert.ensures.updates).0 q ∙ ap (λ (v : Made). cond (nat_eq c.args.process q) (Some v) (hash.get nat_eq l.made q)) (λ i. record { forks = c.made-made.ensures.forks i + 1; opens = c.made-made.ensures.opens i }))
+    (λ q. (if_not_err _ _ c.is_err-2.ensures.value c.if-is_err-2.false c.insert.ensures.updates).0 q
+    ∙ ap (λ (v : Made). cond (nat_eq c.args.process q) (Some v) (hash.get nat_eq l.made q))
+    (λ i. record { forks = c.made-made.ensures.forks i + 1; opens = c.made-made.ensures.opens i }))

@@ -12,5 +12,8 @@ returns-clause-ledger c =
     c.in_ok-push.ensures.ok
     refl
     refl
-    (if_not_err _ _ c.is_err.ensures.value c.if-is_err.false c.push-2.ensures.ok ∙ ap (λ (x : ℕ). l.openings ++ record { owner = c.args.process; nth = x } ∷ []) c.made-made.ensures.opens)
-    (λ q. (if_not_err _ _ c.is_err-2.ensures.value c.if-is_err-2.false c.insert.ensures.updates).0 q ∙ ap (λ (v : Made). cond (nat_eq c.args.process q) (Some v) (hash.get nat_eq l.made q)) (λ i. record { forks = c.made-made.ensures.forks i; opens = c.made-made.ensures.opens i + 1 }))
+    (if_not_err _ _ c.is_err.ensures.value c.if-is_err.false c.push-2.ensures.ok
+    ∙ ap (λ (x : ℕ). l.openings ++ record { owner = c.args.process; nth = x } ∷ []) c.made-made.ensures.opens)
+    (λ q. (if_not_err _ _ c.is_err-2.ensures.value c.if-is_err-2.false c.insert.ensures.updates).0 q
+    ∙ ap (λ (v : Made). cond (nat_eq c.args.process q) (Some v) (hash.get nat_eq l.made q))
+    (λ i. record { forks = c.made-made.ensures.forks i; opens = c.made-made.ensures.opens i + 1 }))

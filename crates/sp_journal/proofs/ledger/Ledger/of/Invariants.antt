@@ -5,4 +5,5 @@ use Rattle.sp_journal.proofs.ledger.Ledger.of.Given as goal
 
 abbrev pub invariant-loop-entry : goal.invariant-loop-entry
 invariant-loop-entry l =
-    IsLedger l.ledger × (l.ledger.journal.entries ≡ take l.entry-index l.entry-items) × NameableFrom (births (take l.entry-index l.entry-items)) (drop l.entry-index l.entry-items)
+    IsLedger l.ledger × (l.ledger.journal.entries ≡ take l.entry-index l.entry-items)
+    × NameableFrom (births (take l.entry-index l.entry-items)) (drop l.entry-index l.entry-items)

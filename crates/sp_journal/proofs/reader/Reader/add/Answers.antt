@@ -11,7 +11,8 @@ returns-in-Send c =
     let e = c.args.entry in
     record {
       reader = on_ok c.add.result c.add.ensures.added
-          (λ added. other_reader r _ e.process c.requires.reader c.add.ensures.ledger e.event (quiet (known r) e.process e.event c.in-Send.is) added refl refl);
+          (λ added. other_reader r _ e.process c.requires.reader c.add.ensures.ledger e.event
+          (quiet (known r) e.process e.event c.in-Send.is) added refl refl);
       added = c.add.ensures.added;
       version = on_ok c.add.result c.add.ensures.added (λ _. refl);
     }

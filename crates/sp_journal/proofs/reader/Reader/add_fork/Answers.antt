@@ -17,8 +17,11 @@ returns-clause-reader c =
     let key : string_bytes c.in_ok-family.family ≡ family_text ((known r).name p) ((known r).forks p) =
     c.in_ok-family.ensures.ok
     ∙ (λ i. name_text (c.in_ok-name.ensures i) ++ 47 ∷ decimal (c.made-forks.ensures.forks i)) in
-    let found : (cs : List ℕ) → get_by_text c.insert.new.self cs ≡ cond (bytes_eq (family_text ((known r).name p) ((known r).forks p)) cs) (Some (known r).processes) (get_by_text r.families cs) =
-    λ cs. hash_map_updates_text (string_bytes c.in_ok-family.family) r.families c.insert.new.self _ c.in_ok-insert.ensures.updates cs
+    let found : (cs : List ℕ) → get_by_text c.insert.new.self cs
+    ≡ cond (bytes_eq (family_text ((known r).name p) ((known r).forks p)) cs) (Some (known r).processes)
+    (get_by_text r.families cs) =
+    λ cs. hash_map_updates_text (string_bytes c.in_ok-family.family) r.families c.insert.new.self _
+    c.in_ok-insert.ensures.updates cs
     ∙ (λ i. cond (bytes_eq (key i) cs) (Some (c.processes-first.ensures.value i)) (get_by_text r.families cs)) in
     on_ok c.add.result c.add.ensures.added
     (λ added. fork_reader r _ p c.requires.reader c.add.ensures.ledger c.args.count c.requires.next added found refl)

@@ -18,9 +18,12 @@ returns-clause-reader c =
     let p = c.args.process in
     let this : Channel = record { owner = (known r).name p; nth = (known r).opens p } in
     let key : string_bytes c.in_ok-channel.channel ≡ channel_text (chan_name this) =
-    c.in_ok-channel.ensures.ok ∙ (λ i. name_text (c.in_ok-name.ensures i) ++ 35 ∷ decimal (c.made-opens.ensures.opens i)) ∙ sym (channel_is this) in
-    let found : (cs : List ℕ) → get_by_text c.insert.new.self cs ≡ cond (bytes_eq (channel_text (chan_name this)) cs) (Some (known r).channels) (get_by_text r.channels cs) =
-    λ cs. hash_map_updates_text (string_bytes c.in_ok-channel.channel) r.channels c.insert.new.self _ c.in_ok-insert.ensures.updates cs
+    c.in_ok-channel.ensures.ok ∙ (λ i. name_text (c.in_ok-name.ensures i)
+    ++ 35 ∷ decimal (c.made-opens.ensures.opens i)) ∙ sym (channel_is this) in
+    let found : (cs : List ℕ) → get_by_text c.insert.new.self cs
+    ≡ cond (bytes_eq (channel_text (chan_name this)) cs) (Some (known r).channels) (get_by_text r.channels cs) =
+    λ cs. hash_map_updates_text (string_bytes c.in_ok-channel.channel) r.channels c.insert.new.self _
+    c.in_ok-insert.ensures.updates cs
     ∙ (λ i. cond (bytes_eq (key i) cs) (Some (c.channels-number.ensures.value i)) (get_by_text r.channels cs)) in
     on_ok c.add.result c.add.ensures.added
     (λ added. open_reader r _ p c.requires.reader c.add.ensures.ledger c.requires.next added refl found)

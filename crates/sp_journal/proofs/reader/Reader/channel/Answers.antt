@@ -12,5 +12,7 @@ pub returns : goal.returns
 returns c = λ n l e.
     let r = c.args.self.now in
     let text : List ℕ = channel_text (chan_name (channel (known r) n)) in
-    let same : c.text_of.result.now ≡ c.args.name.now = c.text_of.ensures (subst IsAscii (sym e) (ascii_within 35 57 text (omega arith) (channel_small r c.requires n l))) in
+    let same : c.text_of.result.now ≡ c.args.name.now =
+    c.text_of.ensures (subst IsAscii (sym e)
+    (ascii_within 35 57 text (omega arith) (channel_small r c.requires n l))) in
     c.copied.ensures ∙ c.get.ensures.value ∙ ap (get_by_text r.channels) (same ∙ e) ∙ c.requires.channels n l

@@ -17,12 +17,15 @@ use Rattle.sp_journal.proofs.reader.Reader.event.Goals as goal
 -- what `told` ensures
 module _ (s : Births) (lawful : Lawful s) (word of : List ℕ) (o : Option Event)
     (fork : (n : ℕ) → n < 2 ^ 32 → word ≡ codes "fork" → of ≡ decimal n → o ≡ Some (event.Fork n))
-    (send : (c : ℕ) → c < s.channels → word ≡ codes "send" → of ≡ channel_text (chan_name (channel s c)) → o ≡ Some (event.Send c))
-    (receive : (c : ℕ) → c < s.channels → word ≡ codes "receive" → of ≡ channel_text (chan_name (channel s c)) → o ≡ Some (event.Receive c))
+    (send : (c : ℕ) → c < s.channels → word ≡ codes "send" → of ≡ channel_text (chan_name (channel s c))
+    → o ≡ Some (event.Send c))
+    (receive : (c : ℕ) → c < s.channels → word ≡ codes "receive" → of ≡ channel_text (chan_name (channel s c))
+    → o ≡ Some (event.Receive c))
     (fault : (f : Fault) → word ≡ codes "fault" → of ≡ fault_name f → o ≡ Some (event.Fault f))
   where
     tells : (p : ℕ) (e : Event) → GivesNumbers s p e → Told s e (Some (word, of)) → o ≡ Some e
-    tells p (event.Fork n) g h = fork n (let a = g.0 in let b = lawful.some in omega arith) (parts_first _ _ _ _ h) (parts_second _ _ _ _ h)
+    tells p (event.Fork n) g h = fork n (let a = g.0 in let b = lawful.some in omega arith) (parts_first _ _ _ _ h)
+        (parts_second _ _ _ _ h)
     tells p event.Open g h = absurd (none-some (word, of) (sym h))
     tells p (event.Send c) g h = send c g (parts_first _ _ _ _ h) (parts_second _ _ _ _ h)
     tells p (event.Receive c) g h = receive c g (parts_first _ _ _ _ h) (parts_second _ _ _ _ h)
@@ -34,5 +37,6 @@ module _ (s : Births) (lawful : Lawful s) (word of : List ℕ) (o : Option Event
 pub returns-in-Some : goal.returns-in-Some
 returns-in-Some c = λ p e g h.
     let s = known c.args.self.now in
-    tells s (laws c.args.self.now c.requires) c.in-Some.word.now c.in-Some.of.now c.told.result c.told.ensures.fork c.told.ensures.send c.told.ensures.receive c.told.ensures.fault p e g
+    tells s (laws c.args.self.now c.requires) c.in-Some.word.now c.in-Some.of.now c.told.result c.told.ensures.fork
+    c.told.ensures.send c.told.ensures.receive c.told.ensures.fault p e g
     (subst (Told s e) (sym (c.in-Some.ensures ∙ ap (first_split 32) h)) (told s e))

@@ -10,5 +10,7 @@ asked_test a b l = grind (arith, nat_tests)
 
 pub returns : goal.returns
 returns c q asked =
-    ap (λ es. count_in es q) (filter_same_pairs _ (λ e. nat_lt c.args.now (number_at c.args.until.now e.0)) _ (λ k v b w f t. search rules) _ _ c.retain.ensures.filtered)
-    ∙ kept_count (λ e. nat_lt c.args.now (number_at c.args.until.now e.0)) q (λ v. asked_test c.args.now (number_at c.args.until.now q) asked) c.args.self.now.counts.entries
+    ap (λ es. count_in es q) (filter_same_pairs _ (λ e. nat_lt c.args.now (number_at c.args.until.now e.0)) _
+    (λ k v b w f t. search rules) _ _ c.retain.ensures.filtered)
+    ∙ kept_count (λ e. nat_lt c.args.now (number_at c.args.until.now e.0)) q
+    (λ v. asked_test c.args.now (number_at c.args.until.now q) asked) c.args.self.now.counts.entries

@@ -19,7 +19,8 @@ loop-process-init c =
 
 pub loop-process-preserved : goal.loop-process-preserved
 loop-process-preserved c =
-    let s : c.loop-process.process-iterator ≡ (c.in-Some.process.now, c.in-Some.count.now) ∷ c.next.new.self = c.in-Some.ensures.steps in
+    let s : c.loop-process.process-iterator ≡ (c.in-Some.process.now, c.in-Some.count.now) ∷ c.next.new.self =
+    c.in-Some.ensures.steps in
     let h = c.loop-process.invariant in
     let single = subst Single s h.1 in (
       λ q. taken (count_of c.loop-process.self) (count_of c.raise.new.self) c.in-Some.process.now c.in-Some.count.now

@@ -10,39 +10,56 @@ use Rattle.sp_kernel.specs.declared.kernel.Kernel.{Kernel}
 use Rattle.sp_kernel.specs.Kernels.{parent_in, Gave, IsKernel, back}
 use Rattle.sp_kernel.specs.Fits.{Fits}
 use Rattle.sp_kernel.proofs.Giving.{there}
-use Rattle.sp_kernel.proofs.Joining.{IsChild, is_child, child_joins, child_apart, child_there, gave_end, gave_root, no_birth}
+use Rattle.sp_kernel.proofs.Joining.{IsChild, is_child, child_joins, child_apart, child_there, gave_end, gave_root}
+use Rattle.sp_kernel.proofs.Joining.{no_birth}
 use Rattle.sp_kernel.proofs.kernel.Kernel.end_of.Goals as goal
 
 abbrev at_end : Proc → Handed
 at_end p = record { proc = p; stop = stop.End }
 
-child : (x : Kernel) (k : IsKernel x) (w : ℕ) (p : Proc) → Fits x w (at_end p) → (n z : ℕ) (o : _) → n ≡ p.number → o ≡ parent_in (Rattle.std.specs.Prelude.slice_get x.parents n) → o ≡ Some z → IsChild x p.number z
-child x k w p fits n z o e f g = is_child x k w (at_end p) fits z (ap (λ i. parent_in (Rattle.std.specs.Prelude.slice_get x.parents i)) (sym e) ∙ sym f ∙ g)
+child : (x : Kernel) (k : IsKernel x) (w : ℕ) (p : Proc) → Fits x w (at_end p) → (n z : ℕ) (o : _) → n ≡ p.number
+    → o ≡ parent_in (Rattle.std.specs.Prelude.slice_get x.parents n) → o ≡ Some z → IsChild x p.number z
+child x k w p fits n z o e f g = is_child x k w (at_end p) fits z
+    (ap (λ i. parent_in (Rattle.std.specs.Prelude.slice_get x.parents i)) (sym e) ∙ sym f ∙ g)
 
 pub end_child-requires-clause-there : goal.end_child-requires-clause-there
 end_child-requires-clause-there c = (
   there c.args.self.now c.requires.whole c.args.proc.number c.args._worker c.requires.fits.out,
-  child_there c.args.self.now c.requires.whole c.args._worker (at_end c.args.proc) refl c.requires.quiet c.requires.fits c.in-Some.parent (child c.args.self.now c.requires.whole c.args._worker c.args.proc c.requires.fits c.number.result c.in-Some.parent c.parent.result c.number.ensures c.parent.ensures c.in-Some.is),
+  child_there c.args.self.now c.requires.whole c.args._worker (at_end c.args.proc) refl c.requires.quiet c.requires.fits
+      c.in-Some.parent (child c.args.self.now c.requires.whole c.args._worker c.args.proc c.requires.fits
+      c.number.result c.in-Some.parent c.parent.result c.number.ensures c.parent.ensures c.in-Some.is),
 )
 
 pub end_child-requires-clause-apart : goal.end_child-requires-clause-apart
 end_child-requires-clause-apart c =
-    child_apart c.args.self.now c.requires.whole c.args._worker (at_end c.args.proc) refl c.requires.quiet c.requires.fits c.in-Some.parent (child c.args.self.now c.requires.whole c.args._worker c.args.proc c.requires.fits c.number.result c.in-Some.parent c.parent.result c.number.ensures c.parent.ensures c.in-Some.is)
+    child_apart c.args.self.now c.requires.whole c.args._worker (at_end c.args.proc) refl c.requires.quiet
+    c.requires.fits c.in-Some.parent (child c.args.self.now c.requires.whole c.args._worker c.args.proc
+    c.requires.fits c.number.result c.in-Some.parent c.parent.result c.number.ensures c.parent.ensures c.in-Some.is)
 
 pub end_child-requires-clause-joiner : goal.end_child-requires-clause-joiner
 end_child-requires-clause-joiner c =
-    child_joins c.args.self.now c.requires.whole c.args._worker (at_end c.args.proc) refl c.requires.quiet c.requires.fits c.in-Some.parent (child c.args.self.now c.requires.whole c.args._worker c.args.proc c.requires.fits c.number.result c.in-Some.parent c.parent.result c.number.ensures c.parent.ensures c.in-Some.is)
+    child_joins c.args.self.now c.requires.whole c.args._worker (at_end c.args.proc) refl c.requires.quiet
+    c.requires.fits c.in-Some.parent (child c.args.self.now c.requires.whole c.args._worker c.args.proc
+    c.requires.fits c.number.result c.in-Some.parent c.parent.result c.number.ensures c.parent.ensures c.in-Some.is)
 
 pub returns-in-Ok-clause-ok : goal.returns-in-Ok-clause-ok
 returns-in-Ok-clause-ok c =
     let x : Kernel = c.args.self.now in
     let done = c.in-Ok.ensures.ok in
-    let none : (births x.journal.entries).birth c.args.proc.number ≡ None = no_birth _ (sym (c.requires.whole.parents.each c.args.proc.number) ∙ ap (λ i. parent_in (Rattle.std.specs.Prelude.slice_get x.parents i)) (sym c.number.ensures) ∙ sym c.parent.ensures ∙ c.in-None.is) in
-    subst (Gave x c.args.proc.number (at_end c.args.proc)) (sym done.2) (subst (λ n. Gave x c.args.proc.number (at_end c.args.proc) (back n event.End (slot.Here done.0 st.Over) x)) done.1.1 (gave_root x c.requires.whole c.args.proc.number c.args._worker c.requires.fits.out (at_end c.args.proc) refl c.requires.quiet (refl, c.requires.fits.input) done.0 done.1 none))
+    let none : (births x.journal.entries).birth c.args.proc.number ≡ None =
+    no_birth _ (sym (c.requires.whole.parents.each c.args.proc.number)
+    ∙ ap (λ i. parent_in (Rattle.std.specs.Prelude.slice_get x.parents i)) (sym c.number.ensures)
+    ∙ sym c.parent.ensures ∙ c.in-None.is) in
+    subst (Gave x c.args.proc.number (at_end c.args.proc)) (sym done.2)
+    (subst (λ n. Gave x c.args.proc.number (at_end c.args.proc) (back n event.End (slot.Here done.0 st.Over) x))
+    done.1.1 (gave_root x c.requires.whole c.args.proc.number c.args._worker c.requires.fits.out
+    (at_end c.args.proc) refl c.requires.quiet (refl, c.requires.fits.input) done.0 done.1 none))
 
 pub returns-in-Ok-end_child-clause-ok : goal.returns-in-Ok-end_child-clause-ok
 returns-in-Ok-end_child-clause-ok c =
     let x : Kernel = c.args.self.now in
     let done = c.in-Ok-end_child.ensures.ok in
     subst (Gave x c.args.proc.number (at_end c.args.proc)) (sym done.2)
-    (gave_end x c.requires.whole c.args._worker (at_end c.args.proc) refl c.requires.quiet c.requires.fits c.in-Some.parent (child x c.requires.whole c.args._worker c.args.proc c.requires.fits c.number.result c.in-Some.parent c.parent.result c.number.ensures c.parent.ensures c.in-Some.is) done.0 done.1)
+    (gave_end x c.requires.whole c.args._worker (at_end c.args.proc) refl c.requires.quiet c.requires.fits
+    c.in-Some.parent (child x c.requires.whole c.args._worker c.args.proc c.requires.fits c.number.result
+    c.in-Some.parent c.parent.result c.number.ensures c.parent.ensures c.in-Some.is) done.0 done.1)

@@ -8,5 +8,8 @@ pub idle-requires : goal.idle-requires
 idle-requires c = record { nothing = none_after c.args.self.now _ c.abandon.new.self c.abandon.ensures }
 
 pub returns : goal.returns
-returns c = subst (λ (n : Option ℕ). Notes c.args.self.now c.args.worker (ask.Abandon c.args.proc) c.abandon.new.self c.idle.result (record { worker = c.args.worker; given = n; event = None; got = None })) (sym c.number_in-given.ensures)
-    (noted_abandon c.args.self.now c.args.worker c.args.proc c.abandon.new.self c.idle.result c.requires.fits c.abandon.ensures c.idle.ensures)
+returns c = subst (λ (n : Option ℕ). Notes c.args.self.now c.args.worker (ask.Abandon c.args.proc) c.abandon.new.self
+    c.idle.result (record { worker = c.args.worker; given = n; event = None; got = None }))
+    (sym c.number_in-given.ensures)
+    (noted_abandon c.args.self.now c.args.worker c.args.proc c.abandon.new.self c.idle.result c.requires.fits
+    c.abandon.ensures c.idle.ensures)

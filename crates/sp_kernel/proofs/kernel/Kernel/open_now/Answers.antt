@@ -10,7 +10,8 @@ returns-in-Ok-clause-ok c =
     let e : c.note_ready.new.self.channels ≡ c.args.self.now.channels = search rules in (
       c.resume.new.self,
       (
-        ap config_of c.resume.ensures ∙ (λ i. config_of (resumed (answer.Opened ((c.in-Ok.ensures.number ∙ ap length e) i)) (c.enter.ensures.state i))),
+        ap config_of c.resume.ensures ∙ (λ i. config_of
+            (resumed (answer.Opened ((c.in-Ok.ensures.number ∙ ap length e) i)) (c.enter.ensures.state i))),
         ap (λ (p : Proc). p.number) c.resume.ensures ∙ ap (λ (p : Proc). p.number) c.enter.ensures.state,
         ap (λ (p : Proc). p.input.value) c.resume.ensures ∙ ap (λ (p : Proc). p.input.value) c.enter.ensures.state,
       ),

@@ -1,4 +1,5 @@
-use Rattle.std.proofs.Common.{rules, ◌≡◌, ◌≢◌, ℕ, ◌+◌, ◌<◌, ◌≤◌, ◌==◌, nat_lt, Bool, true, false, Option, Some, None, Result, Ok, Err, OnOk, length, slice_get, sym, ap, subst, refl, ◌∙◌, arith}
+use Rattle.std.proofs.Common.{rules, ◌≡◌, ◌≢◌, ℕ, ◌+◌, ◌<◌, ◌≤◌, ◌==◌, nat_lt, Bool, true, false, Option, Some, None}
+use Rattle.std.proofs.Common.{Result, Ok, Err, OnOk, length, slice_get, sym, ap, subst, refl, ◌∙◌, arith}
 use Rattle.sp_base.specs.declared.fault.Fault.{Fault}
 use Rattle.sp_base.specs.declared.fault.Fault.TheVariants as fault
 use Rattle.sp_journal.specs.declared.entry.Way.TheVariants as way
@@ -11,7 +12,8 @@ use Rattle.sp_kernel.specs.Kernels.{system_of, Gave}
 use Rattle.sp_kernel.specs.Procs.{config_of}
 use Rattle.sp_kernel.proofs.Giving.{there}
 use Rattle.sp_kernel.proofs.Failing.{failed, is_full, not_full}
-use Rattle.sp_kernel.proofs.Receiving.{full_fault, fault_free, fault_same, fault_other, sender_fits, gave_first, gave_met}
+use Rattle.sp_kernel.proofs.Receiving.{full_fault, fault_free, fault_same, fault_other, sender_fits, gave_first}
+use Rattle.sp_kernel.proofs.Receiving.{gave_met}
 use Rattle.sp_kernel.proofs.Sending.{table_has, waiter_there}
 use Rattle.sp_kernel.proofs.kernel.Kernel.receive.Goals as goal
 
@@ -21,15 +23,24 @@ receives p c k = record { proc = p; stop = stop.Receive c k }
 pub returns-then-self-from-clause-ok : goal.returns-then-self-from-clause-ok
 returns-then-self-from-clause-ok c =
     let x : Kernel = c.args.self.now in
-    failed c.fail.result x c.fail.new.self c.requires.whole c.args._worker (receives c.args.proc c.args.channel c.args.message) c.receiving.result fault.F15 c.requires.fits c.requires.quiet c.receiving.ensures
-    (full_fault x.limits (system_of x) c.args.channel c.args.message c.args.proc.target (config_of c.args.proc) (is_full x.limits.entries x.entries c.from.result c.from.ensures c.if-self-from.true)) c.fail.ensures.ok
+    failed c.fail.result x c.fail.new.self c.requires.whole c.args._worker
+    (receives c.args.proc c.args.channel c.args.message) c.receiving.result fault.F15 c.requires.fits
+    c.requires.quiet c.receiving.ensures
+    (full_fault x.limits (system_of x) c.args.channel c.args.message c.args.proc.target (config_of c.args.proc)
+    (is_full x.limits.entries x.entries c.from.result c.from.ensures c.if-self-from.true)) c.fail.ensures.ok
 
 pub returns-in-Receive-clause-ok : goal.returns-in-Receive-clause-ok
 returns-in-Receive-clause-ok c =
     let x : Kernel = c.args.self.now in
-    let here : slice_get x.channels c.args.channel ≡ Some (Some c.in-Some.first) = table_has x.channels c.args.channel None (Some c.in-Some.first) c.requires.fits.offered (sym c.pending.ensures ∙ c.in-Some.is) in
-    failed c.fail-in-Receive.result x c.fail-in-Receive.new.self c.requires.whole c.args._worker (receives c.args.proc c.args.channel c.args.message) c.receiving-in-Receive.result fault.F6 c.requires.fits c.requires.quiet c.receiving-in-Receive.ensures
-    (fault_same x c.requires.whole c.args.channel c.args.message c.args.proc.target (config_of c.args.proc) (not_full x.limits.entries x.entries c.from.result c.from.ensures c.if-self-from.false) c.in-Some.first here c.in-Receive.is) c.fail-in-Receive.ensures.ok
+    let here : slice_get x.channels c.args.channel ≡ Some (Some c.in-Some.first) =
+    table_has x.channels c.args.channel None (Some c.in-Some.first) c.requires.fits.offered
+    (sym c.pending.ensures ∙ c.in-Some.is) in
+    failed c.fail-in-Receive.result x c.fail-in-Receive.new.self c.requires.whole c.args._worker
+    (receives c.args.proc c.args.channel c.args.message) c.receiving-in-Receive.result fault.F6 c.requires.fits
+    c.requires.quiet c.receiving-in-Receive.ensures
+    (fault_same x c.requires.whole c.args.channel c.args.message c.args.proc.target (config_of c.args.proc)
+    (not_full x.limits.entries x.entries c.from.result c.from.ensures c.if-self-from.false) c.in-Some.first here
+    c.in-Receive.is) c.fail-in-Receive.ensures.ok
 
 other_message : (a b : ℕ) → a ≢ b → (a == b) ≡ false
 other_message a b n = grind (arith, n)
@@ -37,48 +48,81 @@ other_message a b n = grind (arith, n)
 pub returns-then-first-message-clause-ok : goal.returns-then-first-message-clause-ok
 returns-then-first-message-clause-ok c =
     let x : Kernel = c.args.self.now in
-    let here : slice_get x.channels c.args.channel ≡ Some (Some c.in-Some.first) = table_has x.channels c.args.channel None (Some c.in-Some.first) c.requires.fits.offered (sym c.pending.ensures ∙ c.in-Some.is) in
-    failed c.fail-then-first-message.result x c.fail-then-first-message.new.self c.requires.whole c.args._worker (receives c.args.proc c.args.channel c.args.message) c.receiving-then-first-message.result fault.F7 c.requires.fits c.requires.quiet c.receiving-then-first-message.ensures
-    (fault_other x c.requires.whole c.args.channel c.args.message c.args.proc.target (config_of c.args.proc) (not_full x.limits.entries x.entries c.from.result c.from.ensures c.if-self-from.false) c.in-Some.first here c.in-Send.is
-    ∙ ap (λ b. Rattle.std.proofs.Common.if◌then◌else◌ b None (Some fault.F7)) (other_message c.in-Some.first.message c.args.message c.if-first-message.true)) c.fail-then-first-message.ensures.ok
+    let here : slice_get x.channels c.args.channel ≡ Some (Some c.in-Some.first) =
+    table_has x.channels c.args.channel None (Some c.in-Some.first) c.requires.fits.offered
+    (sym c.pending.ensures ∙ c.in-Some.is) in
+    failed c.fail-then-first-message.result x c.fail-then-first-message.new.self c.requires.whole c.args._worker
+    (receives c.args.proc c.args.channel c.args.message) c.receiving-then-first-message.result fault.F7
+    c.requires.fits c.requires.quiet c.receiving-then-first-message.ensures
+    (fault_other x c.requires.whole c.args.channel c.args.message c.args.proc.target (config_of c.args.proc)
+    (not_full x.limits.entries x.entries c.from.result c.from.ensures c.if-self-from.false) c.in-Some.first here
+    c.in-Send.is
+    ∙ ap (λ b. Rattle.std.proofs.Common.if◌then◌else◌ b None (Some fault.F7))
+    (other_message c.in-Some.first.message c.args.message c.if-first-message.true))
+    c.fail-then-first-message.ensures.ok
 
 same_message : (a b : ℕ) → a ≡ b → (a == b) ≡ true
 same_message a b n = grind (arith, n)
 
-none_if : (b : Bool) → b ≡ true → ◌≡◌ {A = Option Fault} (Rattle.std.proofs.Common.if◌then◌else◌ b None (Some fault.F7)) None
+none_if : (b : Bool) → b ≡ true → ◌≡◌ {A = Option Fault} (Rattle.std.proofs.Common.if◌then◌else◌ b None (Some fault.F7))
+    None
 none_if true e = refl
 none_if false e = absurd (cc e)
 
 pub receive_second-requires-clause-there : goal.receive_second-requires-clause-there
 receive_second-requires-clause-there c =
     let x : Kernel = c.args.self.now in
-    let here : slice_get x.channels c.args.channel ≡ Some (Some c.in-Some.first) = table_has x.channels c.args.channel None (Some c.in-Some.first) c.requires.fits.offered (sym c.pending.ensures ∙ c.in-Some.is) in
-    (there x c.requires.whole c.args.proc.number c.args._worker c.requires.fits.out, waiter_there x c.requires.whole c.args.channel c.in-Some.first here)
+    let here : slice_get x.channels c.args.channel ≡ Some (Some c.in-Some.first) =
+    table_has x.channels c.args.channel None (Some c.in-Some.first) c.requires.fits.offered
+    (sym c.pending.ensures ∙ c.in-Some.is) in (
+      there x c.requires.whole c.args.proc.number c.args._worker c.requires.fits.out,
+      waiter_there x c.requires.whole c.args.channel c.in-Some.first here,
+    )
 
 pub receive_second-requires-clause-sender : goal.receive_second-requires-clause-sender
 receive_second-requires-clause-sender c =
     let x : Kernel = c.args.self.now in
-    let here : slice_get x.channels c.args.channel ≡ Some (Some c.in-Some.first) = table_has x.channels c.args.channel None (Some c.in-Some.first) c.requires.fits.offered (sym c.pending.ensures ∙ c.in-Some.is) in
-    let fine = fault_other x c.requires.whole c.args.channel c.args.message c.args.proc.target (config_of c.args.proc) (not_full x.limits.entries x.entries c.from.result c.from.ensures c.if-self-from.false) c.in-Some.first here c.in-Send.is
-    ∙ none_if (c.in-Some.first.message == c.args.message) (same_message c.in-Some.first.message c.args.message c.if-first-message.false) in
-    sender_fits x c.requires.whole c.args._worker (receives c.args.proc c.args.channel c.args.message) c.args.channel c.args.message refl c.requires.quiet fine c.requires.fits c.in-Some.first here c.in-Send.is
+    let here : slice_get x.channels c.args.channel ≡ Some (Some c.in-Some.first) =
+    table_has x.channels c.args.channel None (Some c.in-Some.first) c.requires.fits.offered
+    (sym c.pending.ensures ∙ c.in-Some.is) in
+    let fine = fault_other x c.requires.whole c.args.channel c.args.message c.args.proc.target (config_of c.args.proc)
+    (not_full x.limits.entries x.entries c.from.result c.from.ensures c.if-self-from.false) c.in-Some.first here
+    c.in-Send.is
+    ∙ none_if (c.in-Some.first.message == c.args.message)
+    (same_message c.in-Some.first.message c.args.message c.if-first-message.false) in
+    sender_fits x c.requires.whole c.args._worker (receives c.args.proc c.args.channel c.args.message) c.args.channel
+    c.args.message refl c.requires.quiet fine c.requires.fits c.in-Some.first here c.in-Send.is
 
 pub returns-in-Ok-clause-ok : goal.returns-in-Ok-clause-ok
 returns-in-Ok-clause-ok c =
     let x : Kernel = c.args.self.now in
     let h : Handed = receives c.args.proc c.args.channel c.args.message in
-    let here : slice_get x.channels c.args.channel ≡ Some None = table_has x.channels c.args.channel None None c.requires.fits.offered (sym c.pending.ensures ∙ c.in-None.is) in
-    let fine = fault_free x c.requires.whole c.args.channel c.args.message c.args.proc.target (config_of c.args.proc) (not_full x.limits.entries x.entries c.from.result c.from.ensures c.if-self-from.false) here in
+    let here : slice_get x.channels c.args.channel ≡ Some None =
+    table_has x.channels c.args.channel None None c.requires.fits.offered (sym c.pending.ensures ∙ c.in-None.is) in
+    let fine = fault_free x c.requires.whole c.args.channel c.args.message c.args.proc.target (config_of c.args.proc)
+    (not_full x.limits.entries x.entries c.from.result c.from.ensures c.if-self-from.false) here in
     let done = c.in-Ok.ensures.ok in
-    subst (Gave x c.args.proc.number h) (sym done.2) (gave_first x c.requires.whole c.args.proc.number c.args._worker c.requires.fits.out h c.args.channel c.args.message refl c.requires.quiet fine refl c.requires.fits.input done.0 done.1 here)
+    subst (Gave x c.args.proc.number h) (sym done.2)
+    (gave_first x c.requires.whole c.args.proc.number c.args._worker c.requires.fits.out h c.args.channel
+    c.args.message refl c.requires.quiet fine refl c.requires.fits.input done.0 done.1 here)
 
 pub returns-in-Ok-receive_second-clause-ok : goal.returns-in-Ok-receive_second-clause-ok
 returns-in-Ok-receive_second-clause-ok c =
     let x : Kernel = c.args.self.now in
     let h : Handed = receives c.args.proc c.args.channel c.args.message in
-    let here : slice_get x.channels c.args.channel ≡ Some (Some c.in-Some.first) = table_has x.channels c.args.channel None (Some c.in-Some.first) c.requires.fits.offered (sym c.pending.ensures ∙ c.in-Some.is) in
-    let first_is : ◌≡◌ {A = Pending} c.in-Some.first (record { way = way.Send; process = c.in-Some.first.process; message = c.args.message }) = λ i. record { way = c.in-Send.is i; process = c.in-Some.first.process; message = c.if-first-message.false i } in
-    let fine = fault_other x c.requires.whole c.args.channel c.args.message c.args.proc.target (config_of c.args.proc) (not_full x.limits.entries x.entries c.from.result c.from.ensures c.if-self-from.false) c.in-Some.first here c.in-Send.is
-    ∙ none_if (c.in-Some.first.message == c.args.message) (same_message c.in-Some.first.message c.args.message c.if-first-message.false) in
+    let here : slice_get x.channels c.args.channel ≡ Some (Some c.in-Some.first) =
+    table_has x.channels c.args.channel None (Some c.in-Some.first) c.requires.fits.offered
+    (sym c.pending.ensures ∙ c.in-Some.is) in
+    let first_is : ◌≡◌ {A = Pending} c.in-Some.first
+    (record { way = way.Send; process = c.in-Some.first.process; message = c.args.message }) =
+    λ i. record { way = c.in-Send.is i; process = c.in-Some.first.process; message = c.if-first-message.false i } in
+    let fine = fault_other x c.requires.whole c.args.channel c.args.message c.args.proc.target (config_of c.args.proc)
+    (not_full x.limits.entries x.entries c.from.result c.from.ensures c.if-self-from.false) c.in-Some.first here
+    c.in-Send.is
+    ∙ none_if (c.in-Some.first.message == c.args.message)
+    (same_message c.in-Some.first.message c.args.message c.if-first-message.false) in
     let done = c.in-Ok-receive_second.ensures.ok in
-    subst (Gave x c.args.proc.number h) (sym done.5) (gave_met x c.requires.whole c.args.proc.number c.args._worker c.requires.fits.out h c.args.channel c.args.message refl c.requires.quiet fine refl c.requires.fits.input c.in-Some.first.process (here ∙ ap (λ (o : Pending). Some (Some o)) first_is) done.1 done.0 done.2 done.3 done.4)
+    subst (Gave x c.args.proc.number h) (sym done.5)
+    (gave_met x c.requires.whole c.args.proc.number c.args._worker c.requires.fits.out h c.args.channel
+    c.args.message refl c.requires.quiet fine refl c.requires.fits.input c.in-Some.first.process
+    (here ∙ ap (λ (o : Pending). Some (Some o)) first_is) done.1 done.0 done.2 done.3 done.4)

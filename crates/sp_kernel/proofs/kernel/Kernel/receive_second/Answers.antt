@@ -14,9 +14,11 @@ returns-clause-ok c =
       c.resume.new.self,
       c.fetch-cells.ensures.given.0,
       c.fetch-cells.result,
-      subst (λ (l : List Slot). IsSenderWith (slice_get l c.args.other) c.fetch-cells.ensures.given.0 c.fetch-cells.result) e c.fetch-cells.ensures.given.1,
+      subst (λ (l : List Slot). IsSenderWith (slice_get l c.args.other) c.fetch-cells.ensures.given.0
+          c.fetch-cells.result) e c.fetch-cells.ensures.given.1,
       (
-        ap config_of c.resume.ensures ∙ (λ i. config_of (resumed (answer.Received c.fetch-cells.result) (c.enter.ensures.state i))),
+        ap config_of c.resume.ensures ∙ (λ i. config_of
+            (resumed (answer.Received c.fetch-cells.result) (c.enter.ensures.state i))),
         ap (λ (p : Proc). p.number) c.resume.ensures ∙ ap (λ (p : Proc). p.number) c.enter.ensures.state,
         ap (λ (p : Proc). p.input.value) c.resume.ensures ∙ ap (λ (p : Proc). p.input.value) c.enter.ensures.state,
       ),

@@ -10,8 +10,21 @@ use Rattle.sp_kernel.proofs.kernel.Kernel.rejoin.Goals as goal
 pub returns : goal.returns
 returns c = (
   slot.Here c.join.new.self c.one_fewer.result,
-  subst (λ (o : Option Slot). Joins o c.args.child (slot.Here c.join.new.self c.one_fewer.result)) (sym c.swap.ensures.before)
-      (subst (λ (s : Slot). Joins (Some s) c.args.child (slot.Here c.join.new.self c.one_fewer.result)) (sym (c.in-Here.is ∙ ap (slot.Here c.in-Here.process) c.in-Joining.is))
-      (c.join.new.self, ap (slot.Here c.join.new.self) c.one_fewer.ensures, (ap config_of c.join.ensures, ap (λ (p : Proc). p.number) c.join.ensures, ap (λ (p : Proc). p.input.value) c.join.ensures))),
-  λ i. record c.args.self.now { slots = (c.put.ensures ∙ ap (λ l. slice_set l c.args.parent (slot.Here c.join.new.self c.one_fewer.result)) c.swap.ensures.after ∙ set_twice c.args.self.now.slots c.args.parent slot.Ended (slot.Here c.join.new.self c.one_fewer.result)) i },
+  subst (λ (o : Option Slot). Joins o c.args.child (slot.Here c.join.new.self c.one_fewer.result))
+      (sym c.swap.ensures.before)
+      (subst (λ (s : Slot). Joins (Some s) c.args.child (slot.Here c.join.new.self c.one_fewer.result))
+      (sym (c.in-Here.is ∙ ap (slot.Here c.in-Here.process) c.in-Joining.is)) (
+        c.join.new.self,
+        ap (slot.Here c.join.new.self) c.one_fewer.ensures,
+        (
+          ap config_of c.join.ensures,
+          ap (λ (p : Proc). p.number) c.join.ensures,
+          ap (λ (p : Proc). p.input.value) c.join.ensures,
+        ),
+      )),
+  λ i. record c.args.self.now {
+    slots = (c.put.ensures
+        ∙ ap (λ l. slice_set l c.args.parent (slot.Here c.join.new.self c.one_fewer.result)) c.swap.ensures.after
+        ∙ set_twice c.args.self.now.slots c.args.parent slot.Ended (slot.Here c.join.new.self c.one_fewer.result)) i;
+  },
 )

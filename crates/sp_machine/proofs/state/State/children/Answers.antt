@@ -7,16 +7,30 @@ use Rattle.sp_machine.proofs.state.State.children.Goals as goal
 
 pub loop-handing-preserved : goal.loop-handing-preserved
 loop-handing-preserved c =
-    let inside : c.loop-handing.handing-index < length c.args.plan.now = omega (arith, ap length c.items-handing-items.ensures, c.loop-handing-test.true) in record {
+    let inside : c.loop-handing.handing-index < length c.args.plan.now =
+    omega (arith, ap length c.items-handing-items.ensures, c.loop-handing-test.true) in record {
       place = ap (λ k. k + 1) c.loop-handing.invariant.place;
-      many = ap length c.in_ok-push.ensures.items ∙ length-append c.loop-handing.children.items (c.in_ok-child.field-0 ∷ []) ∙ ap (λ k. k + 1) c.loop-handing.invariant.many;
-      born = born_pushed c.loop-handing.children.items c.push.new.self.items c.in_ok-child.field-0 c.args.plan.now c.args.table.now c.args.number c.args.self.now c.loop-handing.handing-index c.handing-item.result
-          c.in_ok-push.ensures.items c.loop-handing.invariant.many (c.handing-item.is ∙ ap (λ (hs : List Handing). get_or hs c.loop-handing.handing-index c.handing-item.result) c.items-handing-items.ensures) inside c.loop-handing.invariant.born
-          (born_at c.in_ok-child.field-0 c.handing-item.result c.args.table.now c.args.number c.loop-handing.k c.loop-handing.handing-index c.from.result c.beginning-entry.result.0 c.beginning-entry.result.1 c.in_ok-frames.frames c.args.self.now
-          c.in_ok-child.ensures c.in_ok-frames.ensures c.beginning-entry.ensures.entry c.beginning-entry.ensures.index c.from.ensures c.loop-handing.invariant.place);
+      many = ap length c.in_ok-push.ensures.items
+          ∙ length-append c.loop-handing.children.items (c.in_ok-child.field-0 ∷ [])
+          ∙ ap (λ k. k + 1) c.loop-handing.invariant.many;
+      born = born_pushed c.loop-handing.children.items c.push.new.self.items c.in_ok-child.field-0 c.args.plan.now
+          c.args.table.now c.args.number c.args.self.now c.loop-handing.handing-index c.handing-item.result
+          c.in_ok-push.ensures.items c.loop-handing.invariant.many
+          (c.handing-item.is ∙ ap (λ (hs : List Handing). get_or hs c.loop-handing.handing-index
+          c.handing-item.result) c.items-handing-items.ensures) inside c.loop-handing.invariant.born
+          (born_at c.in_ok-child.field-0 c.handing-item.result c.args.table.now c.args.number c.loop-handing.k
+          c.loop-handing.handing-index c.from.result c.beginning-entry.result.0 c.beginning-entry.result.1
+          c.in_ok-frames.frames c.args.self.now
+          c.in_ok-child.ensures c.in_ok-frames.ensures c.beginning-entry.ensures.entry c.beginning-entry.ensures.index
+          c.from.ensures c.loop-handing.invariant.place);
     }
 
 pub returns : goal.returns
 returns c =
-    let all : c.loop-handing.handing-index ≡ length c.args.plan.now = omega (arith, ap length c.items-handing-items.ensures, c.loop-handing-test.false) in
-    (c.loop-handing.invariant.many ∙ all, subst (λ (n : ℕ). AreBornSo c.loop-handing.children.items c.args.plan.now c.args.table.now c.args.number c.args.self.now n) all c.loop-handing.invariant.born)
+    let all : c.loop-handing.handing-index ≡ length c.args.plan.now =
+    omega (arith, ap length c.items-handing-items.ensures, c.loop-handing-test.false) in (
+      c.loop-handing.invariant.many ∙ all,
+      subst
+          (λ (n : ℕ). AreBornSo c.loop-handing.children.items c.args.plan.now c.args.table.now c.args.number
+          c.args.self.now n) all c.loop-handing.invariant.born,
+    )

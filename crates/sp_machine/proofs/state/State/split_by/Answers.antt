@@ -11,22 +11,32 @@ use Rattle.sp_machine.proofs.state.State.split_by.Goals as goal
 
 pub children-requires-clause-numbers : goal.children-requires-clause-numbers
 children-requires-clause-numbers c =
-    let size : length c.in_ok-plan.plan ≡ c.args.count = ap length c.in_ok-plan.ensures ∙ length_plan c.args.code.now.layouts c.args.self.now.frames c.args.table.now c.args.self.now.first 0 c.args.count in
+    let size : length c.in_ok-plan.plan ≡ c.args.count = ap length c.in_ok-plan.ensures
+    ∙ length_plan c.args.code.now.layouts c.args.self.now.frames c.args.table.now c.args.self.now.first 0
+    c.args.count in
     omega (arith, size, c.requires.numbers)
 
 pub children-requires-clause-below : goal.children-requires-clause-below
 children-requires-clause-below c =
-    subst (λ (hs : List Handing). (k : ℕ) (h : Handing) → k < length hs → h ≡ get_or hs k h → IsSome (child_or (child_at c.args.table.now k)).index → FramesBelow h.moved 18446744073709551615 × FramesBelow h.shared 18446744073709551615)
+    subst (λ (hs : List Handing). (k : ℕ) (h : Handing) → k < length hs → h ≡ get_or hs k h
+    → IsSome (child_or (child_at c.args.table.now k)).index → FramesBelow h.moved 18446744073709551615
+    × FramesBelow h.shared 18446744073709551615)
     (sym c.in_ok-plan.ensures)
-    (λ k h inside is index. below_plan c.args.self.now.store c.args.code.now.layouts c.args.self.now.frames c.args.table.now c.args.self.now.first c.args.count k h c.requires.can inside is index)
+    (λ k h inside is index. below_plan c.args.self.now.store c.args.code.now.layouts c.args.self.now.frames
+    c.args.table.now c.args.self.now.first c.args.count k h c.requires.can inside is index)
 
 pub split-requires-clause-apart : goal.split-requires-clause-apart
-split-requires-clause-apart c = subst (λ (hs : List Handing). (q : Spot) → In q (moved_of hs) → NotIn q (shared_of hs)) (sym c.in_ok-plan.ensures) c.requires.can.apart
+split-requires-clause-apart c = subst (λ (hs : List Handing). (q : Spot) → In q (moved_of hs) → NotIn q (shared_of hs))
+    (sym c.in_ok-plan.ensures) c.requires.can.apart
 
 pub give_stores-requires : goal.give_stores-requires
-give_stores-requires c = ap length c.in_ok-stores.ensures.children ∙ length_children c.args.self.now.store.map c.in_ok-plan.plan ∙ sym c.in_ok-children.ensures.0
+give_stores-requires c = ap length c.in_ok-stores.ensures.children
+    ∙ length_children c.args.self.now.store.map c.in_ok-plan.plan ∙ sym c.in_ok-children.ensures.0
 
 pub returns-clause-children : goal.returns-clause-children
 returns-clause-children c =
-    split_newborn c.args.code.now c.args.self.now c.args.table.now c.args.number c.args.count c.share.new.self c.in_ok-plan.plan c.in_ok-children.children.items c.give_stores.new.children.items c.of.result c.in_ok-stores.stores c.share.ensures.same
-    c.in_ok-plan.ensures c.in_ok-stores.ensures.children c.in_ok-children.ensures.0 c.in_ok-children.ensures.1 c.give_stores.ensures.len c.give_stores.ensures.stores c.of.ensures
+    split_newborn c.args.code.now c.args.self.now c.args.table.now c.args.number c.args.count c.share.new.self
+    c.in_ok-plan.plan c.in_ok-children.children.items c.give_stores.new.children.items c.of.result
+    c.in_ok-stores.stores c.share.ensures.same
+    c.in_ok-plan.ensures c.in_ok-stores.ensures.children c.in_ok-children.ensures.0 c.in_ok-children.ensures.1
+    c.give_stores.ensures.len c.give_stores.ensures.stores c.of.ensures

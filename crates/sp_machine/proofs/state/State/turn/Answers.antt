@@ -17,25 +17,35 @@ returns-in-Ok-Some-clause-turn c =
     (ends_it c.args.self.now c.args.code.now c.args.limits.now c.loop-interrupt.self c.loop-interrupt.invariant.same.1
     c.step.new.self c.loop-interrupt.invariant.came.0 c.requires.safe c.loop-interrupt.invariant.begun
     c.loop-interrupt.invariant.came.1 c.stop_by.result
-    (subst (λ s. Came (next_of c.loop-interrupt.self c.args.code.now c.args.limits.now) c.loop-interrupt.self c.step.new.self s)
+    (subst (λ s. Came (next_of c.loop-interrupt.self c.args.code.now c.args.limits.now) c.loop-interrupt.self
+    c.step.new.self s)
     c.stop_by.ensures.stop
-    (subst (λ s. CameBy (next_of c.loop-interrupt.self c.args.code.now c.args.limits.now) c.loop-interrupt.self c.step.new.self s)
+    (subst (λ s. CameBy (next_of c.loop-interrupt.self c.args.code.now c.args.limits.now) c.loop-interrupt.self
+    c.step.new.self s)
     c.in-Ok-Some.field-0-is c.in-Ok-Some.ensures.came))))
 
 pub loop-interrupt-smaller : goal.loop-interrupt-smaller
 loop-interrupt-smaller c = smaller c.args.self.now c.args.code.now c.args.limits.now c.loop-interrupt.self
     c.loop-interrupt.invariant.same.1 c.step.new.self c.loop-interrupt.invariant.came.0 c.requires.safe
     c.loop-interrupt.invariant.begun c.loop-interrupt.invariant.came.1 c.requires.ranked
-    (subst (λ s. CameBy (next_of c.loop-interrupt.self c.args.code.now c.args.limits.now) c.loop-interrupt.self c.step.new.self s)
+    (subst (λ s. CameBy (next_of c.loop-interrupt.self c.args.code.now c.args.limits.now) c.loop-interrupt.self
+    c.step.new.self s)
     c.in-Ok-None.field-0-is c.in-Ok-None.ensures.came)
 
 pub loop-interrupt-preserved : goal.loop-interrupt-preserved
 loop-interrupt-preserved c = record {
-  same = (c.step.ensures.same.0 ∙ c.loop-interrupt.invariant.same.0, c.step.ensures.same.1 ∙ c.loop-interrupt.invariant.same.1);
+  same = (
+    c.step.ensures.same.0 ∙ c.loop-interrupt.invariant.same.0,
+    c.step.ensures.same.1
+        ∙ c.loop-interrupt.invariant.same.1,
+  );
   begun = c.loop-interrupt.invariant.begun;
-  came = (suc c.loop-interrupt.invariant.came.0, on_it c.args.self.now c.args.code.now c.args.limits.now c.loop-interrupt.self
-      c.loop-interrupt.invariant.same.1 c.step.new.self c.loop-interrupt.invariant.came.0 c.requires.safe
-      c.loop-interrupt.invariant.begun c.loop-interrupt.invariant.came.1
-      (subst (λ s. CameBy (next_of c.loop-interrupt.self c.args.code.now c.args.limits.now) c.loop-interrupt.self
-      c.step.new.self s) c.in-Ok-None.field-0-is c.in-Ok-None.ensures.came));
+  came = (
+    suc c.loop-interrupt.invariant.came.0,
+    on_it c.args.self.now c.args.code.now c.args.limits.now c.loop-interrupt.self
+        c.loop-interrupt.invariant.same.1 c.step.new.self c.loop-interrupt.invariant.came.0 c.requires.safe
+        c.loop-interrupt.invariant.begun c.loop-interrupt.invariant.came.1
+        (subst (λ s. CameBy (next_of c.loop-interrupt.self c.args.code.now c.args.limits.now) c.loop-interrupt.self
+        c.step.new.self s) c.in-Ok-None.field-0-is c.in-Ok-None.ensures.came),
+  );
 }

@@ -9,9 +9,12 @@ use Rattle.sp_machine.proofs.state.State.turn.Given as goal
 abbrev pub invariant-loop-interrupt : goal.invariant-loop-interrupt
 invariant-loop-interrupt l = record {
   same : Stays l.fn.self l.self;
-  begun : begins (memory plain (setting_of l.fn.self l.code l.limits)) l.code (config_of l.fn.self) ≡ Rattle.std.proofs.Common.true;
-  came : (n : ℕ) × ComesIn (memory plain (setting_of l.fn.self l.code l.limits)) l.code n (config_of l.fn.self) (config_of l.self);
+  begun : begins (memory plain (setting_of l.fn.self l.code l.limits)) l.code (config_of l.fn.self)
+      ≡ Rattle.std.proofs.Common.true;
+  came : (n : ℕ) × ComesIn (memory plain (setting_of l.fn.self l.code l.limits)) l.code n (config_of l.fn.self)
+      (config_of l.self);
 }
 
 abbrev pub decreases-loop-interrupt : goal.decreases-loop-interrupt
-decreases-loop-interrupt l = left_by l.code.instrs (ticks_left (setting_of l.fn.self l.code l.limits)) (config_of l.self)
+decreases-loop-interrupt l = left_by l.code.instrs (ticks_left (setting_of l.fn.self l.code l.limits))
+    (config_of l.self)

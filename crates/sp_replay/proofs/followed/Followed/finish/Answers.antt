@@ -15,6 +15,11 @@ returns c =
     record {
       system = system_of f.kernel;
       along = is_system f.kernel c.requires.follows.come;
-      end = ends_so f.kernel c.requires.follows.come (held_at f.held) c.requires.follows.held c.requires.none_ready c.in_ok-end.end c.in_ok-end.ensures;
-      output = (c.output.ensures.0, subst (IsOutputOf (system_of f.kernel) c.output.ensures.0) (sym (c.of.ensures ∙ c.in_ok-output.ensures.items)) c.output.ensures.1);
+      end = ends_so f.kernel c.requires.follows.come (held_at f.held) c.requires.follows.held c.requires.none_ready
+          c.in_ok-end.end c.in_ok-end.ensures;
+      output = (
+        c.output.ensures.0,
+        subst (IsOutputOf (system_of f.kernel) c.output.ensures.0)
+            (sym (c.of.ensures ∙ c.in_ok-output.ensures.items)) c.output.ensures.1,
+      );
     }

@@ -1,4 +1,5 @@
-use Rattle.std.proofs.Common.{◌≡◌, ◌≢◌, ◌∙◌, ◌+◌, ◌≤◌, ◌<◌, ◌&&◌, ◌==◌, ⊎_elim, ℕ, Bool, true, false, cond, nat_le, nat_lt, Option, Some, unwrap_or, refl, sym, ap, arith}
+use Rattle.std.proofs.Common.{◌≡◌, ◌≢◌, ◌∙◌, ◌+◌, ◌≤◌, ◌<◌, ◌&&◌, ◌==◌, ⊎_elim, ℕ, Bool, true, false, cond, nat_le}
+use Rattle.std.proofs.Common.{nat_lt, Option, Some, unwrap_or, refl, sym, ap, arith}
 use Rattle.std.proofs.lemmas.Bool.{cases_eq, ne_eqb}
 use Rattle.std.proofs.lemmas.Bool.Decides.{nat_tests}
 use Rattle.sp_journal.proofs.Facts.{between, here}
@@ -7,7 +8,8 @@ use Rattle.sp_report.specs.declared.condition.Condition.TheVariants as condition
 use Rattle.sp_report.specs.Conditions.{Conditions}
 use Rattle.sp_report.proofs.table.Table.fork.Goals as goal
 
-put_in : (b : Bool) (v d : Condition) (o : Option Condition) → unwrap_or (cond b (Some v) o) d ≡ cond b v (unwrap_or o d)
+put_in : (b : Bool) (v d : Condition) (o : Option Condition)
+    → unwrap_or (cond b (Some v) o) d ≡ cond b v (unwrap_or o d)
 put_in true v d o = refl
 put_in false v d o = refl
 
@@ -15,13 +17,17 @@ same_test : (first q child : ℕ) → child ≢ q → nat_le first q && nat_lt q
 same_test first q child n = grind (arith, nat_tests)
 
 -- one child more runs
-one_runs : (first child q : ℕ) (old x : Condition) → first ≤ child → old ≡ cond (nat_le first q && nat_lt q child) condition.Running x → cond (child == q) condition.Running old ≡ cond (nat_le first q && nat_lt q (child + 1)) condition.Running x
+one_runs : (first child q : ℕ) (old x : Condition) → first ≤ child
+    → old ≡ cond (nat_le first q && nat_lt q child) condition.Running x
+    → cond (child == q) condition.Running old ≡ cond (nat_le first q && nat_lt q (child + 1)) condition.Running x
 one_runs first child q old x l e = ⊎_elim
     (λ (f : child ≡ q).
     let a : first ≤ q = omega arith in
     let b : q < child + 1 = omega arith in
-    ap (λ (t : Bool). cond t condition.Running old) (here child q f) ∙ ap (λ (t : Bool). cond t condition.Running x) (sym (between first q (child + 1) a b)))
-    (λ (n : child ≢ q). ap (λ (t : Bool). cond t condition.Running old) (ne_eqb child q n) ∙ e ∙ ap (λ (t : Bool). cond t condition.Running x) (same_test first q child n))
+    ap (λ (t : Bool). cond t condition.Running old) (here child q f)
+    ∙ ap (λ (t : Bool). cond t condition.Running x) (sym (between first q (child + 1) a b)))
+    (λ (n : child ≢ q). ap (λ (t : Bool). cond t condition.Running old) (ne_eqb child q n) ∙ e
+    ∙ ap (λ (t : Bool). cond t condition.Running x) (same_test first q child n))
     (cases_eq child q)
 
 pub loop-child-preserved : goal.loop-child-preserved

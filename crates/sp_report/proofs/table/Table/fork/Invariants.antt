@@ -8,5 +8,6 @@ use Rattle.sp_report.proofs.table.Table.fork.Given as goal
 abbrev pub invariant-loop-child : goal.invariant-loop-child
 invariant-loop-child l =
     seen l.self ≡ record (seen l.fn.self) {
-      of = λ (q : ℕ). cond (nat_le l.first q && nat_lt q l.child) condition.Running (at_key ◌==◌ l.process (condition.Joining l.first l.count l.count) (seen l.fn.self).of q);
+      of = λ (q : ℕ). cond (nat_le l.first q && nat_lt q l.child) condition.Running
+          (at_key ◌==◌ l.process (condition.Joining l.first l.count l.count) (seen l.fn.self).of q);
     }

@@ -24,9 +24,21 @@ returns c =
     let end = c.deref.ensures.value in
     let start = c.deref-2.ensures.value in
     let bound : b ≤ length ss = subst (λ (xs : List Spot). b ≤ length xs) end c.end_of-end.ensures.bound in
-    let after : (k : ℕ) (d : Spot) → b ≤ k → k < length ss → c.args.frame < (get_or ss k d).frame = subst (λ (xs : List Spot). (k : ℕ) (d : Spot) → b ≤ k → k < length xs → c.args.frame < (get_or xs k d).frame) end c.end_of-end.ensures.above in
-    let most : (d : Spot) → 0 < b → (get_or ss (b - 1) d).frame ≤ c.args.frame = subst (λ (xs : List Spot). (d : Spot) → 0 < b → (get_or xs (b - 1) d).frame ≤ c.args.frame) end c.end_of-end.ensures.below in
-    let inside : (k : ℕ) (d : Spot) → a ≤ k → k < b → (get_or ss k d).frame ≡ c.args.frame = subst (λ (xs : List Spot). (k : ℕ) (d : Spot) → a ≤ k → k < b → (get_or xs k d).frame ≡ c.args.frame) start c.start_of-start.ensures.inside in
-    let other : (d : Spot) → 0 < a → (get_or ss (a - 1) d).frame ≢ c.args.frame = subst (λ (xs : List Spot). (d : Spot) → 0 < a → (get_or xs (a - 1) d).frame ≢ c.args.frame) start c.start_of-start.ensures.below in
-    rw (c.take_out.ensures, c.take_out-2.ensures) (taken_out ss es c.self.invariant.1 c.self.invariant.0 c.args.frame a b c.start_of-start.ensures.bound bound after inside most other)
+    let after : (k : ℕ) (d : Spot) → b ≤ k → k < length ss
+    → c.args.frame < (get_or ss k d).frame =
+    subst (λ (xs : List Spot). (k : ℕ) (d : Spot) → b ≤ k → k < length xs → c.args.frame < (get_or xs k d).frame)
+    end c.end_of-end.ensures.above in
+    let most : (d : Spot) → 0 < b → (get_or ss (b - 1) d).frame ≤ c.args.frame =
+    subst (λ (xs : List Spot). (d : Spot) → 0 < b → (get_or xs (b - 1) d).frame ≤ c.args.frame) end
+    c.end_of-end.ensures.below in
+    let inside : (k : ℕ) (d : Spot) → a ≤ k → k < b
+    → (get_or ss k d).frame ≡ c.args.frame =
+    subst (λ (xs : List Spot). (k : ℕ) (d : Spot) → a ≤ k → k < b → (get_or xs k d).frame ≡ c.args.frame) start
+    c.start_of-start.ensures.inside in
+    let other : (d : Spot) → 0 < a → (get_or ss (a - 1) d).frame ≢ c.args.frame =
+    subst (λ (xs : List Spot). (d : Spot) → 0 < a → (get_or xs (a - 1) d).frame ≢ c.args.frame) start
+    c.start_of-start.ensures.below in
+    rw (c.take_out.ensures, c.take_out-2.ensures)
+    (taken_out ss es c.self.invariant.1 c.self.invariant.0 c.args.frame a b c.start_of-start.ensures.bound bound
+    after inside most other)
     ∙ ap (λ (m : Map). without m c.args.frame) c.self.view_is

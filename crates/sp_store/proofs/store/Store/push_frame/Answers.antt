@@ -7,13 +7,19 @@ use Rattle.sp_store.proofs.store.Store.push_frame.Goals as goal
 pub returns-in-Err-clause-err : goal.returns-in-Err-clause-err
 returns-in-Err-clause-err c =
     let p : Plain = record { map = c.self.inside.slots; own = c.self.inside.own.items; moved = c.self.inside.moved } in
-    let number : c.next_frame-number.result ≡ next_frame p = c.next_frame-number.ensures ∙ sym (ap next_frame c.self.view_is) in
-    let slots : c.remove_frame.new.self ≡ c.self.inside.slots = c.remove_frame.ensures ∙ c.in-Err.ensures.err ∙ ap (λ n. without c.self.inside.slots n) number ∙ without_next p in
+    let number : c.next_frame-number.result ≡ next_frame p = c.next_frame-number.ensures
+    ∙ sym (ap next_frame c.self.view_is) in
+    let slots : c.remove_frame.new.self ≡ c.self.inside.slots = c.remove_frame.ensures ∙ c.in-Err.ensures.err
+    ∙ ap (λ n. without c.self.inside.slots n) number ∙ without_next p in
     rw (slots, c.reserve.ensures.items) c.self.view_is
 
 pub invariant_of-self-2 : goal.invariant_of-self-2
 invariant_of-self-2 c =
     let p : Plain = record { map = c.self.inside.slots; own = c.self.inside.own.items; moved = c.self.inside.moved } in
-    let number : c.next_frame-number.result ≡ next_frame p = c.next_frame-number.ensures ∙ sym (ap next_frame c.self.view_is) in
-    let most : above c.self.inside.own.items ≤ c.next_frame-number.result = omega (arith, number) in
-    (c.self.invariant.0, rw (c.in-Ok-push.ensures.items, c.reserve.ensures.items) (rising_push c.self.inside.own.items c.next_frame-number.result c.self.invariant.1 most))
+    let number : c.next_frame-number.result ≡ next_frame p = c.next_frame-number.ensures
+    ∙ sym (ap next_frame c.self.view_is) in
+    let most : above c.self.inside.own.items ≤ c.next_frame-number.result = omega (arith, number) in (
+      c.self.invariant.0,
+      rw (c.in-Ok-push.ensures.items, c.reserve.ensures.items)
+          (rising_push c.self.inside.own.items c.next_frame-number.result c.self.invariant.1 most),
+    )

@@ -10,7 +10,8 @@ split_by-requires-clause-number c = rw c.items.ensures c.requires.number
 
 pub returns-clause-partition : goal.returns-clause-partition
 returns-clause-partition c =
-    let keeps = split_keeps c.args.self.now.map c.args.plan.now c.requires.held c.requires.pieces c.requires.distinct c.requires.apart in
+    let keeps = split_keeps c.args.self.now.map c.args.plan.now c.requires.held c.requires.pieces c.requires.distinct
+    c.requires.apart in
     rw (c.of.ensures, c.in_ok-children.ensures.children, c.in_ok-children.ensures.parent, c.items.ensures) keeps
 
 pub returns-clause-back : goal.returns-clause-back

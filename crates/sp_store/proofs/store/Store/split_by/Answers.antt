@@ -4,7 +4,8 @@ use Rattle.sp_cell.specs.declared.spot.Spot.{Spot}
 use Rattle.sp_cell.specs.declared.spot.Handing.{Handing}
 use Rattle.sp_cell.specs.Map.{Map, Plain, IsPiece, spot_cmp, with_map}
 use Rattle.sp_cell.specs.Fork.{lent, taken, handed, moved_of, shared_of}
-use Rattle.sp_cell.specs.Plan.{each_shared, each_moved, distinct_in, ready_step, children_step, known_ready, take_all, merged, at_each, in_of_at, index_at}
+use Rattle.sp_cell.specs.Plan.{each_shared, each_moved, distinct_in, ready_step, children_step, known_ready, take_all}
+use Rattle.sp_cell.specs.Plan.{merged, at_each, in_of_at, index_at}
 use Rattle.sp_cell.specs.Spots.{In}
 use Rattle.sp_cell.specs.FrameLaws.{known_below}
 use Rattle.sp_cell.specs.Laws.{known_of_held, known_of_piece}
@@ -12,52 +13,86 @@ use Rattle.sp_cell.specs.Steps.{known_away}
 use Rattle.sp_store.proofs.store.Store.split_by.Goals as goal
 
 pub loop-handing-init : goal.loop-handing-init
-loop-handing-init c = record { ready = c.new-ready.ensures; lent = λ q. inl (rw c.new-ready.ensures (map.get-empty spot_cmp q)); children = c.new-children.ensures.items }
+loop-handing-init c = record {
+  ready = c.new-ready.ensures;
+  lent = λ q. inl (rw c.new-ready.ensures (map.get-empty spot_cmp q));
+  children = c.new-children.ensures.items;
+}
 
 pub prepare-requires-clause-pieces : goal.prepare-requires-clause-pieces
 prepare-requires-clause-pieces c =
     let slots = ap (λ (p : Plain). p.map) c.self.view_is in
-    each_shared (λ q. IsPiece (map.get c.self.inside.slots q)) c.args.plan.now c.loop-handing.handing-index c.handing-item.result c.loop-handing-test.true c.handing-item.is (λ q j. subst (λ (y : Map). IsPiece (map.get y q)) (sym slots) (c.requires.pieces q j))
+    each_shared (λ q. IsPiece (map.get c.self.inside.slots q)) c.args.plan.now c.loop-handing.handing-index
+    c.handing-item.result c.loop-handing-test.true c.handing-item.is
+    (λ q j. subst (λ (y : Map). IsPiece (map.get y q)) (sym slots) (c.requires.pieces q j))
 
 pub prepare-requires-clause-distinct : goal.prepare-requires-clause-distinct
-prepare-requires-clause-distinct c = distinct_in c.args.plan.now c.loop-handing.handing-index c.handing-item.result c.loop-handing-test.true c.handing-item.is c.requires.distinct
+prepare-requires-clause-distinct c = distinct_in c.args.plan.now c.loop-handing.handing-index c.handing-item.result
+    c.loop-handing-test.true c.handing-item.is c.requires.distinct
 
 pub prepare-requires-clause-frames : goal.prepare-requires-clause-frames
 prepare-requires-clause-frames c index =
     let hs = c.args.plan.now in
-    let number = c.requires.number (index_at hs c.loop-handing.handing-index c.handing-item.result c.loop-handing-test.true c.handing-item.is index) in
-    let below : (q : Spot) → IsSome (map.get c.args.self.now.map q) → q.frame < 18446744073709551615 = λ q k. let less = known_below c.args.self.now.map q k in omega (arith, number, less) in (
-      each_moved (λ q. q.frame < 18446744073709551615) hs c.loop-handing.handing-index c.handing-item.result c.loop-handing-test.true c.handing-item.is (λ q i. below q (known_of_held _ (c.requires.held q i))),
-      each_shared (λ q. q.frame < 18446744073709551615) hs c.loop-handing.handing-index c.handing-item.result c.loop-handing-test.true c.handing-item.is (λ q i. below q (known_of_piece _ (c.requires.pieces q i))),
+    let number = c.requires.number (index_at hs c.loop-handing.handing-index c.handing-item.result
+    c.loop-handing-test.true c.handing-item.is index) in
+    let below : (q : Spot) → IsSome (map.get c.args.self.now.map q)
+    → q.frame < 18446744073709551615 = λ q k. let less = known_below c.args.self.now.map q k in
+    omega (arith, number, less) in (
+      each_moved (λ q. q.frame < 18446744073709551615) hs c.loop-handing.handing-index c.handing-item.result
+          c.loop-handing-test.true c.handing-item.is (λ q i. below q (known_of_held _ (c.requires.held q i))),
+      each_shared (λ q. q.frame < 18446744073709551615) hs c.loop-handing.handing-index c.handing-item.result
+          c.loop-handing-test.true c.handing-item.is (λ q i. below q (known_of_piece _ (c.requires.pieces q i))),
     )
 
 pub loop-handing-preserved : goal.loop-handing-preserved
 loop-handing-preserved c = record {
-  ready = c.in_ok-child.ensures.ready ∙ ap (lent c.self.inside.slots c.handing-item.result.shared) c.loop-handing.invariant.ready ∙ ready_step c.self.inside.slots c.args.plan.now c.loop-handing.handing-index c.handing-item.result c.loop-handing-test.true c.handing-item.is;
+  ready = c.in_ok-child.ensures.ready ∙ ap (lent c.self.inside.slots c.handing-item.result.shared)
+      c.loop-handing.invariant.ready ∙ ready_step c.self.inside.slots c.args.plan.now c.loop-handing.handing-index
+      c.handing-item.result c.loop-handing-test.true c.handing-item.is;
   lent = c.in_ok-child.ensures.lent;
-  children = c.in_ok-push.ensures.items ∙ rw (c.in_ok-child.ensures.child, c.loop-handing.invariant.children) (children_step c.self.inside.slots c.args.plan.now c.loop-handing.handing-index c.handing-item.result c.loop-handing-test.true c.handing-item.is);
+  children = c.in_ok-push.ensures.items ∙ rw (c.in_ok-child.ensures.child, c.loop-handing.invariant.children)
+      (children_step c.self.inside.slots c.args.plan.now c.loop-handing.handing-index c.handing-item.result
+      c.loop-handing-test.true c.handing-item.is);
 }
 
 pub hand-requires-clause-room : goal.hand-requires-clause-room
 hand-requires-clause-room c k d b =
     let m = c.self.inside.slots in
     let slots = ap (λ (p : Plain). p.map) c.self.view_is in
-    let ready : c.loop-handing.ready ≡ lent m (shared_of c.args.plan.now) map.empty = c.loop-handing.invariant.ready ∙ ap (λ (hs : List Handing). lent m (shared_of hs) map.empty) (take_all c.args.plan.now c.loop-handing.handing-index c.loop-handing-test.false) in
+    let ready : c.loop-handing.ready ≡ lent m (shared_of c.args.plan.now) map.empty = c.loop-handing.invariant.ready
+    ∙ ap (λ (hs : List Handing). lent m (shared_of hs) map.empty)
+    (take_all c.args.plan.now c.loop-handing.handing-index c.loop-handing-test.false) in
     let list : c.deref.result.now ≡ c.spots.result.now = c.deref.ensures.value ∙ c.in_ok-shared.ensures.items in
-    let known : IsSome (map.get c.loop-handing.ready (get_or c.deref.result.now k d)) = subst (λ (ss : List Spot). (k : ℕ) (d : Spot) → k < length ss → IsSome (map.get c.loop-handing.ready (get_or ss k d))) (sym list) c.spots.ensures.known k d b in
-    rw c.fill.ensures.parent (known_away m (moved_of c.args.plan.now) _ (known_ready m (shared_of c.args.plan.now) (λ q j. subst (λ (y : Map). IsPiece (map.get y q)) (sym slots) (c.requires.pieces q j)) _ (subst (λ (r : Map). IsSome (map.get r (get_or c.deref.result.now k d))) ready known)))
+    let known : IsSome (map.get c.loop-handing.ready (get_or c.deref.result.now k d)) =
+    subst (λ (ss : List Spot). (k : ℕ) (d : Spot) → k < length ss
+    → IsSome (map.get c.loop-handing.ready (get_or ss k d))) (sym list) c.spots.ensures.known k d b in
+    rw c.fill.ensures.parent (known_away m (moved_of c.args.plan.now) _
+    (known_ready m (shared_of c.args.plan.now)
+    (λ q j. subst (λ (y : Map). IsPiece (map.get y q)) (sym slots) (c.requires.pieces q j)) _
+    (subst (λ (r : Map). IsSome (map.get r (get_or c.deref.result.now k d))) ready known)))
 
 pub returns-clause-parent : goal.returns-clause-parent
 returns-clause-parent c =
     let m = c.self.inside.slots in
-    let ready : c.loop-handing.ready ≡ lent m (shared_of c.args.plan.now) map.empty = c.loop-handing.invariant.ready ∙ ap (λ (hs : List Handing). lent m (shared_of hs) map.empty) (take_all c.args.plan.now c.loop-handing.handing-index c.loop-handing-test.false) in
+    let ready : c.loop-handing.ready ≡ lent m (shared_of c.args.plan.now) map.empty = c.loop-handing.invariant.ready
+    ∙ ap (λ (hs : List Handing). lent m (shared_of hs) map.empty)
+    (take_all c.args.plan.now c.loop-handing.handing-index c.loop-handing-test.false) in
     let list : c.deref.result.now ≡ c.spots.result.now = c.deref.ensures.value ∙ c.in_ok-shared.ensures.items in
-    let there : (q : Spot) → In q c.deref.result.now → IsSome (map.get (lent m (shared_of c.args.plan.now) map.empty) q) =
+    let there : (q : Spot) → In q c.deref.result.now
+    → IsSome (map.get (lent m (shared_of c.args.plan.now) map.empty) q) =
     at_each (λ q. IsSome (map.get (lent m (shared_of c.args.plan.now) map.empty) q)) c.deref.result.now
-    (subst (λ (ss : List Spot). (k : ℕ) (d : Spot) → k < length ss → IsSome (map.get (lent m (shared_of c.args.plan.now) map.empty) (get_or ss k d))) (sym list)
-    (subst (λ (r : Map). (k : ℕ) (d : Spot) → k < length c.spots.result.now → IsSome (map.get r (get_or c.spots.result.now k d))) ready c.spots.ensures.known)) in
-    let back : (q : Spot) → IsSome (map.get (lent m (shared_of c.args.plan.now) map.empty) q) → In q c.deref.result.now =
-    λ q k. subst (In q) (sym list) (in_of_at q c.spots.result.now (c.spots.ensures.all q (subst (λ (r : Map). IsSome (map.get r q)) (sym ready) k))) in
+    (subst (λ (ss : List Spot). (k : ℕ) (d : Spot) → k < length ss
+    → IsSome (map.get (lent m (shared_of c.args.plan.now) map.empty) (get_or ss k d))) (sym list)
+    (subst (λ (r : Map). (k : ℕ) (d : Spot) → k < length c.spots.result.now
+    → IsSome (map.get r (get_or c.spots.result.now k d))) ready c.spots.ensures.known)) in
+    let back : (q : Spot) → IsSome (map.get (lent m (shared_of c.args.plan.now) map.empty) q)
+    → In q c.deref.result.now =
+    λ q k. subst (In q) (sym list) (in_of_at q c.spots.result.now
+    (c.spots.ensures.all q (subst (λ (r : Map). IsSome (map.get r q)) (sym ready) k))) in
     let to : c.hand.new.to ≡ handed m c.args.plan.now =
-    c.hand.ensures.to ∙ ap (λ (r : Map). taken r c.deref.result.now c.fill.new.parent) ready ∙ merged m c.args.plan.now c.deref.result.now there back c.fill.new.parent ∙ ap (lent m (shared_of c.args.plan.now)) c.fill.ensures.parent in
-    subst (λ (p : Plain). record { map = c.hand.new.to; own = c.self.inside.own.items; moved = c.self.inside.moved } ≡ with_map p (handed p.map c.args.plan.now)) c.self.view_is (ap (λ (z : Map). record { map = z; own = c.self.inside.own.items; moved = c.self.inside.moved }) to)
+    c.hand.ensures.to ∙ ap (λ (r : Map). taken r c.deref.result.now c.fill.new.parent) ready
+    ∙ merged m c.args.plan.now c.deref.result.now there back c.fill.new.parent
+    ∙ ap (lent m (shared_of c.args.plan.now)) c.fill.ensures.parent in
+    subst (λ (p : Plain). record { map = c.hand.new.to; own = c.self.inside.own.items; moved = c.self.inside.moved }
+    ≡ with_map p (handed p.map c.args.plan.now)) c.self.view_is
+    (ap (λ (z : Map). record { map = z; own = c.self.inside.own.items; moved = c.self.inside.moved }) to)

@@ -8,5 +8,6 @@ use Rattle.sp_types.proofs.seen.Seen.contains.Goals as goal
 pub returns : goal.returns
 returns c =
     c.contains.ensures ∙
-    found_by c.self.inside.list.items c.self.inside.set.keys c.args.o c.key_of-key.result c.key_of-key.ensures c.self.invariant ∙
+    found_by c.self.inside.list.items c.self.inside.set.keys c.args.o c.key_of-key.result c.key_of-key.ensures
+    c.self.invariant ∙
     ap (λ (xs : List Ordinal). list_any (same c.args.o) xs) c.self.view_is

@@ -1,4 +1,5 @@
-use Rattle.std.proofs.Common.{◌≡◌, ℕ, ◌+◌, ◌*◌, ◌/◌, ◌<◌, ◌≤◌, ◌-◌, ◌⊎◌, ◌||◌, length, get_or, arith, inl, inr, bit_or, ap, ◌∙◌, subst}
+use Rattle.std.proofs.Common.{◌≡◌, ℕ, ◌+◌, ◌*◌, ◌/◌, ◌<◌, ◌≤◌, ◌-◌, ◌⊎◌, ◌||◌, length, get_or, arith, inl, inr, bit_or}
+use Rattle.std.proofs.Common.{ap, ◌∙◌, subst}
 use Rattle.std.proofs.lemmas.Bool.{cases_lt}
 use Rattle.sp_varsets.specs.Members.{joined, in_words}
 use Rattle.sp_varsets.proofs.Words.{joined_words}
@@ -19,6 +20,8 @@ returns-clause-added c x w =
     let place : (x / 64 < first + c.words.k) ⊎ (length c.args.set.now.words ≤ x / 64) =
     elim (cases_lt (x / 64) (first + c.words.k)) [ inl h ↦ inl h | inr h ↦ inr (omega arith) ] in
     let all = joined_words c.args.self.now.words c.words.self.words c.args.set.now.words first c.words.k
-    (λ j h. c.words.invariant.2 j h ∙ ap (λ z. bit_or (get_or c.args.self.now.words j 0) (get_or z (first + j) 0)) c.items-others.ensures)
+    (λ j h. c.words.invariant.2 j h ∙ ap (λ z. bit_or (get_or c.args.self.now.words j 0) (get_or z (first + j) 0))
+    c.items-others.ensures)
     c.words.invariant.3 x low place in
-    subst (λ f. in_words c.words.self.words (x - 64 * f) ≡ in_words c.args.self.now.words (x - 64 * first) || in_words c.args.set.now.words x) (Rattle.std.proofs.Common.sym c.words.invariant.0) all
+    subst (λ f. in_words c.words.self.words (x - 64 * f) ≡ in_words c.args.self.now.words (x - 64 * first)
+    || in_words c.args.set.now.words x) (Rattle.std.proofs.Common.sym c.words.invariant.0) all

@@ -7,7 +7,11 @@ use Rattle.sp_varsets.specs.Adds.{Adds}
 use Rattle.sp_varsets.proofs.uses.Uses.+uses.Given as goal
 
 abbrev pub invariant-actuals-loop-a : goal.invariant-actuals-loop-a
-invariant-actuals-loop-a l = (z : Uses) → Adds l.self z (In_actuals (bare_actuals (actuals (map actual_of (drop l.a-index l.args))))) → Adds l.fn.self z (In_actuals (bare_actuals (actuals (map actual_of l.args))))
+invariant-actuals-loop-a l = (z : Uses) → Adds l.self z
+    (In_actuals (bare_actuals (actuals (map actual_of (drop l.a-index l.args)))))
+    → Adds l.fn.self z (In_actuals (bare_actuals (actuals (map actual_of l.args))))
 
 abbrev pub invariant-selectors-loop-s : goal.invariant-selectors-loop-s
-invariant-selectors-loop-s l = (z : Uses) → Adds l.self z (In_selectors (bare_selectors (selectors (map selector_of (drop l.s-index l.ss))))) → Adds l.fn.self z (In_selectors (bare_selectors (selectors (map selector_of l.ss))))
+invariant-selectors-loop-s l = (z : Uses) → Adds l.self z
+    (In_selectors (bare_selectors (selectors (map selector_of (drop l.s-index l.ss)))))
+    → Adds l.fn.self z (In_selectors (bare_selectors (selectors (map selector_of l.ss))))

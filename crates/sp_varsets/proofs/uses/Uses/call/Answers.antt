@@ -5,4 +5,5 @@ use Rattle.sp_varsets.proofs.Adding.{ok_as, adds_then}
 use Rattle.sp_varsets.proofs.uses.Uses.call.Goals as goal
 
 pub returns : goal.returns
-returns c = ok_as c.actuals.result c.actuals.ensures (adds_then (c.in_ok-run.ensures (bare_actuals (actuals (map actual_of c.args.args.now)))))
+returns c = ok_as c.actuals.result c.actuals.ensures
+    (adds_then (c.in_ok-run.ensures (bare_actuals (actuals (map actual_of c.args.args.now)))))

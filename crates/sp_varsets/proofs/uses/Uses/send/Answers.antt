@@ -2,4 +2,5 @@ use Rattle.sp_varsets.proofs.Adding.{ok_as, adds_then}
 use Rattle.sp_varsets.proofs.uses.Uses.send.Goals as goal
 
 pub returns : goal.returns
-returns c = ok_as c.stop.result (ok_as c.stop.result c.stop.ensures (adds_then c.in_ok-expression-2.ensures)) (adds_then c.in_ok-expression.ensures)
+returns c = ok_as c.stop.result (ok_as c.stop.result c.stop.ensures (adds_then c.in_ok-expression-2.ensures))
+    (adds_then c.in_ok-expression.ensures)

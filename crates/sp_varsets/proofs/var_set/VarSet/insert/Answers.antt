@@ -7,7 +7,10 @@ pub returns : goal.returns
 returns c x =
     let ws = c.grow.new.self.words in
     let room = c.in_ok-grow.ensures.words in
-    let e : c.replace-old.new.self ≡ set c.grow.new.self.words (c.args.variable / 64) (bit_or (get_or c.grow.new.self.words (c.args.variable / 64) 0) (1 * 2 ^ (c.args.variable % 64) % 2 ^ 64)) = rw c.items.ensures at c.replace-old.ensures.list in
+    let e : c.replace-old.new.self ≡ set c.grow.new.self.words (c.args.variable / 64)
+    (bit_or (get_or c.grow.new.self.words (c.args.variable / 64) 0) (1 * 2 ^ (c.args.variable % 64) % 2 ^ 64)) =
+    rw c.items.ensures at c.replace-old.ensures.list in
     ap (λ z. in_words z x) e
-    ∙ (put_bit c.grow.new.self.words (c.args.variable / 64) (c.args.variable % 64) c.args.variable x (omega arith) (omega arith) (omega arith)
+    ∙ (put_bit c.grow.new.self.words (c.args.variable / 64) (c.args.variable % 64) c.args.variable x (omega arith)
+    (omega arith) (omega arith)
     ∙ ap (λ b. (c.args.variable == x) || b) (c.in_ok-grow.ensures.same x))

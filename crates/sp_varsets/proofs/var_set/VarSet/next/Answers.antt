@@ -1,4 +1,5 @@
-use Rattle.std.proofs.Common.{◌≡◌, false, ℕ, ◌+◌, ◌*◌, ◌/◌, ◌<◌, ◌≤◌, arith, rules, ◌^◌, inl, inr, slice_get, Option, Some, None, MatchOption}
+use Rattle.std.proofs.Common.{◌≡◌, false, ℕ, ◌+◌, ◌*◌, ◌/◌, ◌<◌, ◌≤◌, arith, rules, ◌^◌, inl, inr, slice_get, Option}
+use Rattle.std.proofs.Common.{Some, None, MatchOption}
 use Rattle.std.proofs.lemmas.Bool.{cases_lt}
 use Rattle.sp_varsets.specs.declared.var_set.VarSet.{VarSet}
 use Rattle.sp_varsets.specs.Members.{has, in_words, IsNext}
@@ -23,11 +24,19 @@ returns-then-rest-ne0 c =
     (omega arith, n.1, n.2)
 
 -- where no member stands in the first word, the next one is that of the words after it
-later : (s : VarSet) (from : ℕ) (o : Option ℕ) → ((x : ℕ) → from ≤ x → x < 64 * (from / 64) + 64 → in_words s.words x ≡ false)
-    → MatchOption o ((x : ℕ) → 64 * (from / 64) + 64 ≤ x → x < 2 ^ 32 → has s x ≡ false) (λ y. IsNext s (64 * (from / 64) + 64) y)
+later : (s : VarSet) (from : ℕ) (o : Option ℕ)
+    → ((x : ℕ) → from ≤ x → x < 64 * (from / 64) + 64 → in_words s.words x ≡ false)
+    → MatchOption o ((x : ℕ) → 64 * (from / 64) + 64 ≤ x → x < 2 ^ 32 → has s x ≡ false)
+    (λ y. IsNext s (64 * (from / 64) + 64) y)
     → MatchOption o ((x : ℕ) → from ≤ x → x < 2 ^ 32 → has s x ≡ false) (λ y. IsNext s from y)
-later s from None first rest = λ x low high. elim (cases_lt x (64 * (from / 64) + 64)) [ inl h ↦ first x low h | inr h ↦ rest x h high ]
-later s from (Some y) first rest = let r = rest.0 in (omega arith, rest.1, λ x low high. elim (cases_lt x (64 * (from / 64) + 64)) [ inl h ↦ first x low h | inr h ↦ rest.2 x h high ])
+later s from None first rest = λ x low high. elim (cases_lt x (64 * (from / 64) + 64))
+    [ inl h ↦ first x low h | inr h ↦ rest x h high ]
+later s from (Some y) first rest = let r = rest.0 in (
+  omega arith,
+  rest.1,
+  λ x low high. elim (cases_lt x (64 * (from / 64) + 64))
+      [ inl h ↦ first x low h | inr h ↦ rest.2 x h high ],
+)
 
 pub returns : goal.returns
 returns c = later c.args.self.now c.args.from c.next_after.result first c.next_after.ensures

@@ -3,4 +3,5 @@ use Rattle.sp_varsets.specs.Records.{slot_at}
 use Rattle.sp_varsets.proofs.walk.Walk.grow.Given as goal
 
 abbrev pub invariant-slots : goal.invariant-slots
-invariant-slots l = (l.self.pool ≡ l.fn.self.pool) × (length l.self.slots ≡ l._k) × ((n : ℕ) → slot_at l.self.slots n ≡ slot_at l.fn.self.slots n)
+invariant-slots l = (l.self.pool ≡ l.fn.self.pool) × (length l.self.slots ≡ l._k)
+    × ((n : ℕ) → slot_at l.self.slots n ≡ slot_at l.fn.self.slots n)

@@ -10,4 +10,8 @@ use Rattle.sp_varsets.specs.Walks.{WalksStatements}
 use Rattle.sp_varsets.proofs.walk.Walk.receives_through.Given as goal
 
 abbrev pub invariant-loop-i : goal.invariant-loop-i
-invariant-loop-i l = (v : Walk) (z : Uses) (channel : Expression) (start : Uses) → AreEmpty start → Adds start l.through (In_expr (bare_expression channel)) → WalksStatements l.self v l.into z (receives (l.number + l.i) l.fn.at channel (map variable_of (drop l.i l.variables))) → WalksStatements l.fn.self v l.fn.into z (receives l.number l.fn.at channel (map variable_of l.variables))
+invariant-loop-i l = (v : Walk) (z : Uses) (channel : Expression) (start : Uses) → AreEmpty start
+    → Adds start l.through (In_expr (bare_expression channel))
+    → WalksStatements l.self v l.into z (receives (l.number + l.i) l.fn.at channel
+    (map variable_of (drop l.i l.variables)))
+    → WalksStatements l.fn.self v l.fn.into z (receives l.number l.fn.at channel (map variable_of l.variables))
