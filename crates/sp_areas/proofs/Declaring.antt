@@ -1,12 +1,11 @@
 -- Declarations one after the other: what is known before each one, and how noting it leads to the next.
 use Rattle.std.proofs.Common.{◌≡◌, ◌⊎◌, inl, inr, ⊎_elim, refl, ap, sym, ◌∙◌, subst, ℕ, ◌+◌, ◌<◌, ◌≤◌, [], length}
-use Rattle.std.proofs.Common.{nat_eq, Option, Some, None, Bool, true, false, cond, arith, eqb-true}
+use Rattle.std.proofs.Common.{Option, Some, None, Bool, true, false, cond, arith, eqb-true}
 use Rattle.std.specs.Prelude.{slice_get, nat_lt, Result, Ok, Err, IfOk}
 use Rattle.std.specs.List.{list_any}
 use Rattle.std.specs.Ordering.{nat_cmp, is_eq}
 use Rattle.std.specs.BTreeSet.{BTreeSet, contains}
 use Rattle.std.proofs.lemmas.Bool.{eq-eqb, lt-ltb, ltb-true, or_cases, or_left, or_right}
-use Rattle.std.proofs.lemmas.Bool.Decides.{nat_tests}
 use Rattle.std.proofs.lemmas.Option.{slice_get_within, none-some, same_Some}
 use Rattle.sp_base.proofs.Facts.{less_same_or_more, tie_is_equal}
 use Rattle.sp_code.specs.declared.code.Layout.{Layout}

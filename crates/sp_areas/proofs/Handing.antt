@@ -1,8 +1,8 @@
 -- The steps of a search for owners: each hands on what is true, and where it changes nothing, it leaves nothing to be
 -- handed on.
-use Rattle.std.proofs.Common.{◌≡◌, ◌⊎◌, inl, inr, ⊎_elim, refl, ap, sym, ◌∙◌, subst, ℕ, zero, suc, ◌+◌, ◌<◌, ◌≤◌, List}
+use Rattle.std.proofs.Common.{◌≡◌, ◌⊎◌, inl, inr, ⊎_elim, refl, ap, sym, ◌∙◌, subst, ℕ, zero, suc, ◌+◌, ◌<◌, List}
 use Rattle.std.proofs.Common.{[], ◌∷◌, length, Option, Some, None, Bool, true, false, ◌||◌, if◌then◌else◌, arith}
-use Rattle.std.specs.Prelude.{slice_get, slice_set, nat_lt, Result, Ok, Err, IfOk}
+use Rattle.std.specs.Prelude.{slice_get, slice_set, Result, Ok, Err, IfOk}
 use Rattle.std.proofs.lemmas.List.Sums.{sum_by-set}
 use Rattle.std.proofs.lemmas.Option.{slice_get_within, get_or_from_slice_get, none-some, same_Some}
 use Rattle.sp_base.proofs.Facts.{below_or_last, not_true_and_false}

@@ -1,6 +1,6 @@
 -- Which layouts have no home: two of one block, and those that are not led to block 0.
 use Rattle.std.proofs.Common.{◌≡◌, ◌≢◌, ◌⊎◌, inl, inr, ⊎_elim, refl, ap, sym, ◌∙◌, subst, ℕ, zero, suc, ◌+◌, ◌<◌, ◌==◌}
-use Rattle.std.proofs.Common.{List, [], ◌∷◌, length, replicate, Option, Some, None, Bool, true, false}
+use Rattle.std.proofs.Common.{List, [], ◌∷◌, length, Option, Some, None, Bool, true, false}
 use Rattle.std.proofs.Common.{◌||◌, arith, eqb-true}
 use Rattle.std.specs.Prelude.{slice_get}
 use Rattle.std.proofs.lemmas.Bool.{eq-eqb, or_cases, or_left, or_right}

@@ -1,6 +1,6 @@
 -- Whether an instruction may stand where it does, by whose it is.
 use Rattle.std.proofs.Common.{◌≡◌, ◌⊎◌, inl, inr, ⊎_elim, refl, ap, sym, ◌∙◌, ℕ, ◌+◌, ◌≤◌, ◌==◌, List, [], ◌∷◌, length}
-use Rattle.std.proofs.Common.{Option, Some, None, Bool, true, false, ◌||◌, arith, eqb-true}
+use Rattle.std.proofs.Common.{Option, Some, true, ◌||◌, arith, eqb-true}
 use Rattle.std.specs.Prelude.{not, nat_le}
 use Rattle.std.proofs.lemmas.Bool.{le-leb, eq-eqb, and_from, and_parts, not-true, not_from_false, or_cases, or_left}
 use Rattle.std.proofs.lemmas.Bool.{or_right}
@@ -12,8 +12,8 @@ use Rattle.sp_areas.specs.declared.owners.Owner.TheVariants as owner
 use Rattle.sp_rules.specs.Areas.{Area, Body, Child, instr_at}
 use Rattle.sp_rules.specs.Reach.{IsIn, nexts}
 use Rattle.sp_rules.specs.Named.{Shared, Misplaced, ends_well}
-use Rattle.sp_areas.specs.Owners.{owner_of, IsOnly, Owns, listed}
-use Rattle.sp_areas.specs.Placed.{ends_as, has_way, runs_past, fails_placed, leads}
+use Rattle.sp_areas.specs.Owners.{owner_of, IsOnly, Owns}
+use Rattle.sp_areas.specs.Placed.{ends_as, has_way, runs_past, fails_placed}
 
 has_in : (q : ℕ) (ns : List ℕ) → has_way q ns ≡ true → IsIn q ns
 has_in q [] e = absurd (cc e)

@@ -2,8 +2,8 @@
 -- come to all that a way leads to.
 use Rattle.std.proofs.Common.{◌≡◌, ◌⊎◌, inl, inr, ⊎_elim, refl, ap, sym, ◌∙◌, subst, ℕ, zero, suc, ◌+◌, ◌<◌, ◌≤◌, List}
 use Rattle.std.proofs.Common.{[], ◌∷◌, length, Option, Some, None, Bool, true, false, arith}
-use Rattle.std.specs.Prelude.{slice_get, slice_set, replicate, not, get_or, Result, Ok, Err, OnOk, IsTrue, ◌↔◌}
-use Rattle.std.proofs.lemmas.List.{length-set, length-replicate}
+use Rattle.std.specs.Prelude.{slice_get, slice_set, not, get_or, Result, Ok, Err, OnOk, IsTrue, ◌↔◌}
+use Rattle.std.proofs.lemmas.List.{length-set}
 use Rattle.std.proofs.lemmas.List.Sums.{sum_by-set}
 use Rattle.std.proofs.lemmas.Option.{slice_get_within, slice_get-get_or, get_or_from_slice_get, none-some}
 use Rattle.sp_base.proofs.Facts.{less_same_or_more, not_true_and_false}
@@ -21,7 +21,7 @@ use Rattle.sp_areas.specs.Least.{IsLeast}
 use Rattle.sp_areas.specs.Owners.{Owns, AreOwners, is_same, listed}
 use Rattle.sp_areas.specs.Rounds.{has_owner, number_at, FallsFrom, before, BreaksAt, Strays, gap, gaps, with_flag}
 use Rattle.sp_areas.specs.Rounds.{AreLed, Widens, IsAt, IsDone}
-use Rattle.sp_areas.proofs.Handing.{in_listed, way_first, way_second}
+use Rattle.sp_areas.proofs.Handing.{way_first, way_second}
 use Rattle.sp_areas.proofs.Owning.{along}
 
 -- ---- owners

@@ -1,9 +1,8 @@
 -- Where rule V1 is broken, a pass finds something there or at a lower instruction; and what it finds breaks the rule.
 -- So the least of what the passes find is the least instruction at which the rule is broken.
 use Rattle.std.proofs.Common.{◌≡◌, ◌⊎◌, inl, inr, ⊎_elim, refl, ap, sym, ◌∙◌, subst, ℕ, zero, suc, ◌+◌, ◌<◌, ◌≤◌, List}
-use Rattle.std.proofs.Common.{length, Option, Some, None, Bool, true, false, arith}
+use Rattle.std.proofs.Common.{length, Option, Some, None, Bool, arith}
 use Rattle.std.specs.Prelude.{slice_get, nat_lt}
-use Rattle.std.proofs.lemmas.Bool.Decides.{nat_tests}
 use Rattle.std.proofs.lemmas.Option.{slice_get_cases}
 use Rattle.std.proofs.lemmas.Bool.{cases_lt, le-ltb}
 use Rattle.sp_code.specs.declared.instr.Instr.{Instr}

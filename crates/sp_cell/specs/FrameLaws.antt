@@ -2,11 +2,11 @@
 -- Laws of frame numbers, and of frames pushed and popped. The proofs of the store, the machine and the code above use
 -- them; they stand here since they speak of no representation.
 use Rattle.std.specs.Prelude.{◌≡◌, ◌≢◌, ◌⊎◌, ℕ, zero, suc, ◌+◌, ◌-◌, ◌≤◌, ◌<◌, ◌==◌, ◌||◌, not, cond, Bool, true, false}
-use Rattle.std.specs.Prelude.{List, [], ◌∷◌, ◌++◌, length, max, take, replicate, Option, None, Some, IsSome}
+use Rattle.std.specs.Prelude.{List, [], ◌∷◌, ◌++◌, length, max, replicate, Option, None, Some, IsSome}
 use Rattle.std.proofs.Common.{T, sym, ap, refl, ◌∙◌, get_or, arith, inl, inr}
 use Rattle.std.proofs.Math.Facts.{yes_eqb}
 use Rattle.std.proofs.lemmas.Bool.{cases_lt, cases_eq, eqb-true}
-use Rattle.std.proofs.lemmas.List.{get_or-take, length-take-le, get_or-append_right}
+use Rattle.std.proofs.lemmas.List.{get_or-append_right}
 use Rattle.std.proofs.Math.ListN.{get_or-append, length-append}
 use mathlib.Core.Bool.{false≢true}
 use Rattle.std.specs.List.{list_any}
@@ -19,7 +19,7 @@ use Rattle.sp_cell.specs.declared.cell.Cell.TheVariants.{Undefined}
 use Rattle.sp_cell.specs.Map.{Map, Content, Own, Plain, spot_cmp}
 use Rattle.std.proofs.lemmas.Cmp.{tied_itself}
 use Rattle.sp_cell.specs.Order.{spot_same, spot_total}
-use Rattle.sp_cell.specs.Frame.{above, frames, with_pieces, without, next_frame, newest, pushed, popped, IsRising}
+use Rattle.sp_cell.specs.Frame.{above, frames, with_pieces, without, next_frame, newest, pushed, IsRising}
 use Rattle.sp_cell.specs.Laws.{get_other, same_or, same_map}
 
 -- ---- numbers

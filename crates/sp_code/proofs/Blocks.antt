@@ -1,5 +1,5 @@
 -- The code of a program has exactly the tree's length, and all its blocks stand in it.
-use Rattle.std.proofs.Common.{Option, ap, Bool, ◌∙◌, ◌≡◌, ℕ, zero, suc, ◌+◌, List, [], ◌∷◌, ◌++◌, length, Some, refl}
+use Rattle.std.proofs.Common.{ap, Bool, ◌∙◌, ◌≡◌, ℕ, zero, suc, ◌+◌, List, [], ◌∷◌, ◌++◌, length, Some, refl}
 use Rattle.std.proofs.Common.{sym, subst, arith}
 use Rattle.std.proofs.Common.{zero-add}
 use Rattle.std.specs.Prelude.{slice_get, ◌≢◌, if◌then◌else◌}
@@ -18,7 +18,7 @@ use Rattle.sp_code.specs.Places.{after, after_block}
 use Rattle.sp_code.specs.Lengths.{stmt_length, tree_length}
 use Rattle.sp_code.specs.Emitted.{tables_in, texts_in, texts_of, end_instr, code, tables, block_code, blocks_code}
 use Rattle.sp_code.specs.Emitted.{blocks_texts, layout_of, layouts_from, blocks_tables, program_code}
-use Rattle.sp_code.specs.Stands.{AnyInstr, AnyTable, AnyText, HasAt, BlockAt, BlocksAt, IsFine}
+use Rattle.sp_code.specs.Stands.{HasAt, BlockAt, BlocksAt, IsFine}
 use Rattle.sp_code.proofs.Counts.{last_count, blocks_count, code_count, stmt_after}
 use Rattle.sp_code.proofs.Standing.{has_front, has_back, stands, code_stop, tables_stop, texts_stop}
 

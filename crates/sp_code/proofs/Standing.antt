@@ -21,7 +21,7 @@ use Rattle.sp_code.specs.declared.code.ForkTable.{ForkTable}
 use Rattle.sp_code.specs.declared.code.Parts.{Parts}
 use Rattle.sp_code.specs.Scopes.{Sort, Ordinals, Channels, Many, NoSort, Scope, OfIndex, is_given, kind_at, sort, size}
 use Rattle.sp_code.specs.Scopes.{slot, second_or, element_type, field_type, selected_type, type_by, type_of}
-use Rattle.sp_code.specs.Places.{after_value, after_form, after_var, after_actuals, after_width, after_right}
+use Rattle.sp_code.specs.Places.{after_value, after_form, after_var, after_actuals, after_width}
 use Rattle.sp_code.specs.Places.{after_test, after_tests, after, after_arms}
 use Rattle.sp_code.specs.Emitted.{or_none, unary_code, standard_code, input_instr, read_instr, index_instr, field_instr}
 use Rattle.sp_code.specs.Emitted.{write_instr, reading_instr, assign_instr, addr_by, addr_of, call_up, call_instr}
@@ -33,9 +33,9 @@ use Rattle.sp_code.specs.Stands.{AnyInstr, AnyTable, AnyText, Stands, HasFork, H
 use Rattle.sp_code.specs.Stands.{UnaryAt, StandardAt, InputAt, Around, CallAt, ValueAt, FormAt, PlaceAt, SelectedAt}
 use Rattle.sp_code.specs.Stands.{ActualsAt, OrdinalAt, WidthAt, ReadsAt, RightAt, TestAt, TestsAt, StandsAt, AllAt}
 use Rattle.sp_code.specs.Stands.{ChildrenAt, ArmsAt}
-use Rattle.sp_code.proofs.Counts.{value_after, form_after, var_after, actuals_after, width_after, right_after}
+use Rattle.sp_code.proofs.Counts.{value_after, form_after, var_after, actuals_after, width_after}
 use Rattle.sp_code.proofs.Counts.{tests_after, stmt_after, value_count, form_count, var_count, actuals_count}
-use Rattle.sp_code.proofs.Counts.{width_count, right_count, tests_count, code_count, texts_count, tables_count}
+use Rattle.sp_code.proofs.Counts.{width_count, tests_count, code_count, texts_count, tables_count}
 
 -- the first part of what stands at q, and the part behind it
 pub has_front : {X : Type 0} (xs : List X) (q : ℕ) (a b : List X) → HasAt xs q (a ++ b) → HasAt xs q a

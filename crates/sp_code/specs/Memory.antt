@@ -1,7 +1,7 @@
 -- All of this belongs to what the program promises (docs/promise.txt).
 -- The memory of a process: its frames and its counts beside its store. It is the memory with which the machine's
 -- definition runs; the store is left open, for the plain maps of PlainStore.antt.
-use Rattle.std.specs.Prelude.{ℕ, zero, suc, ◌+◌, ◌-◌, ◌==◌, pos, nat_abs, List, [], ◌∷◌, Option, Some, None, Bool, true}
+use Rattle.std.specs.Prelude.{ℕ, zero, suc, ◌+◌, ◌-◌, pos, nat_abs, List, [], ◌∷◌, Option, Some, None, Bool, true}
 use Rattle.std.specs.Prelude.{false, ◌&&◌, if◌then◌else◌, nat_lt, nat_le, length, drop, sum, slice_set, slice_index_or}
 use Rattle.sp_base.specs.declared.fault.Fault.TheVariants as fault
 use Rattle.sp_base.specs.declared.limits.Limits.{Limits}

@@ -1,8 +1,8 @@
 -- All of this belongs to what the program promises (docs/promise.txt).
 -- Types, frames and scopes of a checked tree, as code needs them: sizes, offsets, slots and levels. The definition of
 -- code, its lengths and the generator's contracts share it.
-use Rattle.std.specs.Prelude.{ℕ, zero, suc, ◌==◌, List, [], ◌∷◌, ◌++◌, Option, Some, None, Bool, true, false}
-use Rattle.std.specs.Prelude.{if◌then◌else◌, slice_get, map, sum, take, length}
+use Rattle.std.specs.Prelude.{ℕ, suc, ◌==◌, List, [], ◌∷◌, ◌++◌, Option, Some, None, Bool, true, false}
+use Rattle.std.specs.Prelude.{if◌then◌else◌, slice_get, map, sum, take}
 use Rattle.sp_tree.specs.declared.checked.KindOf.{KindOf}
 use Rattle.sp_tree.specs.declared.checked.KindOf.TheVariants as kind
 use Rattle.sp_tree.specs.declared.checked.Role.{Role}

@@ -1,7 +1,7 @@
 -- Some of this belongs to what the program promises (docs/promise.txt).
 -- The code of a tree stands: which instruction stands at which place, and what the rules of names, types and variables
 -- give there. The simulation of generated code starts from it, statement by statement, and sp_facts gives the facts.
-use Rattle.std.specs.Prelude.{◌≡◌, ◌⊎◌, ℕ, ◌+◌, ℤ, pos, List, [], ◌∷◌, Option, Some, None, Bool, true, false}
+use Rattle.std.specs.Prelude.{◌≡◌, ℕ, ◌+◌, ℤ, pos, List, [], ◌∷◌, Option, Some, None, Bool, true, false}
 use Rattle.std.specs.Prelude.{if◌then◌else◌, slice_get, drop}
 use Rattle.sp_tree.specs.declared.checked.KindOf.{KindOf}
 use Rattle.sp_tree.specs.declared.checked.KindOf.TheVariants as kind

@@ -13,7 +13,7 @@ use Rattle.sp_codefile.specs.declared.item.Item.{Item}
 use Rattle.sp_codefile.specs.declared.item.Item.TheVariants as item
 use Rattle.sp_codefile.specs.CodeText.{line, code_text, LayoutFits, ChildFits, TableFits, InstrFits, IsByte, IsCode}
 use Rattle.sp_codefile.specs.Items.{last_children, with_child, item_text, CanFollow, after_item}
-use Rattle.sp_codefile.proofs.ItemLaws.{text_step, code_step}
+use Rattle.sp_codefile.proofs.ItemLaws.{text_step}
 
 -- these items, each of which can follow, lead from some parts to others
 abbrev pub Leads : Parts → List Item → Parts → Type 0

@@ -15,7 +15,7 @@ use Rattle.sp_cell.specs.Fork.{index_frame, handed, joined, moved_of, shared_of}
 use Rattle.sp_cell.specs.Map.{Map, Plain, output_spot, with_map}
 use Rattle.sp_cell.specs.Spots.{In, NotIn}
 use Rattle.sp_meaning.specs.Model.{Name, Channel}
-use Rattle.sp_meaning.specs.Own.{Setting, Loc, Cell, Input, Output, Own, Who, Item}
+use Rattle.sp_meaning.specs.Own.{Setting, Loc, Output, Own, Who}
 use Rattle.sp_meaning.specs.Deeds.{Birth, push, size_of_frame}
 use Rattle.sp_meaning.specs.Run.{Store}
 use Rattle.sp_meaning.specs.SuperPascal.{root, first_store}
@@ -23,7 +23,7 @@ use Rattle.sp_code.specs.declared.code.ChildTable.{ChildTable}
 use Rattle.sp_code.specs.declared.instr.Instr.TheVariants as i
 use Rattle.sp_code.specs.Emitted.{program_code, child_table}
 use Rattle.sp_code.specs.Machine.{Entry, Config, At, layout_of}
-use Rattle.sp_code.specs.Memory.{Memory, first, first_memory, entry_of, position_at}
+use Rattle.sp_code.specs.Memory.{Memory, first, first_memory, entry_of}
 use Rattle.sp_code.specs.Places.{after}
 use Rattle.sp_code.specs.PlainStore.{plain}
 use Rattle.sp_code.specs.Quiet.{IsQuiet}

@@ -38,9 +38,9 @@ use Rattle.sp_meaning.proofs.Entered.{fresh, fresh_linked, fresh_sound}
 use Rattle.sp_code.specs.declared.code.Layout.{Layout}
 use Rattle.sp_code.specs.declared.instr.Instr.{Instr}
 use Rattle.sp_code.specs.declared.instr.Instr.TheVariants as i
-use Rattle.sp_code.specs.Machine.{Entry, Did, Done, Failed, Stop, Opens, Sends, Receives, Forks, Ops, Config, One, Goes}
+use Rattle.sp_code.specs.Machine.{Entry, Did, Done, Failed, Sends, Receives, Forks, Config, One, Goes}
 use Rattle.sp_code.specs.Machine.{Stops, Fails, outside, when, there, paced, then_go, values_in, fit_formals}
-use Rattle.sp_code.specs.Machine.{instruction, one, layout_of}
+use Rattle.sp_code.specs.Machine.{instruction, one}
 use Rattle.sp_code.specs.Machine as m
 use Rattle.sp_code.specs.Turns.{Comes}
 use Rattle.sp_code.specs.Scopes.{Sort, Ordinals, Channels, Many, NoSort, Scope, sort, sort_by, size, slot, kind_of}

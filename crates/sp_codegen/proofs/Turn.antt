@@ -12,9 +12,9 @@ use Rattle.sp_cell.specs.declared.cell.Cell.{Cell}
 use Rattle.sp_cell.specs.declared.cell.Cell.TheVariants as cell
 use Rattle.sp_cell.specs.declared.spot.Address.{Address as Ptr}
 use Rattle.sp_meaning.specs.Values.{Value, Undefined, Ordinal, Chan, Parts, get_at}
-use Rattle.sp_meaning.specs.Own.{Setting, Loc, Held, Address, Home, OfBlock, OfIndex, Frame, Own, Who, Item, Do, First}
-use Rattle.sp_meaning.specs.Own.{Again, Test, Leave, Break, Came, Got, Bad, Lost, Long, Work, bind, give, fail, mine}
-use Rattle.sp_meaning.specs.Own.{fetch, same_loc, value_in, is_block, seek}
+use Rattle.sp_meaning.specs.Own.{OfBlock, Frame, Own, Item, Do, First}
+use Rattle.sp_meaning.specs.Own.{Again, Test, Leave, Break, Came, Got, Bad, Lost, Long, Work, bind, give, fail}
+use Rattle.sp_meaning.specs.Own.{fetch, value_in, is_block}
 use Rattle.sp_meaning.specs.Own as own
 use Rattle.sp_meaning.specs.Owning.{Gave}
 use Rattle.sp_meaning.specs.Eval.{At, Given, Calls, ordinal, checked, ordinal_read, kind_at, read_at, address_of}
@@ -28,8 +28,8 @@ use Rattle.sp_meaning.specs.Turn as source
 use Rattle.sp_meaning.proofs.Run.{then_run, run_bind}
 use Rattle.sp_code.specs.declared.code.Layout.{Layout}
 use Rattle.sp_code.specs.declared.instr.Instr.TheVariants as i
-use Rattle.sp_code.specs.Machine.{Entry, Did, Done, Failed, Stop, Ops, Config, One, Goes, Stops, Fails, outside, when}
-use Rattle.sp_code.specs.Machine.{there, ordinal_in, paced, then_go, one, layout_of}
+use Rattle.sp_code.specs.Machine.{Entry, Did, Done, Failed, Stop, Config, One, Goes, Stops, Fails, outside, when}
+use Rattle.sp_code.specs.Machine.{there, ordinal_in, paced, one}
 use Rattle.sp_code.specs.Machine as m
 use Rattle.sp_code.specs.Scopes.{Sort, Ordinals, Channels, Many, NoSort, Scope, sort, sort_by, slot, level, is_given}
 use Rattle.sp_code.specs.Scopes.{scopes_of}

@@ -39,7 +39,7 @@ use Rattle.sp_meaning.specs.Run.{Store, run}
 use Rattle.sp_meaning.proofs.Within.{part}
 use Rattle.sp_code.specs.declared.instr.Instr.{Instr}
 use Rattle.sp_code.specs.declared.instr.Instr.TheVariants as i
-use Rattle.sp_code.specs.Machine.{further, Entry, Ops, Config, One, Goes, Fails, Stuck, when, there, worked, on_two}
+use Rattle.sp_code.specs.Machine.{further, Entry, Config, One, Goes, Fails, when, there, worked}
 use Rattle.sp_code.specs.Machine.{ordinal_in, channel_in, instruction, one}
 use Rattle.sp_code.specs.Machine as m
 use Rattle.sp_code.specs.Turns.{Comes}

@@ -20,8 +20,8 @@ use Rattle.sp_meaning.specs.Deeds as deeds
 use Rattle.sp_meaning.specs.Run.{Store}
 use Rattle.sp_code.specs.declared.code.Parts.{Parts as Code}
 use Rattle.sp_code.specs.declared.instr.Instr.TheVariants as i
-use Rattle.sp_code.specs.Machine.{Entry, Did, Done, Failed, Stop, Opens, Sends, Receives, Forks, Ends as Ended, Pauses}
-use Rattle.sp_code.specs.Machine.{Ops, Config, At, One, Goes, Stops, Fails, outside, paced, then_go, one, instruction}
+use Rattle.sp_code.specs.Machine.{Entry, Stop, Opens, Sends, Receives, Forks, Ends as Ended, Pauses}
+use Rattle.sp_code.specs.Machine.{Ops, Config, At, Stops, Fails, outside, paced, one}
 use Rattle.sp_code.specs.Machine.{values_in}
 use Rattle.sp_code.specs.Machine as m
 use Rattle.sp_code.specs.Turns.{Comes}

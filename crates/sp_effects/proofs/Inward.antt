@@ -1,6 +1,6 @@
 -- A block is called inside itself where it is just inside the level of the call.
 use Rattle.std.proofs.Common.{◌≡◌, ◌⊎◌, inl, inr, ⊎_elim, refl, sym, ap, subst, ◌∙◌, ℕ, zero, suc, ◌+◌, ◌-◌, ◌<◌, ◌==◌}
-use Rattle.std.proofs.Common.{List, Option, Some, None, Bool, true, false, ◌||◌, length, replicate, arith, eqb-true}
+use Rattle.std.proofs.Common.{List, Option, Some, None, Bool, true, false, ◌||◌, length, arith, eqb-true}
 use Rattle.std.specs.Prelude.{slice_get, nat_lt}
 use Rattle.std.specs.BTreeMap.{BTreeMap}
 use Rattle.std.proofs.lemmas.Bool.{eq-eqb, and_from, and_parts, or_cases, or_left, or_right}

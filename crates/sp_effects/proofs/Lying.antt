@@ -1,12 +1,10 @@
 -- Each instruction lies in one area, which is known by its first instruction.
-use Rattle.std.proofs.Common.{◌≡◌, inl, refl, ap, sym, ◌∙◌, subst, ℕ, zero, suc, ◌<◌, List, [], ◌∷◌, length, Option}
+use Rattle.std.proofs.Common.{◌≡◌, inl, refl, ap, sym, ◌∙◌, subst, ℕ, ◌<◌, List, length, Option}
 use Rattle.std.proofs.Common.{Some, None, arith}
 use Rattle.std.specs.Prelude.{slice_get, MatchOption}
-use Rattle.std.proofs.lemmas.Option.{slice_get_within}
 use Rattle.sp_base.proofs.Facts.{item_is_not_none}
-use Rattle.sp_code.specs.declared.instr.Instr.{Instr}
 use Rattle.sp_code.specs.declared.code.Parts.{Parts}
-use Rattle.sp_rules.specs.Areas.{Area, Body, Child, instr_at, entry, entry_of_layout, entry_of_child}
+use Rattle.sp_rules.specs.Areas.{Area, Body, Child, entry, entry_of_layout, entry_of_child}
 use Rattle.sp_rules.specs.Reach.{IsArea}
 use Rattle.sp_rules.specs.Named.{BreaksV1, InTwo, LiesIn}
 use Rattle.sp_areas.specs.declared.owners.Owner.{Owner}

@@ -4,22 +4,20 @@ use Rattle.std.proofs.Common.{◌∷◌, length, take, Option, Some, None, Bool,
 use Rattle.std.specs.Prelude.{slice_get, Result, Ok, Err, OnOk}
 use Rattle.sp_code.specs.declared.instr.Instr.{Instr}
 use Rattle.sp_code.specs.declared.code.Parts.{Parts}
-use Rattle.sp_rules.specs.Areas.{Area, instr_at, child_at, child_of, table_at, table_named, entry}
+use Rattle.sp_rules.specs.Areas.{Area, instr_at, entry}
 use Rattle.sp_rules.specs.Shapes.{Shape}
 use Rattle.sp_rules.specs.Reach.{IsIn}
 use Rattle.sp_rules.specs.Touched.{stored_by, loaded_by}
 use Rattle.sp_rules.specs.Verdict.{is_stop}
 use Rattle.sp_rules.proofs.Walking.{passes}
 use Rattle.sp_rules.specs.Rules.{ComesTo}
-use Rattle.sp_rules.specs.Named.{LiesIn}
 use Rattle.sp_areas.specs.Only.{LiesOnlyIn}
 use Rattle.sp_tree.specs.Interference.{IsMember}
 use Rattle.sp_code.specs.declared.code.ChildTable.{ChildTable}
-use Rattle.sp_code.specs.declared.code.ForkTable.{ForkTable}
 use Rattle.sp_shapes.specs.declared.shapes.Shapes.{Shapes}
 use Rattle.sp_shapes.specs.Shapes.{AreShapes}
 use Rattle.sp_shapes.specs.Stacks.{list_of}
-use Rattle.std.proofs.lemmas.Option.{slice_get_within, none-some, same_Some}
+use Rattle.std.proofs.lemmas.Option.{none-some, same_Some}
 use Rattle.sp_base.proofs.Facts.{below_or_last}
 use Rattle.sp_effects.specs.declared.facts.Fact.{Fact}
 use Rattle.sp_effects.specs.declared.facts.Deed.{Deed}

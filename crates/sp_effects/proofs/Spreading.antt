@@ -7,15 +7,14 @@ use Rattle.std.proofs.lemmas.Bool.{eq-eqb, and_from, and_parts, or_cases, or_lef
 use Rattle.std.proofs.lemmas.Option.{slice_get_within, none-some, same_Some}
 use Rattle.sp_base.proofs.Facts.{below_or_last}
 use Rattle.sp_code.specs.declared.code.Layout.{Layout}
-use Rattle.sp_rules.specs.Reach.{IsIn}
 use Rattle.sp_effects.specs.declared.edges.Edge.{Edge}
 use Rattle.sp_effects.specs.declared.facts.Fact.{Fact}
 use Rattle.sp_effects.specs.declared.facts.Deed.{Deed}
 use Rattle.sp_effects.specs.Facts.{has_fact, with_fact, pair_cmp, has_pair, Tells}
-use Rattle.sp_effects.specs.Closing.{AddsPairs, IsOwnOf, IsOwnIn, fact_along, AlongOne, Leads, Follows, ClosesTo}
+use Rattle.sp_effects.specs.Closing.{AddsPairs, IsOwnOf, fact_along, AlongOne, Leads, Follows, ClosesTo}
 use Rattle.sp_effects.specs.Closing.{Closes}
 use Rattle.sp_effects.specs.Closing.{is_own}
-use Rattle.sp_effects.proofs.Telling.{told_place, place_told, told_on, tells_none, tells_as, tells_then, tells_one}
+use Rattle.sp_effects.proofs.Telling.{told_place, place_told, told_on, tells_as, tells_then, tells_one}
 use Rattle.sp_effects.proofs.Telling.{pair_put}
 use Rattle.sp_effects.proofs.Owns.{in_taken, taken_in}
 

@@ -13,7 +13,6 @@ use Rattle.sp_journal.specs.declared.outcome.End.{End}
 use Rattle.sp_journal.specs.declared.outcome.End.TheVariants as end
 use Rattle.sp_journal.specs.Births.{Births, at_start, after_entry, occurrences_from, NameableFrom, IsNameable}
 use Rattle.sp_cell.specs.Map.{Plain}
-use Rattle.sp_meaning.specs.Model.{Name}
 use Rattle.sp_meaning.specs.Own.{Setting}
 use Rattle.sp_meaning.specs.Runs.{StateOf}
 use Rattle.sp_meaning.specs.Along.{IsAlong}

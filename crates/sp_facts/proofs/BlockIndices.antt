@@ -6,28 +6,20 @@ use Rattle.std.proofs.lemmas.Option.{same_Some}
 use Rattle.sp_tree.specs.declared.checked.Role.TheVariants as role
 use Rattle.sp_tree.specs.NameFirst.{together, all_at}
 use Rattle.sp_tree.specs.Scopes as names
-use Rattle.sp_tree.specs.Scopes.{Env, look, find, find_in, or_else}
 use Rattle.sp_tree.specs.NameWalk as w
-use Rattle.sp_tree.specs.NameWalk.{role_of}
 use Rattle.sp_tree.specs.PlainNamed as n
-use Rattle.sp_tree.specs.PlainSyntax.{Expression, At, ExpressionForm, Number, Quoted, Read, Apply, Unary, Binary}
-use Rattle.sp_tree.specs.PlainSyntax.{Variable, Entire, Selector, Index, Field, Selectors, Whole, Select, Argument}
-use Rattle.sp_tree.specs.PlainSyntax.{Pass, Width, NoWidth, Within, Arguments, NoArgument, AndArgument}
+use Rattle.sp_tree.specs.PlainSyntax.{Variable, Index}
 use Rattle.sp_tree.specs.Plain as plain
 use Rattle.sp_facts.proofs.Calm.{calm_parts}
 use Rattle.sp_tree.specs.declared.checked.Variable as checked
-use Rattle.sp_tree.specs.Scopes.{Local, inside, opened, declared, most, variable, next_variable}
-use Rattle.sp_tree.specs.NameWalk.{statement_local, statements_local, other_local, arms_local, arm_local}
-use Rattle.sp_tree.specs.NameWalk.{branches_local, form_local, indexed, deeper}
+use Rattle.sp_tree.specs.Scopes.{Local, inside, opened, next_variable}
+use Rattle.sp_tree.specs.NameWalk.{deeper}
 use Rattle.sp_tree.specs.NamedTree.{named_statement, indices}
-use Rattle.sp_tree.specs.PlainSyntax.{Statement, Does, Form, Empty, Assign, Call, Sequence, If, While, Repeat, Case}
-use Rattle.sp_tree.specs.PlainSyntax.{For, Parallel, Forall, Assume, Other, NoElse, Else, Statements, NoStatement}
-use Rattle.sp_tree.specs.PlainSyntax.{AndThen, Arm, On, Arms, NoArm, Or, Branches, NoBranch, Beside}
+use Rattle.sp_tree.specs.PlainSyntax.{Statement}
 use Rattle.sp_facts.proofs.Numbering.{statement_adds}
-use Rattle.sp_tree.specs.Scopes.{put, closed, next_constant, next_kind, next_block}
-use Rattle.sp_tree.specs.NameWalk.{names_local, formals_local, title_local, answer_local, heading_local}
-use Rattle.sp_tree.specs.NameWalk.{constants_local, kind_local, type_local, parts_local, part_local, block_meaning}
-use Rattle.sp_tree.specs.NameWalk.{references}
+use Rattle.sp_tree.specs.Scopes.{next_block}
+use Rattle.sp_tree.specs.NameWalk.{formals_local, title_local, heading_local}
+use Rattle.sp_tree.specs.NameWalk.{parts_local, part_local}
 use Rattle.sp_tree.specs.NamedTree.{formals_named, answer_named, parts_named, part_named}
 use Rattle.sp_tree.specs.PlainSyntax.{Part, Const, Kind, Var, Proc, Parts, NoPart, Declare}
 use Rattle.sp_facts.proofs.Numbering.{answer_adds, parts_move, part_moves}

@@ -10,7 +10,7 @@ use Rattle.sp_tree.specs.declared.meaning.Meaning.TheVariants as meaning
 use Rattle.sp_tree.specs.declared.syntax.Name.{Name}
 use Rattle.sp_tree.specs.NameFirst.{together, all_at}
 use Rattle.sp_tree.specs.Scopes as names
-use Rattle.sp_tree.specs.Scopes.{Env, look, find, find_in, or_else}
+use Rattle.sp_tree.specs.Scopes.{Env, find}
 use Rattle.sp_tree.specs.NameWalk as w
 use Rattle.sp_tree.specs.NameWalk.{role_of}
 use Rattle.sp_tree.specs.PlainNamed as n
@@ -25,8 +25,7 @@ use Rattle.sp_tree.specs.declared.meaning.Sort.{Sort}
 use Rattle.sp_tree.specs.declared.meaning.Sort.TheVariants as sort
 use Rattle.sp_tree.specs.NameRules.{Declares}
 use Rattle.sp_tree.specs.Scopes.{Local, inside, opened, declared, most, variable, next_variable}
-use Rattle.sp_tree.specs.NameWalk.{statement_local, statements_local, other_local, arms_local, arm_local}
-use Rattle.sp_tree.specs.NameWalk.{branches_local, form_local, indexed, deeper}
+use Rattle.sp_tree.specs.NameWalk.{deeper}
 use Rattle.sp_tree.specs.NamedTree.{named_statement, indices}
 use Rattle.sp_tree.specs.PlainSyntax.{Statement}
 use Rattle.sp_facts.specs.Scoped.{IsInForall, InStatement}
@@ -36,7 +35,7 @@ use Rattle.sp_tree.specs.declared.syntax.SynFormal.{SynFormal}
 use Rattle.sp_tree.specs.declared.syntax.SynKind.{SynKind}
 use Rattle.sp_tree.specs.declared.syntax.SynKind.TheVariants as kinds
 use Rattle.sp_tree.specs.NameRules.{Uses, AsKind}
-use Rattle.sp_tree.specs.Scopes.{put, closed, next_constant, next_kind, next_block}
+use Rattle.sp_tree.specs.Scopes.{put, next_constant, next_kind, next_block}
 use Rattle.sp_tree.specs.NameWalk.{names_local, formals_local, title_local, answer_local, heading_local}
 use Rattle.sp_tree.specs.NameWalk.{constants_local, kind_local, type_local, parts_local, part_local, block_meaning}
 use Rattle.sp_tree.specs.NameWalk.{references}

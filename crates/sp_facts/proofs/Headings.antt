@@ -7,7 +7,7 @@ use Rattle.sp_tree.specs.declared.checked.Role.TheVariants as role
 use Rattle.sp_tree.specs.declared.syntax.Name.{Name}
 use Rattle.sp_tree.specs.NameFirst.{together, all_at}
 use Rattle.sp_tree.specs.Scopes as names
-use Rattle.sp_tree.specs.Scopes.{Env, look, find, find_in, or_else}
+use Rattle.sp_tree.specs.Scopes.{Env, find}
 use Rattle.sp_tree.specs.NameWalk as w
 use Rattle.sp_tree.specs.NameWalk.{role_of}
 use Rattle.sp_tree.specs.PlainNamed as n
@@ -15,16 +15,14 @@ use Rattle.sp_facts.proofs.Calm.{calm_parts}
 use Rattle.std.proofs.lemmas.List.{length-append, append-nil}
 use Rattle.std.proofs.lemmas.Bool.{eqb-true}
 use Rattle.sp_tree.specs.declared.checked.Variable as checked
-use Rattle.sp_tree.specs.Scopes.{Local, inside, opened, declared, most, variable, next_variable}
-use Rattle.sp_tree.specs.NameWalk.{statement_local, statements_local, other_local, arms_local, arm_local}
-use Rattle.sp_tree.specs.NameWalk.{branches_local, form_local, indexed, deeper}
+use Rattle.sp_tree.specs.Scopes.{Local, inside, opened, next_variable}
+use Rattle.sp_tree.specs.NameWalk.{deeper}
 use Rattle.sp_tree.specs.NamedTree.{indices}
 use Rattle.sp_tree.specs.PlainSyntax.{Statement}
 use Rattle.sp_tree.specs.declared.syntax.SynFormal.{SynFormal}
-use Rattle.sp_tree.specs.Scopes.{put, closed, next_constant, next_kind, next_block}
-use Rattle.sp_tree.specs.NameWalk.{names_local, formals_local, title_local, answer_local, heading_local}
-use Rattle.sp_tree.specs.NameWalk.{constants_local, kind_local, type_local, parts_local, part_local, block_meaning}
-use Rattle.sp_tree.specs.NameWalk.{references}
+use Rattle.sp_tree.specs.Scopes.{next_block}
+use Rattle.sp_tree.specs.NameWalk.{formals_local, title_local, heading_local}
+use Rattle.sp_tree.specs.NameWalk.{part_local}
 use Rattle.sp_tree.specs.NamedTree.{kind_number, variables_named, formals_named, numbers, answer_named, parts_named}
 use Rattle.sp_tree.specs.NamedTree.{part_named}
 use Rattle.sp_tree.specs.PlainSyntax.{Part, Const, Kind, Var, Proc, Parts, NoPart, Declare}

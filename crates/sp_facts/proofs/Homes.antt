@@ -17,9 +17,8 @@ use Rattle.sp_tree.specs.NamedTree.{kind_number, formals_named, answer_named, pa
 use Rattle.sp_tree.specs.PlainNamed as n
 use Rattle.sp_tree.specs.Plain as plain
 use Rattle.sp_tree.specs.PlainSyntax as syntax
-use Rattle.sp_tree.specs.PlainSyntax.{Statement, Does, Form, Empty, Assign, Call, Sequence, If, While, Repeat, For}
-use Rattle.sp_tree.specs.PlainSyntax.{Case, Parallel, Forall, Assume, Other, NoElse, Else, Statements, NoStatement}
-use Rattle.sp_tree.specs.PlainSyntax.{AndThen, On, Arms, NoArm, Or, Branches, NoBranch, Beside, Part, Const, Kind, Var}
+use Rattle.sp_tree.specs.PlainSyntax.{Statement}
+use Rattle.sp_tree.specs.PlainSyntax.{Part, Const, Kind, Var}
 use Rattle.sp_tree.specs.PlainSyntax.{Proc, Parts, NoPart, Declare}
 use Rattle.sp_types.specs.Tables.{env_of}
 use Rattle.sp_types.specs.TypeWalk.{starts_of, blocks_after}

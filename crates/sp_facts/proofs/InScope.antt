@@ -19,24 +19,20 @@ use Rattle.sp_facts.proofs.Calm.{calm_parts, calm_site}
 use Rattle.sp_tree.specs.declared.meaning.Sort.{Sort}
 use Rattle.sp_tree.specs.declared.meaning.Sort.TheVariants as sort
 use Rattle.sp_tree.specs.NameRules.{Declares}
-use Rattle.sp_tree.specs.Scopes.{Local, inside, opened, declared, most, variable, next_variable}
-use Rattle.sp_tree.specs.NameWalk.{statement_local, statements_local, other_local, arms_local, arm_local}
-use Rattle.sp_tree.specs.NameWalk.{branches_local, form_local, indexed, deeper}
+use Rattle.sp_tree.specs.Scopes.{Local, inside, declared, most, variable}
 use Rattle.sp_facts.proofs.Numbering.{room_at}
 use Rattle.sp_tree.specs.declared.meaning.Counts.{Counts}
 use Rattle.sp_tree.specs.declared.syntax.SynFormal.{SynFormal}
 use Rattle.sp_tree.specs.declared.syntax.SynKind.{SynKind}
 use Rattle.sp_tree.specs.declared.syntax.SynKind.TheVariants as kinds
 use Rattle.sp_tree.specs.NameRules.{Uses, AsKind}
-use Rattle.sp_tree.specs.Scopes.{put, closed, next_constant, next_kind, next_block}
-use Rattle.sp_tree.specs.NameWalk.{names_local, formals_local, title_local, answer_local, heading_local}
-use Rattle.sp_tree.specs.NameWalk.{constants_local, kind_local, type_local, parts_local, part_local, block_meaning}
-use Rattle.sp_tree.specs.NameWalk.{references}
+use Rattle.sp_tree.specs.Scopes.{put, next_constant, next_kind}
+use Rattle.sp_tree.specs.NameWalk.{names_local, formals_local, answer_local}
+use Rattle.sp_tree.specs.NameWalk.{constants_local, kind_local, block_meaning}
 use Rattle.sp_tree.specs.NamedTree.{kind_number, enumerated, constants_named}
 use Rattle.sp_facts.proofs.Numbering.{declared_counts}
 use Rattle.sp_tree.specs.declared.syntax.SynGroup.{SynGroup}
 use Rattle.sp_tree.specs.NameRules.{UsesIn, own_rule, use_rule}
-use Rattle.sp_tree.specs.Scopes.{empty, standard}
 use Rattle.sp_tree.specs.NamedTree.{kind_named, groups_named, fields_named}
 use Rattle.sp_tree.specs.Formed.{AreBefore}
 use Rattle.sp_tree.specs.declared.syntax.SynValue.{SynValue}

@@ -5,17 +5,16 @@ use Rattle.sp_tree.specs.declared.meaning.Meaning.{Meaning}
 use Rattle.sp_tree.specs.declared.meaning.Meaning.TheVariants as meaning
 use Rattle.sp_tree.specs.NameFirst.{together, all_at}
 use Rattle.sp_tree.specs.Scopes as names
-use Rattle.sp_tree.specs.Scopes.{Env, look, find, find_in, or_else}
+use Rattle.sp_tree.specs.Scopes.{find}
 use Rattle.sp_tree.specs.NameWalk as w
-use Rattle.sp_tree.specs.NameWalk.{role_of}
 use Rattle.sp_tree.specs.NamedOf as of_
 use Rattle.sp_tree.specs.PlainNamed as n
 use Rattle.sp_tree.specs.NamedTree.{named_arguments}
 use Rattle.sp_facts.proofs.Calm.{calm_parts}
 use Rattle.sp_tree.specs.declared.meaning.Sort.TheVariants as sort
 use Rattle.sp_tree.specs.NameRules.{Declares, Loops}
-use Rattle.sp_tree.specs.Scopes.{Local, inside, opened, declared, most, variable, next_variable}
-use Rattle.sp_tree.specs.NameWalk.{statement_local, statements_local, other_local, arms_local, arm_local}
+use Rattle.sp_tree.specs.Scopes.{Local, inside, opened, variable, next_variable}
+use Rattle.sp_tree.specs.NameWalk.{statement_local, statements_local, arms_local}
 use Rattle.sp_tree.specs.NameWalk.{branches_local, form_local, indexed, deeper}
 use Rattle.sp_tree.specs.NamedTree.{procedure_named, named_statement, named_statement_form, named_statements}
 use Rattle.sp_tree.specs.NamedTree.{named_arms, named_branches}

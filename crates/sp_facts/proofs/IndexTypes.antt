@@ -9,7 +9,7 @@ use Rattle.sp_tree.specs.declared.checked.Role.TheVariants as role
 use Rattle.sp_tree.specs.Plain.{Program, Variable}
 use Rattle.sp_tree.specs.PlainNamed as n
 use Rattle.sp_tree.specs.PlainNamed.{Statement, Does, Form, Empty, Assign, Call, Perform, Sequence, If, While, Repeat}
-use Rattle.sp_tree.specs.PlainNamed.{Case, For, Parallel, Forall, Assume, Other, NoElse, Else, Statements, NoStatement}
+use Rattle.sp_tree.specs.PlainNamed.{Case, For, Parallel, Forall, Assume, NoElse, Else, Statements, NoStatement}
 use Rattle.sp_tree.specs.PlainNamed.{AndThen, On, Arms, NoArm, Or, Branches, NoBranch, Beside}
 use Rattle.sp_types.specs.Tables.{Env, counted, indexed}
 use Rattle.sp_types.specs.Kinds.{expression_kind}

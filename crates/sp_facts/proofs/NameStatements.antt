@@ -14,9 +14,8 @@ use Rattle.sp_tree.specs.Found.{breaks_if}
 use Rattle.sp_tree.specs.NameFirst.{together, all_at}
 use Rattle.sp_tree.specs.NameRules.{Operand, Targets, Bare, target_rule, references_of, rest_of, same_place}
 use Rattle.sp_tree.specs.Scopes as names
-use Rattle.sp_tree.specs.Scopes.{Env, look, find, find_in, or_else}
+use Rattle.sp_tree.specs.Scopes.{Env, find}
 use Rattle.sp_tree.specs.NameWalk as w
-use Rattle.sp_tree.specs.NameWalk.{role_of}
 use Rattle.sp_tree.specs.NamedOf as of_
 use Rattle.sp_tree.specs.PlainNamed as n
 use Rattle.sp_tree.specs.NamedTree.{variable_number, operand_named, named_expression, named_selectors, named_arguments}
@@ -35,8 +34,8 @@ use Rattle.sp_tree.specs.declared.meaning.StandardProcedure.TheVariants as proce
 use Rattle.sp_tree.specs.declared.meaning.Sort.TheVariants as sort
 use Rattle.sp_tree.specs.NameRules.{Declares, Assigns, Loops, Calls, procedure_rule, procedure_takes, assign_rule}
 use Rattle.sp_tree.specs.NameRules.{loop_rule, is_local}
-use Rattle.sp_tree.specs.Scopes.{Local, inside, opened, declared, most, variable, next_variable}
-use Rattle.sp_tree.specs.NameWalk.{statement_local, statements_local, other_local, arms_local, arm_local}
+use Rattle.sp_tree.specs.Scopes.{Local, inside, opened, next_variable}
+use Rattle.sp_tree.specs.NameWalk.{statement_local, statements_local, arms_local}
 use Rattle.sp_tree.specs.NameWalk.{branches_local, form_local, indexed, deeper}
 use Rattle.sp_tree.specs.NamedTree.{assigned_number, procedure_named, named_statement, named_statement_form}
 use Rattle.sp_tree.specs.NamedTree.{named_other, named_statements, named_arms, named_branches, indices, form_indices}

@@ -21,7 +21,7 @@ use Rattle.sp_types.specs.TypeFirst.{types_broken}
 use Rattle.sp_types.specs.Kinds.{expression_kind}
 use Rattle.sp_types.specs.TypeWalk as w
 use Rattle.sp_types.specs.TypeWalk.{statement_after, statements_after, arms_after, branches_after, form_after}
-use Rattle.sp_types.specs.TypeWalk.{other_after, started, starts_of, blocks_after}
+use Rattle.sp_types.specs.TypeWalk.{started, starts_of}
 use Rattle.sp_code.specs.Stands.{NoIndex}
 use Rattle.sp_facts.proofs.Calm.{calm_parts, calm_site, calm_unless}
 use Rattle.sp_facts.proofs.IndexTypes.{AreSpans, others_stay}

@@ -9,7 +9,7 @@ use Rattle.sp_tree.specs.declared.checked.KindOf.{KindOf}
 use Rattle.sp_tree.specs.declared.checked.KindOf.TheVariants as kind
 use Rattle.sp_tree.specs.Found.{Found, listed}
 use Rattle.sp_tree.specs.NameFirst.{together}
-use Rattle.sp_tree.specs.Plain.{Program, Variable, Block, Stmt, Expr, ExprForm, Actuals}
+use Rattle.sp_tree.specs.Plain.{Program, Stmt}
 use Rattle.sp_tree.specs.Plain as plain
 use Rattle.sp_tree.specs.PlainNamed as n
 use Rattle.sp_code.specs.Scopes.{Ordinals, Channels, kind_of, Scope, sort, sort_by}
@@ -17,9 +17,8 @@ use Rattle.sp_code.specs.Places.{after_value, after_var}
 use Rattle.sp_types.specs.Tables.{Env, char_of}
 use Rattle.sp_types.specs.TypeRules.{channel}
 use Rattle.sp_types.specs.Kinds.{expression_kind, selected}
-use Rattle.sp_types.specs.TypeWalk.{expression_sites, form_sites, variable_sites, selectors_sites, selector_sites}
-use Rattle.sp_types.specs.TypeWalk.{actuals_sites, actual_sites, standard_sites, place, is_variable, count, formal}
-use Rattle.sp_types.specs.TypeWalk.{others, formal_role, formal_kind}
+use Rattle.sp_types.specs.TypeWalk.{expression_sites, variable_sites}
+use Rattle.sp_types.specs.TypeWalk.{place}
 use Rattle.sp_types.specs.CheckedTree.{checked_expression, checked_variable}
 use Rattle.sp_tree.specs.PlainChecked as c
 use Rattle.sp_tree.specs.CheckedOf as of_
@@ -32,8 +31,6 @@ use Rattle.sp_tree.specs.declared.meaning.StandardProcedure.{StandardProcedure}
 use Rattle.sp_tree.specs.Uses.{In_stmt, In_stmts}
 use Rattle.sp_code.specs.Places.{after}
 use Rattle.sp_types.specs.TypeWalk as w
-use Rattle.sp_types.specs.TypeWalk.{statement_after, statements_after, arm_after, other_after, branches_after}
-use Rattle.sp_types.specs.TypeWalk.{arms_after, form_after, counted_by, parts_count, single_count}
 use Rattle.sp_tree.specs.Bare.{bare_statement_form, bare_statements}
 use Rattle.sp_code.specs.Stands.{AllAt}
 use Rattle.sp_facts.proofs.Expressions.{expression_fine, variable_fine, ValueIs}

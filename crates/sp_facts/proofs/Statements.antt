@@ -14,7 +14,7 @@ use Rattle.sp_tree.specs.declared.checked.KindOf.TheVariants as kind
 use Rattle.sp_tree.specs.declared.checked.Role.TheVariants as role
 use Rattle.sp_tree.specs.Found.{listed}
 use Rattle.sp_tree.specs.NameFirst.{together}
-use Rattle.sp_tree.specs.Plain.{Program, Variable, Block, Stmt, Expr, ExprForm, Actuals}
+use Rattle.sp_tree.specs.Plain.{Program, Variable, Stmt, Expr, ExprForm, Actuals}
 use Rattle.sp_tree.specs.Plain as plain
 use Rattle.sp_tree.specs.PlainNamed as n
 use Rattle.sp_code.specs.Scopes.{Sort, Ordinals, Channels, Many, NoSort, kind_of, Scope, is_block, is_index, level}
@@ -23,9 +23,8 @@ use Rattle.sp_code.specs.Places.{after_value, after_var, after_actuals}
 use Rattle.sp_types.specs.Tables.{Env, entry, variable_kind, formals_of, formals_in}
 use Rattle.sp_types.specs.TypeRules.{is_ordinal, ordinal, unless, differ}
 use Rattle.sp_types.specs.Kinds.{expression_kind, form_kind, selected, element}
-use Rattle.sp_types.specs.TypeWalk.{expression_sites, form_sites, variable_sites, selectors_sites, selector_sites}
-use Rattle.sp_types.specs.TypeWalk.{actuals_sites, actual_sites, standard_sites, place, is_variable, count, formal}
-use Rattle.sp_types.specs.TypeWalk.{others, formal_role, formal_kind}
+use Rattle.sp_types.specs.TypeWalk.{expression_sites, form_sites, variable_sites}
+use Rattle.sp_types.specs.TypeWalk.{actuals_sites, place}
 use Rattle.sp_types.specs.CheckedTree.{or_zero, checked_expression, checked_form, checked_variable, checked_actuals}
 use Rattle.sp_tree.specs.CheckedOf as of_
 use Rattle.sp_tree.specs.Bare.{bare_expression, bare_form, bare_variable, bare_actuals}
@@ -40,7 +39,7 @@ use Rattle.sp_code.specs.Places.{after_test, after_tests, after, after_arms}
 use Rattle.sp_types.specs.Tables.{counted, indexed}
 use Rattle.sp_types.specs.TypeRules.{condition_rule, assign_rule, range_rule, limit_rule, selector_rule}
 use Rattle.sp_types.specs.TypeWalk as w
-use Rattle.sp_types.specs.TypeWalk.{statement_after, statements_after, arm_after, other_after, branches_after}
+use Rattle.sp_types.specs.TypeWalk.{statement_after, statements_after, branches_after}
 use Rattle.sp_types.specs.TypeWalk.{arms_after, form_after, counted_by, parts_count, single_count}
 use Rattle.sp_types.specs.CheckedTree.{checked_statement, checked_statement_form, checked_statements, checked_arms}
 use Rattle.sp_types.specs.CheckedTree.{checked_branches, in_sequence, first_place, constant_numbers}

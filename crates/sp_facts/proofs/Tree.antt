@@ -1,7 +1,7 @@
 -- The tree of a program, piece by piece, is that of its tree with numbers for names: blocks, roles and blocks of
 -- variables.
 use Rattle.std.proofs.Common.{◌≡◌, refl, ap, sym, ◌∙◌, subst, ℕ, zero, suc, ◌+◌, ◌≤◌, ◌==◌, List, [], ◌∷◌, Option, Some}
-use Rattle.std.proofs.Common.{None, Bool, if◌then◌else◌, ◌&&◌, length, slice_get, slice_set, arith}
+use Rattle.std.proofs.Common.{None, Bool, if◌then◌else◌, ◌&&◌, length, slice_get, arith}
 use Rattle.std.specs.Prelude.{map}
 use Rattle.std.proofs.lemmas.List.{length-set}
 use Rattle.std.proofs.lemmas.Option.{same_Some}

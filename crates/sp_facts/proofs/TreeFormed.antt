@@ -11,7 +11,7 @@ use Rattle.sp_tree.specs.PlainSyntax as syntax
 use Rattle.sp_tree.specs.PlainNamed as n
 use Rattle.sp_tree.specs.PlainChecked as c
 use Rattle.sp_tree.specs.Plain as plain
-use Rattle.sp_tree.specs.Plain.{Stmt, Stmts, No, And}
+use Rattle.sp_tree.specs.Plain.{No}
 use Rattle.sp_tree.specs.NameFirst.{names_broken}
 use Rattle.sp_tree.specs.NamedTree.{program_named}
 use Rattle.sp_tree.specs.Bare.{bare_statements}

@@ -7,7 +7,6 @@ use Rattle.sp_tree.specs.declared.checked.Role.{Role}
 use Rattle.sp_tree.specs.declared.checked.Role.TheVariants as role
 use Rattle.sp_tree.specs.declared.meaning.StandardProcedure.{StandardProcedure}
 use Rattle.sp_tree.specs.declared.meaning.StandardProcedure.TheVariants as procedure
-use Rattle.sp_tree.specs.declared.named.NamedConst.{NamedConst}
 use Rattle.sp_tree.specs.NameRules.{function_takes, procedure_takes}
 use Rattle.sp_tree.specs.Plain.{Program, Variable, Block}
 use Rattle.sp_tree.specs.PlainNamed as n

@@ -21,7 +21,7 @@ use Rattle.sp_grammar.proofs.Rising.{Each, each_at}
 use Rattle.sp_format.specs.declared.context.Context.{Context}
 use Rattle.sp_format.specs.Items.{Item, item, item_from, spelled, front, HasItems, no_item, blank, comment, token}
 use Rattle.sp_format.specs.Layout.{context_of, gap, laid, canonical, indentation, breaks, touches, depth}
-use Rattle.sp_format.specs.Formats.{HasTree, IsCanonical}
+use Rattle.sp_format.specs.Formats.{HasTree}
 use Rattle.sp_scan.proofs.Breaches.{fine_number, fine_name, other_token}
 use Rattle.sp_tree.specs.Places.{place_at}
 use Rattle.sp_tree.specs.PlainSyntax.{Program}

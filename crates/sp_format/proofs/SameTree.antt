@@ -24,7 +24,7 @@ use Rattle.sp_tree.specs.Breaches.{IsTree}
 use Rattle.sp_grammar.specs.Symbols as sym
 use Rattle.sp_grammar.specs.Symbols.{Symbol, Value, Values, part, split}
 use Rattle.sp_grammar.specs.Table as row
-use Rattle.sp_grammar.specs.Table.{ConstantRow, PartsRow, FormRow, SelectorRow, FactorRow, SimpleRow, Row, Entry, rows}
+use Rattle.sp_grammar.specs.Table.{ConstantRow, PartsRow, FormRow, SelectorRow, FactorRow, SimpleRow, Row, rows}
 use Rattle.sp_grammar.specs.Table.{look, gap, build, constant_value, parts_value, form_value, selector_value}
 use Rattle.sp_grammar.specs.Table.{factor_value, simple_value}
 use Rattle.sp_grammar.specs.Derives.{Begins, Derives, takes, skips, DerivesAll, none, and}

@@ -1,5 +1,5 @@
 -- What is written for the parts of a statement is what is to be written for the statement.
-use Rattle.std.proofs.Common.{◌≡◌, ℕ, suc, ◌+◌, ℤ, List, [], ◌∷◌, ◌++◌, Bool, if◌then◌else◌, Option, Some, None, Result}
+use Rattle.std.proofs.Common.{◌≡◌, ℕ, suc, ◌+◌, ℤ, List, [], ◌∷◌, ◌++◌, Bool, if◌then◌else◌, Option, Some, Result}
 use Rattle.std.proofs.Common.{Ok, Err, OnOk, length, refl, sym, ap, ◌∙◌, arith, append_assoc, length-append, append-nil}
 use Rattle.sp_base.specs.declared.place.Place.{Place}
 use Rattle.sp_tree.specs.PlainChecked as c

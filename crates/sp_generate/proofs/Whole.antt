@@ -1,6 +1,6 @@
 -- The blocks of a program, one after the other.
 use Rattle.std.proofs.Common.{◌≡◌, ℕ, suc, ◌<◌, ◌≤◌, ◌+◌, List, [], ◌∷◌, ◌++◌, length, get_or, map, drop, refl, sym, ap}
-use Rattle.std.proofs.Common.{◌∙◌, arith, append_assoc, append-nil}
+use Rattle.std.proofs.Common.{◌∙◌, append_assoc, append-nil}
 use Rattle.std.proofs.Common.{add-one}
 use Rattle.std.proofs.lemmas.List.{drop_more, drop_all}
 use Rattle.sp_tree.specs.declared.checked.Block as checked

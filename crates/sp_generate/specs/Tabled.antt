@@ -5,8 +5,8 @@ use Rattle.std.specs.Prelude.{ℕ, suc, ◌+◌, List, [], ◌∷◌, map, slice
 use Rattle.sp_tree.specs.declared.checked.KindOf.{KindOf}
 use Rattle.sp_tree.specs.declared.checked.KindOf.TheVariants as kind
 use Rattle.sp_tree.specs.Cells.{first_or, sizes}
-use Rattle.sp_tree.specs.Plain.{Program, Variable, Block}
-use Rattle.sp_code.specs.Scopes.{slot_in, frame_of}
+use Rattle.sp_tree.specs.Plain.{Program, Variable}
+use Rattle.sp_code.specs.Scopes.{slot_in}
 
 -- the number of each variable in its frame, from variable x on
 abbrev pub slots_from : Program → ℕ → List Variable → List ℕ

@@ -7,8 +7,8 @@ use Rattle.sp_tree.specs.Words as w
 use Rattle.sp_tree.specs.Places.{start}
 use Rattle.sp_tree.specs.PlainSyntax.{Program}
 use Rattle.sp_tree.specs.Viable.{Any, Spells}
-use Rattle.sp_grammar.specs.Symbols.{Symbol, AProgram}
-use Rattle.sp_grammar.specs.Machine.{Why, Bad, Deep, Next, On, No, after, going, Done, Stuck, run}
+use Rattle.sp_grammar.specs.Symbols.{AProgram}
+use Rattle.sp_grammar.specs.Machine.{Why, Bad, Deep, Done, Stuck, run}
 use Rattle.sp_grammar.proofs.Existence.{spelled}
 
 -- tokens that the machine takes whole spell a program

@@ -2,9 +2,7 @@
 -- rule is the first that they break.
 use Rattle.std.proofs.Common.{◌≡◌, ℕ, true, List, [], ◌∷◌, Option, Some, ◌⊎◌, inl, inr, refl}
 use borrow.Author.Tests.{ltb-true}
-use Rattle.sp_base.specs.declared.place.Place.{Place}
 use Rattle.sp_base.specs.declared.halt.Refusal.{Refusal}
-use Rattle.sp_base.specs.declared.rule.Rule.{Rule}
 use Rattle.sp_tree.specs.declared.token.Token.{Token}
 use Rattle.sp_tree.specs.PlainSyntax.{Program}
 use Rattle.sp_tree.specs.Grammar.{IsProgram}
@@ -12,7 +10,7 @@ use Rattle.sp_tree.specs.Viable.{Shallow}
 use Rattle.sp_tree.specs.Scans.{IsTokens}
 use Rattle.sp_tree.specs.Breaches.{nesting, IsFirstBroken, IsTree}
 use Rattle.sp_grammar.specs.Symbols.{Symbol, AProgram}
-use Rattle.sp_grammar.specs.Machine.{Why, allows, Next, On, No, after, going, End, Done, Stuck, run}
+use Rattle.sp_grammar.specs.Machine.{allows, Next, On, No, after, going, End, Done, Stuck, run}
 use Rattle.sp_grammar.specs.Stops.{refusal_of}
 use Rattle.sp_grammar.proofs.Completes.{All, none, and, back}
 use Rattle.sp_grammar.proofs.Firsts.{spells, none_broken, first_broken}

@@ -1,5 +1,5 @@
 -- A symbol takes at most one list of tokens, and stands for one thing.
-use Rattle.std.proofs.Common.{◌≡◌, ℕ, List, ◌∷◌, Option, Some, None, refl, subst}
+use Rattle.std.proofs.Common.{◌≡◌, ℕ, List, ◌∷◌, refl, subst}
 use Rattle.sp_base.proofs.Facts.{one_value, some_is_not_none}
 use Rattle.sp_tree.specs.declared.token.Token.{Token}
 use Rattle.sp_tree.specs.PlainSyntax.{Program}

@@ -1,6 +1,6 @@
 -- The order of refusals, and that the first broken rule is one.
 use Rattle.std.proofs.Common.{◌≡◌, ℕ, zero, suc, ◌+◌, ◌<◌, ◌≤◌, Bool, true, false, List, [], ◌∷◌, length, take, cond}
-use Rattle.std.proofs.Common.{◌==◌, Option, Some, ◌⊎◌, inl, inr, refl, sym as back_of, ap, ◌∙◌, subst, arith}
+use Rattle.std.proofs.Common.{◌==◌, Some, ◌⊎◌, inl, inr, refl, sym as back_of, ap, ◌∙◌, subst, arith}
 use Rattle.std.specs.Prelude.{T, slice_get}
 use Rattle.std.proofs.lemmas.Bool.{cases_lt}
 use Rattle.std.specs.Ordering.{nat_cmp, ordering_then, ordering_reverse, is_lt}

@@ -18,8 +18,8 @@ use Rattle.sp_tree.specs.Grammar as g
 use Rattle.sp_grammar.specs.Symbols as sym
 use Rattle.sp_grammar.specs.Symbols.{Symbol, Value, Values, split, part}
 use Rattle.sp_grammar.specs.Table as row
-use Rattle.sp_grammar.specs.Table.{ConstantRow, PartsRow, FormRow, SelectorRow, FactorRow, SimpleRow, Row, Entry, entry}
-use Rattle.sp_grammar.specs.Table.{rows, look, gap, build, constant_value, parts_value, form_value, selector_value}
+use Rattle.sp_grammar.specs.Table.{ConstantRow, PartsRow, SelectorRow, FactorRow, SimpleRow, Row, entry}
+use Rattle.sp_grammar.specs.Table.{rows, look, gap, build, constant_value, parts_value, selector_value}
 use Rattle.sp_grammar.specs.Table.{factor_value, simple_value}
 use Rattle.sp_grammar.specs.Derives.{Begins, Derives, takes, skips, DerivesAll, none, and}
 

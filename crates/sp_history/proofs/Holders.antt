@@ -38,7 +38,7 @@ use Rattle.sp_code.specs.System.{event_of, fault_of, entered_now, frames_of, pla
 use Rattle.sp_code.specs.System.{table_or, on_store, received, sent, taken, rejoined, reported, happens, unless_fault}
 use Rattle.sp_code.specs.System.{lays, after, store_in, stop_of, message_of, store_of, config_of, opening, Enters}
 use Rattle.sp_code.specs.System.{Leads, Gives}
-use Rattle.sp_history.specs.Agreement.{Phase, ToJoin, phase_in, IsOrderly, Agrees, Reaches}
+use Rattle.sp_history.specs.Agreement.{ToJoin, phase_in, IsOrderly, Agrees, Reaches}
 use Rattle.sp_history.specs.Lines.{HasChildren}
 use Rattle.sp_history.specs.Counted.{IsCounted}
 use Rattle.sp_history.specs.Channels.{EntriesHave, ConfigHas, AimsAt, TurnDoes}

@@ -16,7 +16,7 @@ use Rattle.sp_cell.specs.Laws.{get_other, get_here, same_or, known_of_away}
 use Rattle.sp_code.specs.declared.code.Layout.{Layout}
 use Rattle.sp_code.specs.Machine.{Entry, Number, Chan, Pointer, Cells, Link, Reply, Done, Failed}
 use Rattle.sp_code.specs.Memory.{Setting, Frame, Memory, memory, put_cell, put_cells, cells_at, cell_at, position_at}
-use Rattle.sp_code.specs.Memory.{filled, opened, bytes_in, has_cells, is_held}
+use Rattle.sp_code.specs.Memory.{filled, opened, bytes_in, has_cells}
 use Rattle.sp_code.specs.PlainStore.{plain, piece_of}
 use Rattle.sp_code.proofs.StoreLaws.{output_held, may_go}
 use Rattle.sp_history.specs.Agreement.{Each}

@@ -1,13 +1,13 @@
 -- The walk through a tree goes from site to site.
-use Rattle.std.proofs.Common.{◌≡◌, ℕ, List, [], ◌∷◌, ◌++◌, Option, Some, None, refl, ap, ◌∙◌, sym}
+use Rattle.std.proofs.Common.{◌≡◌, List, [], ◌∷◌, ◌++◌, Option, Some, None, refl, ap, ◌∙◌}
 use Rattle.sp_base.specs.declared.place.Place.{Place}
 use Rattle.sp_tree.specs.Found.{Found}
 use Rattle.sp_tree.specs.PlainChecked.{Expression, At, ExpressionForm, Number, Read, Unary, Binary, Apply, Standard}
 use Rattle.sp_tree.specs.PlainChecked.{Variable, Entire, Selectors, Whole, Select, Index, Field, Actuals, Nothing, Pass}
-use Rattle.sp_tree.specs.PlainChecked.{ByValue, ByReference, Expressions, NoExpression, AndExpression, Statement, Does}
+use Rattle.sp_tree.specs.PlainChecked.{ByValue, ByReference, NoExpression, AndExpression, Statement, Does}
 use Rattle.sp_tree.specs.PlainChecked.{Form, Empty, Assign, Call, Sequence, If, While, Repeat, For, Case, Parallel}
 use Rattle.sp_tree.specs.PlainChecked.{Forall, Assume, ReadValue, ReadLine, WriteValue, WriteText, WriteLine, Open}
-use Rattle.sp_tree.specs.PlainChecked.{Send, Receive, Other, NoElse, Else, Statements, NoStatement, AndThen, On, Arms}
+use Rattle.sp_tree.specs.PlainChecked.{Send, Receive, NoElse, Else, Statements, NoStatement, AndThen, On, Arms}
 use Rattle.sp_tree.specs.PlainChecked.{NoArm, Or}
 use Rattle.sp_tree.specs.Sites as at
 use Rattle.sp_interfere.specs.Walk as w

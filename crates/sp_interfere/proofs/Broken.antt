@@ -1,6 +1,6 @@
 -- The walk finds the first of all rules that tests on the sets say are broken.
 use Rattle.std.proofs.Common.{◌≡◌, ◌⊎◌, inl, inr, ℕ, zero, suc, ◌+◌, Bool, true, false, ◌&&◌, ◌==◌, List, [], ◌∷◌, ◌++◌}
-use Rattle.std.proofs.Common.{length, Option, Some, None, slice_get, refl, sym, ap, ◌∙◌, subst, arith}
+use Rattle.std.proofs.Common.{length, Option, Some, None, slice_get, refl, sym, ap, subst, arith}
 use Rattle.std.specs.List.{list_any}
 use Rattle.sp_base.specs.declared.place.Place.{Place}
 use Rattle.sp_base.specs.declared.halt.Refusal.{Refusal}
@@ -8,7 +8,7 @@ use Rattle.sp_base.specs.declared.rule.Rule.{Rule}
 use Rattle.sp_base.specs.declared.rule.Rule.TheVariants as rule
 use Rattle.sp_tree.specs.declared.checked.Variable as declared
 use Rattle.sp_tree.specs.Found.{Found, breaks_if, lesser}
-use Rattle.sp_tree.specs.PlainChecked.{Actuals, Nothing, Pass, ByValue, ByReference, Entire, Statement, Statements}
+use Rattle.sp_tree.specs.PlainChecked.{Actuals, Nothing, Pass, ByValue, ByReference, Entire, Statements}
 use Rattle.sp_tree.specs.PlainChecked.{NoStatement, AndThen, Block, Program}
 use Rattle.sp_tree.specs.Sites.{Site, SplitsAt, SpreadsAt, LoopsAt, CallsAt, StopsAt, statement_sites}
 use Rattle.sp_tree.specs.Interferes.{IsSite, place_of}

@@ -1,15 +1,15 @@
 -- Each call that stands in a statement has its site.
-use Rattle.std.proofs.Common.{◌≡◌, ◌⊎◌, inl, inr, ℕ, List, [], ◌∷◌, ◌++◌, Option, Some, None, refl}
+use Rattle.std.proofs.Common.{◌≡◌, inl, inr, ℕ, List, ◌∷◌, ◌++◌, Option, Some, None}
 use Rattle.sp_base.specs.declared.place.Place.{Place}
 use Rattle.sp_tree.specs.PlainChecked as p
 use Rattle.sp_tree.specs.Plain as b
 use Rattle.sp_tree.specs.Bare.{bare_expression, bare_form, bare_variable, bare_selectors, bare_actuals, bare_width}
-use Rattle.sp_tree.specs.Bare.{bare_statement, bare_statement_form, bare_statements, bare_arms}
-use Rattle.sp_tree.specs.Uses.{Use, CallOf, In_expr, In_form, In_read, In_target, In_selectors, In_actuals, In_width}
+use Rattle.sp_tree.specs.Bare.{bare_statement, bare_statements, bare_arms}
+use Rattle.sp_tree.specs.Uses.{CallOf, In_expr, In_form, In_read, In_target, In_selectors, In_actuals, In_width}
 use Rattle.sp_tree.specs.Uses.{In_stmt, In_stmts, In_arms}
 use Rattle.sp_tree.specs.Sites.{Site, SplitsAt, SpreadsAt, StopsAt, CallsAt, expression_sites, form_sites}
 use Rattle.sp_tree.specs.Sites.{variable_sites, selectors_sites, actuals_sites, width_sites, statement_sites}
-use Rattle.sp_tree.specs.Sites.{statement_form_sites, statements_sites, arms_sites}
+use Rattle.sp_tree.specs.Sites.{statements_sites, arms_sites}
 use Rattle.sp_tree.specs.Interferes.{IsSite}
 use Rattle.sp_interfere.proofs.Fits.{in_first, in_second}
 

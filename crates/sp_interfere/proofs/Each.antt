@@ -1,5 +1,5 @@
 -- What stands before each of several items, as their channel, needs to be looked at once.
-use Rattle.std.proofs.Common.{◌≡◌, ◌⊎◌, inl, inr, ℕ, ◌+◌, Bool, false, List, [], ◌∷◌, map, length, Option, Some, None}
+use Rattle.std.proofs.Common.{◌≡◌, ◌⊎◌, inl, inr, ℕ, ◌+◌, Bool, false, List, [], ◌∷◌, map, length, Some, None}
 use Rattle.std.proofs.Common.{refl, sym, ap, ◌∙◌, subst}
 use Rattle.std.proofs.lemmas.Option.{same_Some}
 use Rattle.sp_base.specs.declared.place.Place.{Place}
@@ -15,7 +15,7 @@ use Rattle.sp_grammar.proofs.Order.{one_first}
 use Rattle.sp_varsets.specs.declared.sets.Sets.{Sets}
 use Rattle.sp_interfere.specs.Rules.{site_first}
 use Rattle.sp_interfere.specs.Walk.{each_first, expression_first, variable_first, statements_first}
-use Rattle.sp_interfere.proofs.Along.{along, expression_along, variable_along}
+use Rattle.sp_interfere.proofs.Along.{expression_along, variable_along}
 use Rattle.sp_interfere.proofs.Least.{Finds, finds_none, finds_both, finds_as}
 use Rattle.sp_interfere.proofs.Broken.{refusal, AtSite, finds_site, finds_along}
 

@@ -1,6 +1,6 @@
 -- The walk finds the first rule of interference that a program breaks.
-use Rattle.std.proofs.Common.{◌≡◌, ◌⊎◌, inl, inr, ℕ, zero, suc, ◌+◌, ◌≤◌, Bool, true, false, ◌&&◌, List, [], ◌∷◌}
-use Rattle.std.proofs.Common.{length, Option, Some, None, slice_get, Result, Ok, Err, refl, sym, ap, ◌∙◌, subst, arith}
+use Rattle.std.proofs.Common.{◌≡◌, ◌⊎◌, inl, inr, ℕ, true, false, List, [], ◌∷◌}
+use Rattle.std.proofs.Common.{length, Option, Some, None, slice_get, refl, sym, ap, ◌∙◌, subst, arith}
 use Rattle.std.proofs.lemmas.Bool.{and_from}
 use Rattle.std.proofs.lemmas.Option.{same_Some}
 use Rattle.sp_base.specs.declared.place.Place.{Place}
@@ -10,24 +10,22 @@ use Rattle.sp_base.specs.declared.rule.Rule.TheVariants as rule
 use Rattle.sp_base.proofs.Facts.{first_true, second_true}
 use Rattle.sp_tree.specs.declared.checked.Role.TheVariants as role
 use Rattle.sp_tree.specs.declared.checked.Variable as declared
-use Rattle.sp_tree.specs.First.{before, IsFirst}
+use Rattle.sp_tree.specs.First.{before}
 use Rattle.sp_tree.specs.Found.{Found, outcome}
 use Rattle.sp_tree.specs.PlainChecked as p
 use Rattle.sp_tree.specs.Plain.{Block, Actuals}
 use Rattle.sp_tree.specs.Bare.{bare, bare_block, bare_statement, bare_actuals}
 use Rattle.sp_tree.specs.Uses.{CallOf, In_stmt}
-use Rattle.sp_tree.specs.Sets.{IsBelow, LeadsToStop}
-use Rattle.sp_tree.specs.Interference.{IsMember, IsCalledInside, IsFunction}
+use Rattle.sp_tree.specs.Interference.{IsMember, IsFunction}
 use Rattle.sp_tree.specs.Sites.{Site, SplitsAt, SpreadsAt, LoopsAt, CallsAt, StopsAt, statement_sites}
 use Rattle.sp_tree.specs.Interferes.{IsSite, SplitBreaks, Repeats, CallRepeats, PassesImplicit, SiteBreaks, SiteStops}
 use Rattle.sp_tree.specs.Interferes.{Interferes}
 use Rattle.sp_tree.proofs.NoBreach.{block_at}
 use Rattle.sp_varsets.specs.declared.sets.Sets.{Sets}
-use Rattle.sp_varsets.specs.Members.{has}
-use Rattle.sp_varsets.specs.Parts.{number_of, IsPart}
-use Rattle.sp_varsets.specs.AreSets.{targets_of, implicit_targets_of, stops_of, OfStatement, OfBlock, AreSets}
+use Rattle.sp_varsets.specs.Parts.{number_of}
+use Rattle.sp_varsets.specs.AreSets.{targets_of, implicit_targets_of, stops_of, OfStatement, AreSets}
 use Rattle.sp_varsets.specs.AreSets.{HaveEarlierParents}
-use Rattle.sp_interfere.specs.Tests.{some_in, is_any, has_declared}
+use Rattle.sp_interfere.specs.Tests.{is_any, has_declared}
 use Rattle.sp_interfere.specs.Rules.{is_reference, is_function, stands_in, blocks_first, rules_first}
 use Rattle.sp_interfere.specs.Verdict.{IsVerdict}
 use Rattle.sp_interfere.proofs.Some.{some_from, some_to}
@@ -35,9 +33,9 @@ use Rattle.sp_interfere.proofs.Standing.{bare_at, stands_from, stands_to, within
 use Rattle.sp_interfere.proofs.Fits.{AllParts, Fits, one_fits, statement_fits}
 use Rattle.sp_interfere.proofs.Calls.{statement_called}
 use Rattle.sp_interfere.proofs.Least.{Finds}
-use Rattle.sp_interfere.proofs.Broken.{refusal, Broken, Clashed, Repeated, Passed, is_inside, Called, AtSite, AtFormal}
+use Rattle.sp_interfere.proofs.Broken.{refusal, is_inside, Called, AtSite, AtFormal}
 use Rattle.sp_interfere.proofs.Broken.{AtFormals, AtHeading, InBlock, InBlocks, finds_blocks, block_of, of_block}
-use Rattle.sp_interfere.proofs.Means.{rule_of, at_of, is_reference_to, answer_of, clash_to, clash_back, repeat_to}
+use Rattle.sp_interfere.proofs.Means.{is_reference_to, answer_of, clash_to, clash_back, repeat_to}
 use Rattle.sp_interfere.proofs.Means.{repeat_back, passed_to, passed_back, declared_to_implicit, implicit_declared, One}
 
 module _ (c : p.Program) (s : Sets) (are : AreSets c s) (rises : HaveEarlierParents c) where

@@ -1,17 +1,17 @@
 -- What stands at the sites of a statement stands in the statement: parts of it, and calls.
-use Rattle.std.proofs.Common.{◌≡◌, ◌⊎◌, inl, inr, ℕ, List, [], ◌∷◌, ◌++◌, Option, Some, None, refl, sym, subst}
+use Rattle.std.proofs.Common.{inl, inr, ℕ, List, [], ◌∷◌, ◌++◌, Option, Some, None, refl, sym, subst}
 use Rattle.sp_base.specs.declared.place.Place.{Place}
 use Rattle.sp_tree.specs.PlainChecked as p
 use Rattle.sp_tree.specs.Plain as b
 use Rattle.sp_tree.specs.Bare.{bare_expression, bare_form, bare_variable, bare_selectors, bare_actuals, bare_width}
 use Rattle.sp_tree.specs.Bare.{bare_statement, bare_statement_form, bare_statements, bare_arms}
-use Rattle.sp_tree.specs.Uses.{Use, CallOf, ParallelOf, ForallOf, Target, Seen, Stop, In_expr, In_form, In_read}
+use Rattle.sp_tree.specs.Uses.{CallOf, In_expr, In_form, In_read}
 use Rattle.sp_tree.specs.Uses.{In_target, In_selectors, In_actuals, In_width, In_stmt, In_stmts, In_arms}
 use Rattle.sp_tree.specs.Sites.{Site, SplitsAt, SpreadsAt, LoopsAt, CallsAt, StopsAt, expression_sites, form_sites}
 use Rattle.sp_tree.specs.Sites.{variable_sites, selectors_sites, actuals_sites, width_sites, statement_sites}
 use Rattle.sp_tree.specs.Sites.{statement_form_sites, statements_sites, arms_sites}
 use Rattle.sp_tree.specs.Interferes.{IsSite}
-use Rattle.sp_varsets.specs.Parts.{IsPart, IsInForm, IsAmong, IsInArms, IsInOther}
+use Rattle.sp_varsets.specs.Parts.{IsPart, IsInForm, IsAmong, IsInArms}
 
 pub in_first : (xs ys : List Site) (site : Site) → IsSite site xs → IsSite site (xs ++ ys)
 in_first [] ys site i = absurd i

@@ -1,8 +1,7 @@
 -- What the tests on the sets of a tree say is broken is broken, and what is broken the tests say.
-use Rattle.std.proofs.Common.{◌≡◌, ◌⊎◌, inl, inr, ℕ, zero, suc, ◌+◌, ◌≤◌, Bool, true, false, ◌==◌, ◌&&◌, ◌||◌, List, []}
-use Rattle.std.proofs.Common.{◌∷◌, ◌++◌, length, Option, Some, None, slice_get, refl, sym, ap, ◌∙◌, subst, arith}
+use Rattle.std.proofs.Common.{◌≡◌, ◌⊎◌, inl, inr, ℕ, ◌+◌, ◌≤◌, true, ◌==◌, List, []}
+use Rattle.std.proofs.Common.{◌∷◌, ◌++◌, Option, Some, None, refl, sym, ap, subst}
 use Rattle.std.proofs.Common.{eqb-true, eq-eqb}
-use Rattle.std.specs.List.{list_any}
 use Rattle.std.proofs.lemmas.Bool.{or_cases, or_left, or_right}
 use Rattle.sp_base.specs.declared.place.Place.{Place}
 use Rattle.sp_base.specs.declared.halt.Refusal.{Refusal}
@@ -11,31 +10,23 @@ use Rattle.sp_base.specs.declared.rule.Rule.TheVariants as rule
 use Rattle.sp_base.proofs.Facts.{or_from_either}
 use Rattle.sp_tree.specs.declared.checked.Role.{Role}
 use Rattle.sp_tree.specs.declared.checked.Role.TheVariants as role
-use Rattle.sp_tree.specs.declared.checked.Variable as declared
 use Rattle.sp_tree.specs.PlainChecked as p
-use Rattle.sp_tree.specs.Plain.{Program, Block, Actuals}
-use Rattle.sp_tree.specs.Bare.{bare, bare_block, bare_statement, bare_actuals}
-use Rattle.sp_tree.specs.Uses.{Use, CallOf, In_stmt}
-use Rattle.sp_tree.specs.Sets.{IsBelow, IsTarget, IsSeen, IsUsed, ImplicitTarget, Implicit, LeadsToStop}
-use Rattle.sp_tree.specs.Interference.{IsMember, IsCalledInside, IsFunction}
-use Rattle.sp_tree.specs.Sites.{Site, SplitsAt, SpreadsAt, LoopsAt, CallsAt, StopsAt, statement_sites}
-use Rattle.sp_tree.specs.Interferes.{IsSite, place_of, Interfere, ClashesIn, SplitBreaks, Repeats, CallRepeats}
-use Rattle.sp_tree.specs.Interferes.{PassesImplicit, SiteBreaks, SiteStops, Interferes}
-use Rattle.sp_tree.proofs.NoBreach.{block_at}
+use Rattle.sp_tree.specs.Plain.{Program, Actuals}
+use Rattle.sp_tree.specs.Sets.{Implicit}
+use Rattle.sp_tree.specs.Interference.{IsMember}
+use Rattle.sp_tree.specs.Interferes.{place_of, Interfere, ClashesIn, SplitBreaks, Repeats, CallRepeats}
+use Rattle.sp_tree.specs.Interferes.{PassesImplicit}
 use Rattle.sp_varsets.specs.declared.sets.Sets.{Sets}
 use Rattle.sp_varsets.specs.Members.{has}
-use Rattle.sp_varsets.specs.Parts.{number_of, IsPart}
-use Rattle.sp_varsets.specs.AreSets.{targets_of, expressions_of, implicit_targets_of, implicit_expressions_of, stops_of}
-use Rattle.sp_varsets.specs.AreSets.{OfStatement, OfBlock, AreSets, HaveEarlierParents}
-use Rattle.sp_interfere.specs.Tests.{some_in, is_any, is_declared, clash, has_implicit, has_declared}
-use Rattle.sp_interfere.specs.Rules.{is_reference, is_function, stands_in}
+use Rattle.sp_varsets.specs.Parts.{number_of}
+use Rattle.sp_varsets.specs.AreSets.{targets_of, expressions_of, implicit_targets_of, implicit_expressions_of}
+use Rattle.sp_varsets.specs.AreSets.{OfStatement, OfBlock}
+use Rattle.sp_interfere.specs.Tests.{some_in, is_declared, clash, has_declared}
+use Rattle.sp_interfere.specs.Rules.{is_reference, is_function}
 use Rattle.sp_interfere.proofs.Some.{some_from, some_to, declared_from, declared_to, any_from, any_to, clash_from}
 use Rattle.sp_interfere.proofs.Some.{clash_target, clash_seen}
-use Rattle.sp_interfere.proofs.Standing.{bare_at, stands_from, stands_to, within}
-use Rattle.sp_interfere.proofs.Fits.{AllParts, Fits, one_fits, statement_fits}
-use Rattle.sp_interfere.proofs.Calls.{statement_called}
-use Rattle.sp_interfere.proofs.Broken.{refusal, Broken, Clashed, Repeated, Passed, is_inside, Called, AtSite, AtFormal}
-use Rattle.sp_interfere.proofs.Broken.{AtFormals, AtHeading, InBlock}
+use Rattle.sp_interfere.proofs.Fits.{AllParts}
+use Rattle.sp_interfere.proofs.Broken.{refusal, Clashed, Repeated, Passed}
 
 member_first : (xs : List ℕ) (y x : ℕ) → IsMember x xs → IsMember x (xs ++ y ∷ [])
 member_first [] y x i = absurd i

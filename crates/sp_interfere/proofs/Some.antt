@@ -1,7 +1,6 @@
 -- Tests on sets of variables, and what they say.
 use Rattle.std.proofs.Common.{◌≡◌, ◌≢◌, ◌↔◌, ◌⊎◌, inl, inr, ℕ, zero, suc, ◌*◌, ◌<◌, ◌≤◌, Bool, true, false, ◌||◌, ◌&&◌}
-use Rattle.std.proofs.Common.{not, ◌==◌, List, [], ◌∷◌, ◌++◌, length, refl, sym, ap, ◌∙◌, subst, arith, eqb-true}
-use Rattle.std.proofs.Common.{eq-eqb}
+use Rattle.std.proofs.Common.{not, List, [], ◌∷◌, length, refl, subst, arith}
 use Rattle.std.proofs.lemmas.Bool.{cases_eq, and_from, or_cases, or_left, or_right}
 use Rattle.std.specs.List.{list_any}
 use Rattle.sp_base.proofs.Facts.{first_true, same_if_both_follow, second_true}
@@ -9,9 +8,9 @@ use Rattle.sp_tree.specs.Interference.{IsMember}
 use Rattle.sp_varsets.specs.declared.sets.Sets.{Sets}
 use Rattle.sp_varsets.specs.declared.var_set.VarSet.{VarSet}
 use Rattle.sp_varsets.specs.Members.{has}
-use Rattle.sp_varsets.specs.AreSets.{targets_of, expressions_of, implicit_targets_of, implicit_expressions_of}
+use Rattle.sp_varsets.specs.AreSets.{targets_of, expressions_of}
 use Rattle.sp_varsets.proofs.Words.{below_words}
-use Rattle.sp_interfere.specs.Tests.{some_below, some_in, is_any, is_declared, meets, clash, has_implicit, has_declared}
+use Rattle.sp_interfere.specs.Tests.{some_below, some_in, is_any, is_declared, meets, clash}
 
 pub not_false : (a : Bool) → (a ≡ true → ⊥) → false ≡ a
 not_false true h = absurd (h refl)

@@ -1,6 +1,6 @@
 -- One more item of a list in memory.
-use Rattle.std.proofs.Common.{◌≡◌, ℕ, suc, ◌+◌, ◌<◌, Bool, List, [], ◌∷◌, ◌++◌, map, length, get_or, take, drop, refl}
-use Rattle.std.proofs.Common.{sym, ap, ◌∙◌, subst, arith}
+use Rattle.std.proofs.Common.{◌≡◌, ℕ, suc, ◌+◌, ◌<◌, List, [], ◌∷◌, ◌++◌, map, length, get_or, take, drop, refl}
+use Rattle.std.proofs.Common.{sym, ap, ◌∙◌, arith}
 use Rattle.std.specs.List.{list_any}
 use Rattle.std.proofs.lemmas.List.{take_more, drop_more, append-nil, map-append}
 use Rattle.sp_base.specs.declared.rule.Rule.TheVariants as rule
@@ -10,8 +10,8 @@ use Rattle.sp_tree.specs.declared.checked.Stmt as stmt
 use Rattle.sp_tree.specs.CheckedOf.{actuals, actual_of, block_of, statement_of, statements}
 use Rattle.sp_tree.specs.Found.{Found, breaks_if, lesser}
 use Rattle.sp_tree.specs.Interferes.{place_of}
-use Rattle.sp_tree.specs.PlainChecked.{Actual, ByValue, ByReference, Entire, Actuals, Nothing, Pass, Statement, Does}
-use Rattle.sp_tree.specs.PlainChecked.{Statements, NoStatement, AndThen, Program}
+use Rattle.sp_tree.specs.PlainChecked.{Actual, ByValue, ByReference, Entire, Actuals, Nothing, Pass, Statement}
+use Rattle.sp_tree.specs.PlainChecked.{Program}
 use Rattle.sp_varsets.specs.declared.sets.Sets.{Sets}
 use Rattle.sp_varsets.specs.Parts.{number_of}
 use Rattle.sp_interfere.specs.Tests.{clash}

@@ -11,7 +11,7 @@ use Rattle.sp_tree.specs.declared.checked.Role.{Role}
 use Rattle.sp_tree.specs.declared.checked.Role.TheVariants as role
 use Rattle.sp_tree.specs.declared.checked.Variable as declared
 use Rattle.sp_tree.specs.Found.{Found, breaks_if, lesser}
-use Rattle.sp_tree.specs.PlainChecked.{Actuals, Nothing, Pass, ByValue, ByReference, Entire, Statement, Does}
+use Rattle.sp_tree.specs.PlainChecked.{Actuals, Nothing, Pass, ByValue, ByReference, Entire}
 use Rattle.sp_tree.specs.PlainChecked.{Statements, NoStatement, AndThen, Block, Program}
 use Rattle.sp_tree.specs.Sites.{Site, SplitsAt, SpreadsAt, LoopsAt, CallsAt, StopsAt}
 use Rattle.sp_tree.specs.Interferes.{place_of}

@@ -1,7 +1,7 @@
 -- None of this belongs to what the program promises: it is for contracts between crates.
 -- The way through a tree, site by site, in the order of the text: what is found from what was found before. The
 -- contracts of the walks cite it; what is done at a site is left open.
-use Rattle.std.specs.Prelude.{ℕ, List, [], ◌∷◌, Option, Some, None}
+use Rattle.std.specs.Prelude.{List, [], ◌∷◌, Option, Some, None}
 use Rattle.sp_base.specs.declared.place.Place.{Place}
 use Rattle.sp_tree.specs.Found.{Found}
 use Rattle.sp_tree.specs.PlainChecked.{Expression, At, ExpressionForm, Number, Read, Unary, Binary, Apply, Standard}

@@ -1,7 +1,6 @@
 -- Tests on numbers as statements: what a test that is true says.
-use Rattle.std.proofs.Common.{◌≡◌, ◌≢◌, ◌⊎◌, inl, inr, ℕ, ◌<◌, ◌≤◌, Bool, true, false, ◌&&◌, ◌==◌, nat_lt, nat_le}
-use Rattle.std.proofs.Common.{is_err, refl, sym, ◌∙◌, arith, Option, Some, None, Result, Ok, Err, ap}
-use Rattle.std.specs.Option.{SomeIff}
+use Rattle.std.proofs.Common.{◌≡◌, ◌≢◌, ℕ, ◌<◌, ◌≤◌, Bool, true, false, ◌&&◌, ◌==◌, nat_lt, nat_le}
+use Rattle.std.proofs.Common.{is_err, sym, ◌∙◌, arith, Result, Ok, Err}
 use Rattle.std.specs.Result.{OnOk}
 use Rattle.std.proofs.lemmas.Bool.Decides.{nat_tests}
 use Rattle.std.proofs.lemmas.Bool.{true≢false}

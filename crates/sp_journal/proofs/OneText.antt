@@ -1,7 +1,6 @@
 -- No two journals have one text.
-use Rattle.std.proofs.Common.{◌≡◌, ◌≢◌, ⊎_elim, ℕ, ◌+◌, ◌<◌, ◌^◌, List, [], ◌∷◌, ◌++◌, Option, Some, None, refl, sym}
-use Rattle.std.proofs.Common.{ap, ◌∙◌, subst, arith, append_assoc, codes, find}
-use Rattle.std.specs.Fmt.{decimal}
+use Rattle.std.proofs.Common.{◌≡◌, ℕ, ◌+◌, ◌<◌, List, [], ◌∷◌, Option, Some, None, refl, sym}
+use Rattle.std.proofs.Common.{ap, ◌∙◌, subst, arith, append_assoc, find}
 use Rattle.std.specs.Str.{bytes_eq}
 use Rattle.std.proofs.lemmas.Fmt.{decimal_injective}
 use Rattle.std.proofs.lemmas.Option.{none-some, same_Some}
@@ -10,15 +9,14 @@ use Rattle.sp_base.specs.Faults.{fault_name}
 use Rattle.sp_base.specs.declared.fault.Fault.{Fault}
 use Rattle.sp_base.specs.declared.fault.Fault.TheVariants as fault
 use Rattle.sp_journal.specs.declared.entry.Entry.{Entry}
-use Rattle.sp_journal.specs.declared.entry.Opening.{Opening}
 use Rattle.sp_journal.specs.declared.entry.Journal.{Journal}
 use Rattle.sp_journal.specs.declared.entry.Event.{Event}
 use Rattle.sp_journal.specs.declared.entry.Event.TheVariants as event
 use Rattle.sp_journal.specs.declared.version.Version.{Version}
-use Rattle.sp_journal.specs.Names.{Channel, proc_name, chan_name}
+use Rattle.sp_journal.specs.Names.{proc_name, chan_name}
 use Rattle.sp_journal.specs.Births.{Births, at_start, after_entry, channel, CanFollow, GivesNumbers, NameableFrom}
 use Rattle.sp_journal.specs.Splits.{first_split, all_faults}
-use Rattle.sp_journal.specs.Texts.{entry_text, entries_text, event_text, heading, IsTextOf}
+use Rattle.sp_journal.specs.Texts.{entry_text, entries_text, event_text, IsTextOf}
 use Rattle.sp_journal.proofs.SplitLaws.{without_low, first_at}
 use Rattle.sp_journal.proofs.TextLaws.{name_within, parts_first, parts_second, name_texts_differ, channel_texts_differ}
 use Rattle.sp_journal.proofs.BirthLaws.{Lawful, lawful_start, lawful_after}

@@ -1,6 +1,6 @@
 -- How the texts of names and entries come apart, and what a reader finds by the parts.
 use Rattle.std.proofs.Common.{◌≡◌, ⊎_elim, ℕ, zero, suc, ◌+◌, ◌-◌, ◌^◌, ◌<◌, ◌≤◌, List, [], ◌∷◌, Option, Some, None}
-use Rattle.std.proofs.Common.{refl, sym, ap, ◌∙◌, subst, arith, append_assoc, codes}
+use Rattle.std.proofs.Common.{refl, sym, ap, ◌∙◌, subst, arith, codes}
 use Rattle.std.specs.Fmt.{decimal}
 use Rattle.std.specs.Str.{IsAscii}
 use Rattle.std.specs.HashMap.{get_by_text}
@@ -16,8 +16,8 @@ use Rattle.sp_journal.specs.Births.{Births, channel, CanFollow}
 use Rattle.sp_journal.specs.Texts.{entry_text, event_text}
 use Rattle.sp_journal.specs.Splits.{first_split, last_split}
 use Rattle.sp_journal.specs.Reader.{IsReader, family_text, known}
-use Rattle.sp_journal.proofs.SplitLaws.{Within, without_low, first_at}
-use Rattle.sp_journal.proofs.TextLaws.{name_within, family_within, channel_within, child_split, parts_first}
+use Rattle.sp_journal.proofs.SplitLaws.{Within}
+use Rattle.sp_journal.proofs.TextLaws.{family_within, channel_within, child_split, parts_first}
 use Rattle.sp_journal.proofs.TextLaws.{parts_second, none_parts}
 use Rattle.sp_journal.proofs.BirthLaws.{Lawful, Born, lawful}
 use Rattle.sp_journal.proofs.OneText.{split_entry}

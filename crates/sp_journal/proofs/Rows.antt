@@ -1,17 +1,14 @@
 -- Worked journals: names, what their processes know, whether they are ordered, and their turns.
-use Rattle.std.proofs.Common.{◌≡◌, ℕ, List, [], ◌∷◌, ◌++◌, Bool, true, false, Option, Some, None, refl, sym, ◌∙◌, ap}
+use Rattle.std.proofs.Common.{◌≡◌, ℕ, [], ◌∷◌, true, false, Option, Some, None, refl, sym, ◌∙◌, ap}
 use Rattle.std.proofs.Common.{take}
 use Rattle.std.proofs.lemmas.Bool.{false≢true}
-use Rattle.sp_journal.specs.declared.entry.Way.TheVariants as way
 use Rattle.sp_journal.specs.declared.entry.Event.{Event}
 use Rattle.sp_journal.specs.declared.entry.Event.TheVariants as event
 use Rattle.sp_journal.specs.declared.entry.Entry.{Entry}
 use Rattle.sp_journal.specs.declared.entry.Journal.{Journal}
-use Rattle.sp_journal.specs.Names.{Name, Channel}
 use Rattle.sp_journal.specs.Births.{births, channel, occurrences}
 use Rattle.sp_journal.specs.Past.{Judged, judged, IsOrdered}
 use Rattle.sp_journal.specs.Queue.{IsFirstInFirstOut}
-use Rattle.sp_journal.specs.Texts.{entry_text}
 
 abbrev by : ℕ → Event → Entry
 by p e = record { process = p; event = e }

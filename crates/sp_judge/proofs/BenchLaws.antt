@@ -1,5 +1,5 @@
 -- The judge's tables after one more entry.
-use Rattle.std.proofs.Common.{◌≡◌, ◌⊎◌, inl, inr, ⊎_elim, ℕ, zero, suc, ◌+◌, ◌<◌, ◌≤◌, Bool, true, false, cond, max}
+use Rattle.std.proofs.Common.{◌≡◌, ◌⊎◌, inl, inr, ⊎_elim, ℕ, zero, suc, ◌+◌, ◌<◌, ◌≤◌, true, false, cond, max}
 use Rattle.std.proofs.Common.{◌&&◌, ◌==◌, nat_le, nat_lt, List, [], ◌∷◌, ◌++◌, take, length, length-append, Option}
 use Rattle.std.proofs.Common.{Some, None, slice_get, slice_set, unwrap_or, refl, sym, ap, ◌∙◌, subst, arith, eq-eqb}
 use Rattle.std.proofs.lemmas.Bool.{and_from, and_right}
@@ -26,7 +26,7 @@ use Rattle.sp_judge.proofs.Tallies.{index_or_not, made_last, take_low, take_all}
 use Rattle.sp_judge.proofs.TableLaws.{get_set}
 use Rattle.sp_judge.proofs.Standing.{Standing}
 use Rattle.sp_judge.proofs.Numbers.{Stays, same_process, shares_is, children_named}
-use Rattle.sp_judge.proofs.Fronts.{judged_last, counts_last, get_within, take_next, named_get, named_length}
+use Rattle.sp_judge.proofs.Fronts.{judged_last, counts_last, get_within, take_next, named_length}
 use Rattle.sp_judge.proofs.Fronts as front
 
 pub push_low : {X : Type 0} (xs : List X) (y : X) (i : ℕ) → i < length xs → slice_get (xs ++ y ∷ []) i ≡ slice_get xs i

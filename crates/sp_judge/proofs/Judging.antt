@@ -4,8 +4,6 @@ use Rattle.std.proofs.Common.{slice_get, refl, sym, ap, ◌∙◌, subst, arith}
 use Rattle.sp_base.specs.declared.name.ChanName.{ChanName}
 use Rattle.sp_journal.specs.declared.entry.Entry.{Entry}
 use Rattle.sp_journal.specs.declared.entry.Journal.{Journal}
-use Rattle.sp_journal.specs.declared.outcome.End.{End}
-use Rattle.sp_journal.specs.declared.outcome.Verdict.{Verdict}
 use Rattle.sp_journal.specs.declared.outcome.Verdict.TheVariants as verdict
 use Rattle.sp_journal.specs.Names.{chan_name, Offered, Occurrence}
 use Rattle.sp_journal.specs.Births.{Births, births, channel, happening, occurrence, occurrences, IsNameable}
@@ -17,9 +15,9 @@ use Rattle.sp_race.proofs.Completion.{known_ordered, ordered_known}
 use Rattle.sp_judge.specs.declared.bench.Bench.{Bench}
 use Rattle.sp_judge.specs.declared.bench.Racer.{Racer}
 use Rattle.sp_judge.specs.Bench.{named, Holds, IsTame, IsBlank, IsRacing, IsUnknown, IsFirstUnknown, offer_event}
-use Rattle.sp_judge.specs.Races.{IsFault, IsJudged, IsVerdict}
+use Rattle.sp_judge.specs.Races.{IsJudged}
 use Rattle.sp_judge.proofs.Numbers.{all_named}
-use Rattle.sp_judge.proofs.Fronts.{named_get, get_within}
+use Rattle.sp_judge.proofs.Fronts.{named_get}
 use Rattle.sp_judge.proofs.Fronts as front
 use Rattle.sp_judge.proofs.VerdictLaws.{known_more, known_at, named_take, offer_happens, nothing_unknown, first_race}
 use Rattle.sp_judge.proofs.VerdictLaws.{channel_there}

@@ -1,6 +1,6 @@
 -- Each kind of entry keeps what the tables hold.
-use Rattle.std.proofs.Common.{◌≡◌, ◌≢◌, ◌⊎◌, ℕ, zero, suc, ◌+◌, ◌^◌, ◌<◌, ◌≤◌, ◌↔◌, Bool, true, false, cond, max, ◌&&◌}
-use Rattle.std.proofs.Common.{◌==◌, nat_le, nat_lt, List, [], ◌∷◌, ◌++◌, take, length, get_or, Option, Some, None}
+use Rattle.std.proofs.Common.{◌≡◌, ◌≢◌, ℕ, ◌+◌, ◌^◌, ◌<◌, ◌≤◌, ◌↔◌, true, false, cond, max, ◌&&◌}
+use Rattle.std.proofs.Common.{◌==◌, nat_le, nat_lt, List, [], ◌∷◌, ◌++◌, take, length, get_or, Some, None}
 use Rattle.std.proofs.Common.{slice_get, slice_set, refl, sym, ap, ◌∙◌, subst, arith, Result, Ok, Err}
 use Rattle.std.proofs.lemmas.Option.{slice_get-get_or, same_Some}
 use Rattle.std.specs.Result.{OnOk}

@@ -2,7 +2,6 @@
 use Rattle.std.proofs.Common.{◌≡◌, ◌⊎◌, inl, inr, ⊎_elim, ℕ, zero, suc, ◌<◌, ◌≤◌, ◌↔◌, Bool, true, false, nat_lt, List}
 use Rattle.std.proofs.Common.{[], ◌∷◌, ◌++◌, take, length, append_assoc, append-nil, Option, Some, None, slice_get}
 use Rattle.std.proofs.Common.{refl, sym, ap, ◌∙◌, subst, arith}
-use Rattle.std.proofs.lemmas.Bool.Decides.{nat_tests}
 use Rattle.std.proofs.lemmas.Bool.{cases_lt, false≢true, lt-ltb, ltb-true}
 use Rattle.std.proofs.lemmas.Option.{same_Some}
 use Rattle.sp_journal.specs.declared.entry.Entry.{Entry}
@@ -28,7 +27,7 @@ use Rattle.sp_judge.specs.Races.{KnowsCompletion, Race, IsLeastRace}
 use Rattle.sp_judge.proofs.Standing.{Standing, size_more}
 use Rattle.sp_judge.proofs.Chains.{Chains, chains_more, nothing_chained, knows_by_last, channel_of, way_of}
 use Rattle.sp_judge.proofs.Numbers.{one_channel}
-use Rattle.sp_judge.proofs.Fronts.{get_within, named_get, named_length}
+use Rattle.sp_judge.proofs.Fronts.{get_within, named_get}
 use Rattle.sp_judge.proofs.Fronts as front
 
 chains_along : (j : Judged) (done es : List Occurrence) → Chains j done → Paired j (length done) → KnownFrom j done es

@@ -9,7 +9,7 @@ use Rattle.sp_journal.specs.declared.entry.Event.{Event}
 use Rattle.sp_journal.specs.declared.entry.Event.TheVariants as event
 use Rattle.sp_journal.specs.Births.{Births, at_start, births_from, after_event, after_entry, NameableFrom}
 use Rattle.sp_code.specs.Control.{entries_of}
-use Rattle.sp_code.specs.System.{System, IsSystem}
+use Rattle.sp_code.specs.System.{System}
 use Rattle.sp_history.specs.Holding.{IsOutputOf}
 use Rattle.sp_history.proofs.Speaking.{system_spoken}
 use Rattle.sp_history.proofs.Naming.{system_nameable}

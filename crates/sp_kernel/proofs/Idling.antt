@@ -1,10 +1,10 @@
 -- At a deadlock no process runs.
-use Rattle.std.proofs.Common.{◌≡◌, ◌≢◌, ◌||◌, ℕ, ◌<◌, nat_lt, if◌then◌else◌, Bool, true, false, List, [], ◌∷◌}
-use Rattle.std.proofs.Common.{ltb-false, refl, sym, subst, arith}
+use Rattle.std.proofs.Common.{◌≡◌, ◌≢◌, ◌||◌, ℕ, if◌then◌else◌, Bool, true, false, List, [], ◌∷◌}
+use Rattle.std.proofs.Common.{refl, sym, subst}
 use Rattle.sp_base.proofs.Facts.{none_if_not_above}
 use Rattle.sp_journal.specs.declared.entry.Note.{Note}
 use Rattle.sp_code.specs.PlainStore.{plain}
-use Rattle.sp_code.specs.Control.{control_at_start, standing, Standing, Running as Going, IsDone, IsDeadlock, IsFault}
+use Rattle.sp_code.specs.Control.{control_at_start, standing, Running as Going, IsDone, IsDeadlock, IsFault}
 use Rattle.sp_code.specs.Control.{IsMemory, is_ready}
 use Rattle.sp_code.specs.System.{opening}
 use Rattle.sp_kernel.specs.declared.kernel.Kernel.{Kernel}

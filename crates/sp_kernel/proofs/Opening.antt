@@ -9,7 +9,7 @@ use Rattle.sp_base.specs.declared.fault.Fault.TheVariants as fault
 use Rattle.sp_cell.specs.declared.cell.Cell.{Cell}
 use Rattle.sp_cell.specs.declared.cell.Cell.TheVariants as cell
 use Rattle.sp_cell.specs.declared.spot.Address.{Address}
-use Rattle.sp_cell.specs.Map.{Plain, Own, IsOwn as IsOwnPiece, HasCells, cells_of}
+use Rattle.sp_cell.specs.Map.{Plain, Own, IsOwn as IsOwnPiece, cells_of}
 use Rattle.sp_cell.specs.Laws.{get_here}
 use Rattle.sp_journal.specs.declared.entry.Way.{Way}
 use Rattle.sp_journal.specs.declared.entry.Event.TheVariants as event
@@ -24,7 +24,7 @@ use Rattle.sp_code.specs.Turns.{Stopped, IsTurn}
 use Rattle.sp_code.specs.Sound.{CanPut}
 use Rattle.sp_code.specs.Control.{Out, comes_back}
 use Rattle.sp_code.specs.System.{System, Working, after, event_of, entered_now, on_store, fault_of}
-use Rattle.sp_history.specs.Channels.{CellHas, CellsHave, EntriesHave, ConfigHas, TurnDoes}
+use Rattle.sp_history.specs.Channels.{CellHas, CellsHave, EntriesHave, ConfigHas}
 use Rattle.sp_history.proofs.Keeping.{HasKeeping, turn_does}
 use Rattle.sp_kernel.specs.declared.slot.Slot.TheVariants as slot
 use Rattle.sp_kernel.specs.declared.slot.State.TheVariants as st

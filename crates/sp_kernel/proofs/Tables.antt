@@ -1,6 +1,6 @@
 -- Tables by numbers: what one write changes.
 use Rattle.std.proofs.Common.{◌≡◌, ◌≢◌, ◌⊎◌, ℕ, zero, suc, ◌<◌, ◌==◌, inl, inr, false, cond, List, [], ◌∷◌, length}
-use Rattle.std.proofs.Common.{Option, Some, slice_get, slice_set, refl, ap, ◌∙◌, subst, arith}
+use Rattle.std.proofs.Common.{Option, Some, slice_get, slice_set, refl, ap, ◌∙◌, subst}
 use Rattle.std.proofs.Math.Path.{fun_ext}
 use Rattle.sp_base.proofs.Facts.{get_beside_set, get_where_set}
 use Rattle.sp_journal.specs.Maps.{at_key}

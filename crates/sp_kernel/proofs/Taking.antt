@@ -1,6 +1,6 @@
 -- What is taken is the front of the queue: from the tables after a call of `take` to `Takes`.
 use Rattle.std.proofs.Common.{◌≡◌, ◌≢◌, ◌⊎◌, ℕ, ◌+◌, ◌<◌, ◌==◌, ◌||◌, inl, inr, Bool, true, false, cond, if◌then◌else◌}
-use Rattle.std.proofs.Common.{nat_lt, List, [], ◌∷◌, length, Option, Some, None, slice_get, slice_set, refl, sym, ap}
+use Rattle.std.proofs.Common.{nat_lt, List, [], ◌∷◌, length, Some, None, slice_get, slice_set, refl, sym, ap}
 use Rattle.std.proofs.Common.{◌∙◌, subst}
 use Rattle.std.proofs.Math.Path.{fun_ext}
 use Rattle.std.proofs.lemmas.List.{length-set}
@@ -18,7 +18,7 @@ use Rattle.sp_machine.specs.declared.state.State.{State as Proc}
 use Rattle.sp_kernel.specs.declared.kernel.Kernel.{Kernel}
 use Rattle.sp_kernel.specs.Procs.{config_of}
 use Rattle.sp_kernel.specs.Kernels.{doing_in, condition_in, control_of, system_of, setting_of, WaitsAs, NumberIn, IsOwn}
-use Rattle.sp_kernel.specs.Kernels.{IsKernel, IsReady, Takes, is_over}
+use Rattle.sp_kernel.specs.Kernels.{IsKernel, Takes, is_over}
 use Rattle.sp_history.specs.Agreement.{Each, IsGot}
 use Rattle.sp_history.proofs.Queues.{itself, number_or}
 use Rattle.sp_history.proofs.Agreeing.{agrees_takes, orderly_takes}

@@ -7,7 +7,7 @@ use Rattle.sp_cell.specs.Map.{Plain}
 use Rattle.sp_meaning.specs.Model.{Name, Absent}
 use Rattle.sp_meaning.specs.Steps.{has_ended, Lives as IsLive}
 use Rattle.sp_meaning.specs.Entries.{Happening}
-use Rattle.sp_meaning.specs.Own.{Setting, Loc, Output, Item, Own, Process, Came, Got, Bad}
+use Rattle.sp_meaning.specs.Own.{Loc, Output, Item, Own, Process, Came, Got, Bad}
 use Rattle.sp_meaning.specs.Deeds.{Deed, Opened}
 use Rattle.sp_base.specs.declared.fault.Fault.{Fault}
 use Rattle.sp_meaning.specs.Run.{Store}

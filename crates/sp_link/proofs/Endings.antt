@@ -1,6 +1,6 @@
 -- How a run of a program's code ends is how the program does: the same ones wait where nobody can go on, and the fault
 -- of the journal is the program's.
-use Rattle.std.proofs.Common.{◌≡◌, ℕ, List, Some, None, Bool, true, false, refl, sym, ◌∙◌, subst}
+use Rattle.std.proofs.Common.{◌≡◌, ℕ, List, None, Bool, true, false, refl, sym, ◌∙◌, subst}
 use Rattle.std.proofs.lemmas.Option.{none-some}
 use Rattle.sp_base.specs.declared.fault.Fault.{Fault}
 use Rattle.sp_tree.specs.Plain.{Stmt}
@@ -8,7 +8,6 @@ use Rattle.sp_journal.specs.declared.entry.Entry.{Entry}
 use Rattle.sp_journal.specs.Births.{at_start, births_from, occurrences_from, NameableFrom}
 use Rattle.sp_journal.proofs.BirthLaws.{lawful_start}
 use Rattle.sp_cell.specs.Map.{Plain}
-use Rattle.sp_meaning.specs.Model.{Name}
 use Rattle.sp_meaning.specs.Own.{Setting}
 use Rattle.sp_meaning.specs.Runs.{StateOf, start}
 use Rattle.sp_meaning.specs.Along.{no_course, IsAlong}

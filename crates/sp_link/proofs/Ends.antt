@@ -12,7 +12,7 @@ use Rattle.sp_journal.specs.declared.entry.Event.TheVariants as event
 use Rattle.sp_journal.specs.Births.{happening}
 use Rattle.sp_journal.specs.Maps.{at_key}
 use Rattle.sp_cell.specs.Map.{Plain, output_of}
-use Rattle.sp_meaning.specs.Model.{Name, same_name, Condition, Absent, Works, Waits, Joins, Ended, Becomes, changed}
+use Rattle.sp_meaning.specs.Model.{Name, Condition, Absent, Waits, Joins, Ended, Becomes, changed}
 use Rattle.sp_meaning.specs.Steps.{has_ended, working_in, JoinsAt, Lives as IsLive}
 use Rattle.sp_meaning.specs.Entries.{Happening}
 use Rattle.sp_journal.specs.Names as happenings
@@ -27,7 +27,7 @@ use Rattle.sp_meaning.specs.Turn as source
 use Rattle.sp_meaning.proofs.Keys.{name_test}
 use Rattle.sp_meaning.proofs.Maps.{at_same, at_other, differs, same_or_not}
 use Rattle.sp_meaning.proofs.Owned.{Inv}
-use Rattle.sp_meaning.proofs.Parallel.{alone_lives, alone_childless}
+use Rattle.sp_meaning.proofs.Parallel.{alone_childless}
 use Rattle.sp_meaning.proofs.Reached.{Known, step_well, raised, lowered}
 use Rattle.sp_meaning.proofs.Sound.{step_sound}
 use Rattle.sp_meaning.proofs.Status.{working_lives}
@@ -36,14 +36,14 @@ use Rattle.sp_code.specs.Machine as machine
 use Rattle.sp_code.specs.Turns.{Turn, Stopped, IsTurn}
 use Rattle.sp_code.specs.Memory.{Memory}
 use Rattle.sp_code.specs.PlainStore.{plain}
-use Rattle.sp_code.specs.System.{System, after, event_of, entered_now, rejoined, reported, becomes}
+use Rattle.sp_code.specs.System.{System, after, event_of, rejoined, reported, becomes}
 use Rattle.sp_code.specs.System as sys
 use Rattle.sp_link.proofs.Journal.{Way_on, IsOpen, now_by}
 use Rattle.sp_link.proofs.KernelSteps.{kernel_next, kernel_says, stand_dead}
 use Rattle.sp_link.proofs.OneChanges.{its, here, number_or, inv_local}
 use Rattle.sp_link.proofs.Pauses.{Entry_of, Meant, Machined, kids, turn_is, after_quiet}
 use Rattle.sp_link.proofs.Rejoins.{memory_after, joins_on, runs_on, one_fewer, all_over}
-use Rattle.sp_link.proofs.Relation.{Ground, Life, Lives, W_of, R_of, St, Stands, Joined, Performs_all, Told, Linked}
+use Rattle.sp_link.proofs.Relation.{Ground, Lives, W_of, R_of, St, Stands, Joined, Performs_all, Linked}
 use Rattle.sp_link.proofs.Relation.{Began, run_is, ops, left_of}
 use Rattle.sp_link.proofs.OthersStay.{does_stay}
 use Rattle.sp_meaning.proofs.QuietDeeds.{IsDead}

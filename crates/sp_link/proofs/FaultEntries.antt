@@ -13,7 +13,7 @@ use Rattle.sp_journal.proofs.BirthLaws.{Lawful, lawful_after}
 use Rattle.sp_cell.specs.declared.cell.Cell.{Cell}
 use Rattle.sp_cell.specs.declared.spot.Address.{Address}
 use Rattle.sp_cell.specs.Map.{Plain}
-use Rattle.sp_meaning.specs.Model.{Name, State, Moves, Opens, Forks, Offering, Ends, Fails, Faults, changed}
+use Rattle.sp_meaning.specs.Model.{Name, Moves, Opens, Forks, Offering, Ends, Fails}
 use Rattle.sp_meaning.specs.Model.{after as After}
 use Rattle.sp_meaning.specs.Steps.{ActOf, Outcome, Advances, Faulty, outcome, passed, unless, acts, cost, result_of}
 use Rattle.sp_meaning.specs.Steps.{step_with}

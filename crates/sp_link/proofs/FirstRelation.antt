@@ -8,7 +8,7 @@ use Rattle.sp_tree.specs.Plain.{Block}
 use Rattle.sp_journal.specs.Births.{at_start}
 use Rattle.sp_cell.specs.Map.{Plain, output_of}
 use Rattle.sp_meaning.specs.Model.{Name, Absent}
-use Rattle.sp_meaning.specs.Own.{Setting, Loc, Output, Held, Address, Own, Who, Item, Break, Process, Written}
+use Rattle.sp_meaning.specs.Own.{Setting, Loc, Output, Own, Who, Break}
 use Rattle.sp_meaning.specs.Deeds.{push, size_of_frame}
 use Rattle.sp_meaning.specs.Owning.{Fit}
 use Rattle.sp_meaning.specs.SuperPascal.{root, main, first_store}

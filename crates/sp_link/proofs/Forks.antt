@@ -2,7 +2,7 @@
 -- joins them (`fork_entry`); or the entries or the processes are at their limit: F15, F13. What a parallel and what a
 -- forall statement give for this is in `Parallels` and `Foralls`.
 use Rattle.std.proofs.Common.{◌≡◌, ◌⊎◌, inl, inr, ⊎_elim, ℕ, zero, suc, ◌+◌, ◌<◌, ◌≤◌, ◌==◌, ℤ, List, [], ◌∷◌, length}
-use Rattle.std.proofs.Common.{Option, Some, None, Bool, true, false, ◌&&◌, cond, if◌then◌else◌, eqb-true, eq-eqb, refl}
+use Rattle.std.proofs.Common.{Option, Some, None, Bool, true, false, ◌&&◌, cond, if◌then◌else◌, eq-eqb, refl}
 use Rattle.std.proofs.Common.{sym, ap, ◌∙◌, subst, arith}
 use Rattle.std.proofs.Common.{add-zero, one-add, zero-add}
 use Rattle.std.specs.Prelude.{◌≢◌, ◌-◌, nat_lt, nat_le, IsSome, slice_get}

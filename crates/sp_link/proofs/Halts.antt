@@ -1,7 +1,7 @@
 -- A process that does nothing more: it faults, or it is laid down after another's fault. `Halted` is where its turn has
 -- come to on both sides, with one output; `laid_entry` and `failed_entry` are the entries `Laid` and `Fault`.
-use Rattle.std.proofs.Common.{◌≡◌, ◌⊎◌, inl, ⊎_elim, ℕ, suc, ◌+◌, ◌==◌, List, ◌∷◌, length, Some, Bool, true, false}
-use Rattle.std.proofs.Common.{cond, if◌then◌else◌, ◌||◌, refl, sym, ap, ◌∙◌, subst, arith}
+use Rattle.std.proofs.Common.{◌≡◌, ◌⊎◌, inl, ⊎_elim, ℕ, ◌+◌, ◌==◌, List, ◌∷◌, length, Some, Bool, true, false}
+use Rattle.std.proofs.Common.{cond, if◌then◌else◌, ◌||◌, refl, sym, ap, ◌∙◌, subst}
 use Rattle.std.proofs.Common.{one-add}
 use Rattle.std.specs.Prelude.{◌≢◌}
 use Rattle.sp_base.specs.declared.fault.Fault.{Fault}
@@ -11,7 +11,7 @@ use Rattle.sp_journal.specs.Births.{happening, after_event}
 use Rattle.sp_journal.specs.Maps.{at_key}
 use Rattle.sp_journal.specs.declared.entry.Event.TheVariants as event
 use Rattle.sp_cell.specs.Map.{Plain, output_of}
-use Rattle.sp_meaning.specs.Model.{Name, same_name, Faults, changed, Moves, Opens, Forks, Offering, Ends, Fails}
+use Rattle.sp_meaning.specs.Model.{Name, Faults, changed, Moves, Opens, Forks, Offering, Ends, Fails}
 use Rattle.sp_meaning.specs.Asking.{answer}
 use Rattle.sp_meaning.specs.Steps.{ActOf, Outcome, Advances, Faulty}
 use Rattle.sp_meaning.specs.Entries.{Happening, Laid, Opened as Is_opened, Offered as Is_offered}
@@ -47,7 +47,7 @@ use Rattle.sp_link.proofs.AtStop.{keeps_at, same_but_dead, same_but_one, same_ou
 use Rattle.sp_link.proofs.Journal.{Way_on, IsOpen, now_by}
 use Rattle.sp_link.proofs.KernelSteps.{kernel_next, kernel_says, act}
 use Rattle.sp_link.proofs.OneChanges.{its, runs, linked_local}
-use Rattle.sp_link.proofs.Pauses.{Entry_of, Meant, Machined, Kept_to, kids, turn_is, after_quiet, after_laid, kt}
+use Rattle.sp_link.proofs.Pauses.{Entry_of, Meant, Machined, kids, turn_is, after_quiet, after_laid, kt}
 use Rattle.sp_link.proofs.Pauses as at
 use Rattle.sp_link.proofs.Relation.{Ground, Life, Lives, W_of, R_of, St, Rel, Stands, TooLarge, Told, Linked, run_is}
 use Rattle.sp_link.proofs.Relation.{ops}

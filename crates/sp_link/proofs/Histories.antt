@@ -26,7 +26,7 @@ use Rattle.sp_meaning.specs.Runs.{StateOf, output_of}
 use Rattle.sp_meaning.specs.Along.{IsAlong}
 use Rattle.sp_meaning.specs.Ends.{Waiting, IsDone, IsDeadlock, EndIs}
 use Rattle.sp_code.specs.Control.{Control, Doing, Unborn, Ready, Out, Sending, Receiving, Joining, Laid, Ended, Gone}
-use Rattle.sp_code.specs.Control.{queues, offers, does, one_fewer, reports, happens, comes_back, abandons, takes, given}
+use Rattle.sp_code.specs.Control.{queues, offers, does, one_fewer, reports, happens, abandons, takes, given}
 use Rattle.sp_code.specs.Control.{noted, noted_all, control, control_at_start, Standing, Running, IsMemory, IsFault}
 use Rattle.sp_code.specs.Control.{has_ended, is_ready, standing, entries_of}
 use Rattle.sp_code.specs.Control as ctrl

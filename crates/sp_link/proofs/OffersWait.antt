@@ -1,7 +1,7 @@
 -- The entry `Send` or `Receive` on both sides where nothing is pending on the channel: the offer waits
 -- (`waiting_entry`).
-use Rattle.std.proofs.Common.{◌≡◌, ◌⊎◌, inl, ⊎_elim, ℕ, suc, ◌+◌, ◌<◌, ◌==◌, List, ◌∷◌, length, Option, Some, None}
-use Rattle.std.proofs.Common.{Bool, true, false, cond, if◌then◌else◌, eqb-true, eq-eqb, refl, sym, ap, ◌∙◌, subst}
+use Rattle.std.proofs.Common.{◌≡◌, ◌⊎◌, inl, ⊎_elim, ℕ, ◌+◌, ◌<◌, ◌==◌, List, ◌∷◌, length, Option, Some, None}
+use Rattle.std.proofs.Common.{false, cond, if◌then◌else◌, eq-eqb, refl, sym, ap, ◌∙◌, subst}
 use Rattle.std.proofs.Common.{arith}
 use Rattle.std.proofs.Common.{one-add}
 use Rattle.std.specs.Prelude.{◌≢◌, nat_lt}
@@ -17,18 +17,18 @@ use Rattle.sp_journal.specs.declared.entry.Event.TheVariants as event
 use Rattle.sp_journal.specs.Births.{happening}
 use Rattle.sp_journal.specs.Maps.{at_key}
 use Rattle.sp_cell.specs.Map.{Plain}
-use Rattle.sp_meaning.specs.Model.{Name, same_name, Condition, Absent, Works, Waits, Joins, Ended, Becomes, changed}
-use Rattle.sp_meaning.specs.Model.{after as After, same_channel, Channel, Cargo, Message, Takes, Offer, Totals, add}
-use Rattle.sp_meaning.specs.Steps.{has_ended, working_in, JoinsAt, Lives as IsLive, OfferOf, waiting, an_entry, way_of}
-use Rattle.sp_meaning.specs.Steps.{Outcome, Advances, outcome, passed, unless, offered, acts}
+use Rattle.sp_meaning.specs.Model.{Name, Condition, Absent, Waits}
+use Rattle.sp_meaning.specs.Model.{after as After, same_channel, Channel, Cargo, Message, Takes, Totals}
+use Rattle.sp_meaning.specs.Steps.{has_ended, Lives as IsLive, OfferOf, waiting, an_entry, way_of}
+use Rattle.sp_meaning.specs.Steps.{Advances, outcome, passed, unless, offered}
 use Rattle.sp_meaning.specs.Entries.{Happening, Offered as Is_offered}
-use Rattle.sp_meaning.specs.Own.{Setting, Loc, Output, Held, Address, Own, Process, Came, Got, Written, Item, Tree}
+use Rattle.sp_meaning.specs.Own.{Held, Address, Own, Process, Came, Got, Written, Item, Tree}
 use Rattle.sp_meaning.specs.Own.{Position}
 use Rattle.sp_meaning.specs.Deeds.{Deed, Offered}
 use Rattle.sp_meaning.specs.SuperPascal.{with_todo}
 use Rattle.sp_meaning.specs.SuperPascal.{superpascal}
 use Rattle.sp_meaning.specs.Run.{Store}
-use Rattle.sp_meaning.specs.Runs.{StateOf, most, running, next, says}
+use Rattle.sp_meaning.specs.Runs.{StateOf, most, next, says}
 use Rattle.sp_meaning.specs.Along.{Course, ticks_in, ticks_of, noted, Entered}
 use Rattle.sp_meaning.specs.Turn as source
 use Rattle.sp_meaning.proofs.Keys.{name_test}
@@ -42,15 +42,15 @@ use Rattle.sp_code.specs.Machine as machine
 use Rattle.sp_code.specs.Turns.{Turn, Stopped, IsTurn}
 use Rattle.sp_code.specs.Memory.{Memory}
 use Rattle.sp_code.specs.PlainStore.{plain}
-use Rattle.sp_code.specs.System.{System, after, event_of, entered_now, rejoined, reported, becomes}
+use Rattle.sp_code.specs.System.{System, after, event_of}
 use Rattle.sp_code.specs.System as sys
 use Rattle.sp_link.proofs.Messages.{owned_ready}
 use Rattle.sp_link.proofs.Journal.{Way_on, IsOpen, now_by}
 use Rattle.sp_link.proofs.KernelSteps.{kernel_next, kernel_says, stand_dead}
 use Rattle.sp_link.proofs.OneChanges.{its, here, number_or, inv_local}
 use Rattle.sp_link.proofs.Pauses.{Entry_of, Meant, Machined, Kept_to, kids, turn_is, after_quiet}
-use Rattle.sp_link.proofs.Relation.{Ground, Life, Lives, W_of, R_of, St, Stands, Joined, Performs_all, Told, Ca}
-use Rattle.sp_link.proofs.Relation.{IsPending, Linked, Began, run_is, ops, left_of}
+use Rattle.sp_link.proofs.Relation.{Ground, Lives, W_of, R_of, Stands, Performs_all, Ca}
+use Rattle.sp_link.proofs.Relation.{IsPending, Linked, run_is, ops}
 use Rattle.sp_link.proofs.OthersStay.{does_stay}
 use Rattle.sp_meaning.proofs.QuietDeeds.{IsDead}
 use Rattle.sp_link.proofs.AtStop.{same_but_dead, w, p1, kt, alone_at, known_at, rights_at, ended_at, other_name}

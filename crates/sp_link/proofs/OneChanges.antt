@@ -5,7 +5,7 @@ use Rattle.std.proofs.Common.{if◌then◌else◌, eqb-true, eq-eqb, refl, sym, 
 use Rattle.std.specs.Prelude.{◌≢◌}
 use Rattle.sp_journal.specs.Maps.{at_key}
 use Rattle.sp_cell.specs.Map.{Plain}
-use Rattle.sp_meaning.specs.Model.{Name, same_name, Condition, Absent, Works, Waits, Joins, Ended}
+use Rattle.sp_meaning.specs.Model.{Name, Condition, Absent, Works, Waits, Joins, Ended}
 use Rattle.sp_meaning.specs.Steps.{working_in, has_ended, all_ended, Lives as IsLive}
 use Rattle.sp_meaning.specs.Own.{Loc, Held, Address, Process}
 use Rattle.sp_meaning.specs.SuperPascal.{weight_of}

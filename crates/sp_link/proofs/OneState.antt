@@ -1,6 +1,6 @@
 -- Along a journal the meaning has one state at most, after one number of steps: a turn is a function of the state, and
 -- so is the step of an entry. The way from the meaning back to the machine rests on it (`Replay`).
-use Rattle.std.proofs.Common.{◌≡◌, ℕ, zero, suc, ◌+◌, List, [], ◌∷◌, Option, Some, None, Bool, true, false, refl, sym}
+use Rattle.std.proofs.Common.{◌≡◌, ℕ, zero, suc, ◌+◌, List, [], ◌∷◌, Bool, true, false, refl, sym}
 use Rattle.std.proofs.Common.{ap, ◌∙◌, subst}
 use Rattle.std.proofs.lemmas.Option.{none-some, same_Some}
 use Rattle.sp_meaning.specs.Entries.{Happening, Occurrence, Opened, Forked, Offered, Ended, Faulted, Laid, Paused}

@@ -1,7 +1,7 @@
 -- The entry `Open` on both sides: the new channel has the next number and its name, and stands in the target
 -- (`opening_entry`); or the entries or the channels are at their limit: F15, F14.
-use Rattle.std.proofs.Common.{◌≡◌, ◌⊎◌, inl, ⊎_elim, ℕ, suc, ◌+◌, ◌<◌, ◌==◌, List, ◌∷◌, length, Option, Some, None}
-use Rattle.std.proofs.Common.{Bool, true, false, cond, if◌then◌else◌, eqb-true, eq-eqb, refl, sym, ap, ◌∙◌, subst}
+use Rattle.std.proofs.Common.{◌≡◌, ◌⊎◌, inl, ⊎_elim, ℕ, ◌+◌, ◌<◌, ◌==◌, List, ◌∷◌, length, Option, Some, None}
+use Rattle.std.proofs.Common.{Bool, true, false, cond, if◌then◌else◌, eq-eqb, refl, sym, ap, ◌∙◌, subst}
 use Rattle.std.proofs.Common.{arith}
 use Rattle.std.proofs.Common.{one-add}
 use Rattle.std.specs.Prelude.{◌≢◌, nat_lt}
@@ -33,7 +33,7 @@ use Rattle.sp_meaning.specs.Turn as source
 use Rattle.sp_meaning.proofs.Keys.{name_test}
 use Rattle.sp_meaning.proofs.Maps.{at_same, at_other, differs, itself, same_or_not}
 use Rattle.sp_meaning.proofs.Moved.{stored, answered}
-use Rattle.sp_meaning.proofs.Owned.{Inv, Holds, Keeps_to}
+use Rattle.sp_meaning.proofs.Owned.{Inv, Holds}
 use Rattle.sp_meaning.proofs.Reached.{Known, step_well, raised, lowered}
 use Rattle.sp_meaning.proofs.Rights.{Mine}
 use Rattle.sp_meaning.proofs.Sound.{step_sound}

@@ -1,14 +1,14 @@
 -- All other processes stay as they are where one writes only what it may write (`does_stay`): who runs or waits reads
 -- nothing of it, since parallel processes are disjoint; who joins has it away with the child that is above the writer.
-use Rattle.std.proofs.Common.{◌≡◌, ◌⊎◌, inl, inr, ⊎_elim, ℕ, zero, suc, ◌+◌, ◌<◌, List, [], ◌∷◌, ◌++◌, Option, Some}
-use Rattle.std.proofs.Common.{None, Bool, true, false, ◌&&◌, if◌then◌else◌, refl, sym, ap, ◌∙◌, subst}
+use Rattle.std.proofs.Common.{◌≡◌, ◌⊎◌, inl, inr, ⊎_elim, ℕ, zero, suc, ◌+◌, List, [], ◌∷◌, Some}
+use Rattle.std.proofs.Common.{None, true, false, ◌&&◌, if◌then◌else◌, refl, sym, ap, ◌∙◌, subst}
 use Rattle.std.specs.Prelude.{◌≢◌}
 use Rattle.sp_cell.specs.declared.spot.Spot.{Spot}
 use Rattle.sp_cell.specs.Map.{Map, Plain}
 use Rattle.sp_meaning.specs.Model.{Name, Condition, Absent, Works, Waits, Joins, Ended}
 use Rattle.sp_meaning.specs.Steps.{working_in, has_ended, all_ended, Lives as IsLive, JoinsAt, Sound}
 use Rattle.sp_meaning.specs.Disjoint.{AreParallel}
-use Rattle.sp_meaning.specs.Own.{Setting, Loc, Cell, Input, Output, Held, Address, Own, Process}
+use Rattle.sp_meaning.specs.Own.{Loc, Cell, Input, Output, Held, Address, Own, Process}
 use Rattle.sp_meaning.specs.Run.{Store}
 use Rattle.sp_meaning.specs.Runs.{StateOf}
 use Rattle.sp_meaning.specs.Along.{Course}
@@ -20,8 +20,8 @@ use Rattle.sp_code.specs.System as sys
 use Rattle.sp_codegen.specs.Joints.{Joint}
 use Rattle.sp_codegen.proofs.Joining.{Joining, stand_same, joining_same}
 use Rattle.sp_link.proofs.Stances.{Under, stance, child_writes}
-use Rattle.sp_link.proofs.Relation.{Ground, Life, Lives, W_of, R_of, Called, Named, Stands, Joined, Handed, Lives_yet}
-use Rattle.sp_link.proofs.Relation.{Away_yet, left_of, Told, Performs_all}
+use Rattle.sp_link.proofs.Relation.{Ground, Life, Lives, W_of, R_of, Called, Named, Stands, Joined, Lives_yet}
+use Rattle.sp_link.proofs.Relation.{left_of, Told, Performs_all}
 
 -- ---- what is away may be told otherwise
 

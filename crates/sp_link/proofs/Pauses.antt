@@ -1,7 +1,7 @@
 -- The entry `Pause` on both sides (`pausing`). `Entry_of` is the form of every event's lemma: the turn of the machine,
 -- the way of the meaning to the same entry, and the relation after it.
 use Rattle.std.proofs.Common.{◌≡◌, ◌⊎◌, inl, ℕ, ◌+◌, ◌==◌, List, ◌∷◌, true, false, if◌then◌else◌, cond, refl, sym, ap}
-use Rattle.std.proofs.Common.{◌∙◌, subst, arith}
+use Rattle.std.proofs.Common.{◌∙◌, subst}
 use Rattle.sp_base.proofs.Facts.{is_none_plus}
 use Rattle.sp_journal.specs.Births.{after_event}
 use Rattle.sp_journal.specs.Maps.{at_key}
@@ -22,7 +22,7 @@ use Rattle.sp_meaning.proofs.Maps.{itself, differs}
 use Rattle.sp_code.specs.Machine.{Config, At}
 use Rattle.sp_code.specs.Machine as machine
 use Rattle.sp_code.specs.Turns as Turns
-use Rattle.sp_code.specs.Turns.{Turn, Stopped, Faulted, IsTurn}
+use Rattle.sp_code.specs.Turns.{Turn, Stopped, IsTurn}
 use Rattle.sp_code.specs.Memory.{Memory}
 use Rattle.sp_code.specs.PlainStore.{plain}
 use Rattle.sp_code.specs.System.{System, Working, after, unless_fault, fault_of, event_or, event_of, lays, config_of}

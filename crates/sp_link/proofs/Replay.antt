@@ -11,7 +11,7 @@ use Rattle.sp_journal.specs.declared.entry.Way.TheVariants as way
 use Rattle.sp_journal.specs.declared.entry.Entry.{Entry}
 use Rattle.sp_journal.specs.Births.{Births, channel, after_event, happening, occurrences_from, CanFollow, NameableFrom}
 use Rattle.sp_cell.specs.Map.{Plain}
-use Rattle.sp_meaning.specs.Model.{Name, Works, Waits, Joins, Absent, Ended}
+use Rattle.sp_meaning.specs.Model.{Name, Waits, Joins, Absent, Ended}
 use Rattle.sp_meaning.specs.Steps.{working_in, all_ended, has_ended}
 use Rattle.sp_meaning.specs.Entries.{Happening, Opened, Forked, Offered, Faulted, Laid, Paused}
 use Rattle.sp_journal.specs.Names as happenings

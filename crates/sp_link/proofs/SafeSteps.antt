@@ -51,7 +51,7 @@ use Rattle.sp_link.proofs.OneChanges.{q, pr, its, here, runs, light, keeps_to}
 use Rattle.sp_link.proofs.Parallels as parallel
 use Rattle.sp_link.proofs.Pauses.{Meant, Machined, Kept_to, kids, turn_is}
 use Rattle.sp_link.proofs.Splits.{cells_held, bytes_held}
-use Rattle.sp_link.proofs.Relation.{Ground, Life, Lives, Named, St, Ca, Stands, TooLarge, Ready, Joined, Performs_all}
+use Rattle.sp_link.proofs.Relation.{Ground, Life, Lives, Named, St, Ca, Stands, Ready, Joined, Performs_all}
 use Rattle.sp_link.proofs.Relation.{Linked, run_is, ops, execution}
 
 -- what a process made beside its first frames

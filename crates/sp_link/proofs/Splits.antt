@@ -1,7 +1,7 @@
 -- A parallel statement can be carried out: what it hands over is held, nothing is moved twice, and nothing that is
 -- moved is shared, since by the rules of interference no two of its processes share what one of them changes
 -- (`parallel_split`).
-use Rattle.std.proofs.Common.{◌≡◌, ◌⊎◌, inl, inr, ⊎_elim, ℕ, zero, suc, ◌+◌, ◌<◌, ℤ, List, ◌∷◌, length, Option, Some}
+use Rattle.std.proofs.Common.{◌≡◌, ◌⊎◌, inl, inr, ℕ, zero, suc, ◌+◌, ◌<◌, ℤ, List, ◌∷◌, length, Option, Some}
 use Rattle.std.proofs.Common.{None, true, refl, sym, ap, ◌∙◌, subst, arith}
 use Rattle.std.specs.Prelude.{◌≢◌, IsSome, slice_get}
 use Rattle.std.specs.FinMap as fin

@@ -1,7 +1,7 @@
 -- Who waits in the machine waits in the meaning, with the same way and channel, and the other way round (`waits_means`,
 -- `waits_runs`); so where nobody can go on in the one, nobody can in the other, and the same ones wait (`stuck_means`,
 -- `stuck_runs`).
-use Rattle.std.proofs.Common.{◌≡◌, ℕ, ◌<◌, ◌∷◌, List, Option, Some, None, false, refl, sym, ap, ◌∙◌, subst}
+use Rattle.std.proofs.Common.{◌≡◌, ℕ, ◌<◌, ◌∷◌, List, Some, false, refl, sym, ap, ◌∙◌, subst}
 use Rattle.std.proofs.lemmas.Option.{none-some, same_Some}
 use Rattle.sp_journal.specs.declared.entry.Way.TheVariants as way
 use Rattle.sp_journal.specs.Births.{channel}

@@ -2,7 +2,7 @@
 use Rattle.std.proofs.Common.{◌≡◌, ◌≢◌, ℕ, zero, suc, ◌+◌, ◌≤◌, ◌<◌, List, [], ◌∷◌, ◌++◌, length, take, drop, get_or}
 use Rattle.std.proofs.Common.{replicate, Option, Some, None, Bool, true, false, refl, sym, ap, ◌∙◌, subst, arith}
 use Rattle.std.proofs.Common.{append_assoc}
-use Rattle.std.specs.Prelude.{Result, Ok, Err, IfOk, if◌then◌else◌, reverse, slice_get, nat_lt, nat_le, ◌&&◌, sum}
+use Rattle.std.specs.Prelude.{Result, Ok, Err, IfOk, if◌then◌else◌, reverse, slice_get, nat_lt, nat_le, sum}
 use Rattle.std.proofs.lemmas.List.{append-nil, reverse-append, drop_all, length-replicate}
 use Rattle.std.proofs.Math.Seq.{drop-cons}
 use Rattle.std.proofs.lemmas.Bool.{lt-ltb, le-ltb, eqb-true, leb-true, and_parts}
@@ -15,7 +15,7 @@ use Rattle.sp_cell.specs.declared.cell.Cell.{Cell}
 use Rattle.sp_cell.specs.declared.cell.Cell.TheVariants as cell
 use Rattle.sp_cell.specs.declared.spot.Spot.{Spot}
 use Rattle.sp_cell.specs.declared.spot.Address.{Address}
-use Rattle.sp_cell.specs.Map.{Content, Own, Map, Plain, IsPiece, IsOwn, HasCells, cells_of, cells_at}
+use Rattle.sp_cell.specs.Map.{Content, Own, Map, Plain, IsPiece, IsOwn, HasCells, cells_of}
 use Rattle.sp_cell.specs.Frame.{with_pieces, pushed, next_frame}
 use Rattle.sp_cell.specs.Laws.{get_other, get_here}
 use Rattle.sp_code.specs.declared.code.Formal.{Formal}
@@ -33,7 +33,6 @@ use Rattle.sp_code.specs.Sound.{run_of}
 use Rattle.sp_base.specs.declared.halt.Memory.{Memory as Refused}
 use Rattle.sp_machine.specs.declared.state.State.{State}
 use Rattle.sp_machine.specs.declared.state.Stop.{Stop}
-use Rattle.sp_machine.specs.declared.state.Stop.TheVariants as stop
 use Rattle.sp_code.specs.Formals.{HasRoom}
 use Rattle.sp_machine.specs.declared.state.Interrupt.{Interrupt}
 use Rattle.sp_machine.specs.declared.state.Interrupt.TheVariants as interrupt

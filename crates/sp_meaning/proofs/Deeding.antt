@@ -11,11 +11,10 @@ use Rattle.sp_tree.specs.Plain.{ReadLine, WriteValue, WriteText, WriteLine, Open
 use Rattle.sp_tree.specs.Plain.{Arms, NoArm, Or}
 use Rattle.sp_base.specs.declared.fault.Fault.{Fault}
 use Rattle.sp_base.specs.declared.fault.Fault.TheVariants as fault
-use Rattle.sp_meaning.specs.Asking.{Asking, Done, Loads, Puts}
 use Rattle.sp_meaning.specs.Values.{Value, Ordinal, Chan, initials}
 use Rattle.sp_meaning.specs.Own.{Setting, Cell, Input, OfBlock, seek, reach, reached, Loc, Output, Held, Tree, Written}
-use Rattle.sp_meaning.specs.Own.{Address, Frame, Own, Who, Item, Do, First, Again, Test, Leave, Break, Came, Got, Bad}
-use Rattle.sp_meaning.specs.Own.{Lost, Long, Work, bind, give, fail, lost, become, put, assign, tick, deepen, widen}
+use Rattle.sp_meaning.specs.Own.{Address, Frame, Own, Who, Item, Do, First, Again, Test, Leave, Break}
+use Rattle.sp_meaning.specs.Own.{Work, bind, give, fail, become, put, assign, tick, deepen, widen}
 use Rattle.sp_meaning.specs.Own.{is_block, bytes_in, fetch}
 use Rattle.sp_meaning.specs.Texts.{Taken, Takes as Took, Fails as Refuses_it, padded, line_length}
 use Rattle.sp_meaning.specs.Eval.{value, ordinal_of, address, Place, At, Fixed, Given, ValueOf, PlaceOf, Calls}

@@ -19,7 +19,7 @@ use Rattle.sp_meaning.specs.Model.{Channel}
 use Rattle.sp_meaning.specs.Asking.{Asking, Done, Loads, Puts, and_then}
 use Rattle.sp_meaning.specs.Values.{Value, Undefined, Ordinal, Chan, Parts}
 use Rattle.sp_meaning.specs.Own.{Loc, Held, Address, Home, OfBlock, OfIndex, Frame, Setting, Own, Who, Came, Got, Bad}
-use Rattle.sp_meaning.specs.Own.{Lost, Long, Work, bind, go_on, give, fail, lost, mine, look, put, fetch, assign}
+use Rattle.sp_meaning.specs.Own.{Lost, Long, Work, bind, go_on, give, fail, lost, look, put, fetch, assign}
 use Rattle.sp_meaning.specs.Own.{or_lost, visible, seen, seek, reach, reached, is_block, is_index, referred}
 use Rattle.sp_meaning.specs.Eval.{Place, At, Fixed, Given, Calls, work_of, as_ordinal, ordinal, channel, channels_op}
 use Rattle.sp_meaning.specs.Eval.{operate, standard_op, input_op, ordinal_read, channel_read, checked, element_at}

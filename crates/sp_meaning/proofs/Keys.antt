@@ -1,5 +1,5 @@
 -- Names and channels are told apart by their tests.
-use Rattle.std.proofs.Common.{◌≡◌, Bool, true, false, ◌&&◌, ◌==◌, [], ◌∷◌, refl, ap, subst, eqb-true, eq-eqb}
+use Rattle.std.proofs.Common.{◌≡◌, true, ◌&&◌, ◌==◌, [], ◌∷◌, refl, ap, subst, eqb-true, eq-eqb}
 use Rattle.std.proofs.lemmas.Bool.{and_from}
 use Rattle.sp_base.proofs.Facts.{first_true, second_true}
 use Rattle.sp_meaning.specs.Maps.{IsTest}

@@ -1,17 +1,9 @@
 -- Expressions are pure: what they call is functions alone, with values alone, and a function changes nothing outside
 -- itself.
-use Rattle.std.proofs.Common.{◌≡◌, inl, inr, ℕ, zero, suc, List, [], ◌∷◌, Option, Some, None, map, refl, sym, ap, ◌∙◌}
+use Rattle.std.proofs.Common.{◌≡◌, inl, inr, ℕ, List, [], ◌∷◌, Option, Some, None, sym}
 use Rattle.std.proofs.Common.{subst}
 use Rattle.std.specs.Prelude.{slice_get}
-use Rattle.sp_base.specs.declared.place.Place.{Place}
-use Rattle.sp_base.specs.declared.rule.Rule.{Rule}
-use Rattle.sp_base.specs.declared.rule.Rule.TheVariants as rule
 use Rattle.sp_tree.specs.declared.checked.Role.TheVariants as role
-use Rattle.sp_tree.specs.declared.checked.Variable as checked_variable
-use Rattle.sp_tree.specs.PlainChecked as checked
-use Rattle.sp_tree.specs.Bare.{bare, variable_of}
-use Rattle.sp_tree.specs.Interferes.{Interferes}
-use Rattle.sp_tree.proofs.NoBreach.{block_at}
 use Rattle.sp_tree.specs.Plain.{Expr, Typed, ExprForm, Number, Read, Unary, Binary, Apply, Standard, AtInput, Var}
 use Rattle.sp_tree.specs.Plain.{Entire, Index, Field, Selectors, Whole, Select, ByValue, ByReference, Actuals, Nothing}
 use Rattle.sp_tree.specs.Plain.{Pass, Program, Variable, Block, Stmt, Empty, Assign, Call, Sequence, If, IfElse, While}

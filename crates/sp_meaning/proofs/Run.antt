@@ -1,9 +1,8 @@
 -- Computations run on a store one after the other: the only place where the trees of reads and writes are seen.
-use Rattle.std.proofs.Common.{◌≡◌, ◌∙◌, refl, sym, subst}
-use Rattle.sp_base.specs.declared.fault.Fault.{Fault}
+use Rattle.std.proofs.Common.{◌≡◌, ◌∙◌, refl}
 use Rattle.sp_meaning.specs.Asking.{answer}
 use Rattle.sp_meaning.specs.Own.{Own, Who, Came, Got, Bad, Lost, Long, Work, bind, go_on, same_loc}
-use Rattle.sp_meaning.specs.Run.{Store, run, Meets}
+use Rattle.sp_meaning.specs.Run.{Store, run}
 use Rattle.sp_meaning.proofs.Asking.{answer_then}
 use Rattle.sp_meaning.proofs.Instance.{loc_test}
 

@@ -18,7 +18,7 @@ use Rattle.sp_tree.specs.Words as w
 use Rattle.sp_tree.specs.Breaches.{nesting}
 use Rattle.sp_grammar.specs.Symbols.{Symbol, Values, AToken, AStatement, MoreStatements, ABlock, Parts}
 use Rattle.sp_grammar.specs.Table as row
-use Rattle.sp_grammar.specs.Table.{Entry, Row, entry, rows, look, gap, build, kind_is, PartsRow, parts_rows}
+use Rattle.sp_grammar.specs.Table.{Entry, Row, entry, rows, look, build, kind_is, PartsRow, parts_rows}
 use Rattle.sp_grammar.specs.Derives.{Derives, none, and}
 use Rattle.sp_parse.specs.declared.source.Source.{Source}
 use Rattle.sp_parse.specs.Productions.{production, single}

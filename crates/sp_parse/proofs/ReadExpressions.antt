@@ -17,9 +17,9 @@ use Rattle.sp_tree.specs.Grammar as g
 use Rattle.sp_tree.specs.Breaches.{nesting}
 use Rattle.sp_tree.specs.SyntaxOf.{expression_of}
 use Rattle.sp_grammar.specs.Symbols as sym
-use Rattle.sp_grammar.specs.Symbols.{Symbol, Value, Values, split, part}
+use Rattle.sp_grammar.specs.Symbols.{Symbol, Values}
 use Rattle.sp_grammar.specs.Table as row
-use Rattle.sp_grammar.specs.Table.{FactorRow, SimpleRow, Row, Entry, entry, rows, look, kind_is, gap, build}
+use Rattle.sp_grammar.specs.Table.{FactorRow, SimpleRow, Row, Entry, entry, rows, look, kind_is, build}
 use Rattle.sp_grammar.specs.Table.{factor_rows, simple_rows, factor_value, simple_value}
 use Rattle.sp_grammar.specs.Derives.{Derives, DerivesAll, none, and}
 use Rattle.sp_parse.specs.declared.source.Source.{Source}

@@ -21,9 +21,9 @@ use Rattle.sp_tree.specs.Spelling.{name_of, number_of, quoted_of}
 use Rattle.sp_tree.specs.SyntaxOf.{expression_of, variable_of, selector_of, argument_of, arguments_of}
 use Rattle.sp_tree.specs.SyntaxOf as syntax
 use Rattle.sp_grammar.specs.Symbols as sym
-use Rattle.sp_grammar.specs.Symbols.{Symbol, Value, Values, part}
+use Rattle.sp_grammar.specs.Symbols.{Symbol}
 use Rattle.sp_grammar.specs.Table as row
-use Rattle.sp_grammar.specs.Table.{FactorRow, SelectorRow, Row, Entry, entry, rows, look, kind_is, gap, build}
+use Rattle.sp_grammar.specs.Table.{FactorRow, SelectorRow, Entry, entry, rows, look, kind_is}
 use Rattle.sp_grammar.specs.Table.{factor_rows, selector_rows}
 use Rattle.sp_grammar.specs.Derives.{Derives, DerivesAll, none, and}
 use Rattle.sp_parse.specs.declared.source.Source.{Source}

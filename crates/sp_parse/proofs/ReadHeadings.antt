@@ -9,7 +9,7 @@ use Rattle.sp_tree.specs.declared.syntax.SynGroup.{SynGroup}
 use Rattle.sp_tree.specs.Words as w
 use Rattle.sp_grammar.specs.Symbols.{AToken, AFormal, MoreFormals}
 use Rattle.sp_grammar.specs.Table as row
-use Rattle.sp_grammar.specs.Table.{entry, rows, look, kind_is}
+use Rattle.sp_grammar.specs.Table.{entry, kind_is}
 use Rattle.sp_parse.specs.declared.source.Source.{Source}
 use Rattle.sp_parse.specs.Reads.{Ready, HasRead, Halts, BeginsOther, BeginsWith, SoFar}
 use Rattle.sp_parse.proofs.Rows.{row_reads}

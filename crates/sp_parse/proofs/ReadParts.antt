@@ -15,7 +15,7 @@ use Rattle.sp_tree.specs.Words as w
 use Rattle.sp_grammar.specs.Symbols.{AToken, AName, MoreNames, AConstant, AType, Parts, MoreConstants, MoreTypes}
 use Rattle.sp_grammar.specs.Symbols.{MoreVariables}
 use Rattle.sp_grammar.specs.Table as row
-use Rattle.sp_grammar.specs.Table.{Entry, Row, entry, rows, look, gap, kind_is, PartsRow, parts_rows}
+use Rattle.sp_grammar.specs.Table.{Entry, entry, rows, look, kind_is, PartsRow, parts_rows}
 use Rattle.sp_grammar.specs.Derives.{Derives}
 use Rattle.sp_parse.specs.declared.source.Source.{Source}
 use Rattle.sp_parse.specs.Reads.{Within, Ready, breaks, HasRead, BeginsOther, BeginsWith, SoFar}

@@ -22,10 +22,10 @@ use Rattle.sp_tree.specs.SyntaxOf.{expression_of, variable_of, arguments_of, sta
 use Rattle.sp_tree.specs.SyntaxOf.{branch_of}
 use Rattle.sp_tree.specs.SyntaxOf as syntax
 use Rattle.sp_grammar.specs.Symbols as sym
-use Rattle.sp_grammar.specs.Symbols.{Symbol, Value, Values, part}
+use Rattle.sp_grammar.specs.Symbols.{Symbol, Values}
 use Rattle.sp_grammar.specs.Table as row
-use Rattle.sp_grammar.specs.Table.{FormRow, SelectorRow, ConstantRow, Row, Entry, entry, rows, look, kind_is, gap}
-use Rattle.sp_grammar.specs.Table.{build, form_rows, selector_rows, constant_rows, form_value, selector_value}
+use Rattle.sp_grammar.specs.Table.{FormRow, SelectorRow, ConstantRow, Row, Entry, entry, rows, look, kind_is}
+use Rattle.sp_grammar.specs.Table.{form_rows, selector_rows, constant_rows, form_value, selector_value}
 use Rattle.sp_grammar.specs.Table.{constant_value}
 use Rattle.sp_grammar.specs.Derives.{Derives, DerivesAll, none, and}
 use Rattle.sp_parse.specs.declared.source.Source.{Source}

@@ -1,8 +1,7 @@
 -- Lists of processes that are held, by numbers.
-use Rattle.std.proofs.Common.{◌≡◌, ◌≢◌, ◌⊎◌, ℕ, zero, suc, ◌<◌, ◌≤◌, ◌==◌, inl, inr, false, cond, List, [], ◌∷◌, ◌++◌}
-use Rattle.std.proofs.Common.{length, slice_set, Option, None, refl, sym, ap, ◌∙◌, subst, arith}
+use Rattle.std.proofs.Common.{◌≡◌, ℕ, ◌<◌, ◌==◌, cond, List}
+use Rattle.std.proofs.Common.{length, slice_set, Option, ap, ◌∙◌}
 use Rattle.sp_journal.specs.Maps.{at_key}
-use Rattle.sp_history.proofs.Queues.{number_or, at_same, at_other}
 use Rattle.sp_machine.specs.declared.state.State.{State as Proc}
 use Rattle.sp_kernel.proofs.Tables.{table_set}
 use Rattle.sp_replay.specs.Held.{in_place, held_at}

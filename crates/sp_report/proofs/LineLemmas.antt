@@ -1,8 +1,8 @@
 -- The text of entries with a number before each line is their timeline (`numbered_entries`), since the text of an entry
 -- has no line feed in it.
-use Rattle.std.proofs.Common.{◌≡◌, ◌∙◌, ◌==◌, ◌&&◌, ◌+◌, ◌/◌, ◌%◌, ℕ, Bool, cond, zero, suc, true, false, not, refl}
+use Rattle.std.proofs.Common.{◌≡◌, ◌∙◌, ◌==◌, ◌+◌, ◌/◌, ◌%◌, ℕ, Bool, cond, zero, suc, true, false, not, refl}
 use Rattle.std.proofs.Common.{sym, ap, List, [], ◌∷◌, ◌++◌, append_assoc, arith, ne_eqb, nat_lt, codes, decimal}
-use Rattle.std.proofs.Common.{true≢false, length, drop, take, ◌-◌}
+use Rattle.std.proofs.Common.{length, drop, take, ◌-◌}
 use Rattle.std.specs.List.{list_all}
 use Rattle.std.proofs.lemmas.Grind.{common_steps}
 use Rattle.std.specs.Fmt.{digit_glyph, digits, digits_onto}

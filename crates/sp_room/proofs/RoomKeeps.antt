@@ -9,7 +9,7 @@ use mathlib.Core.Option.{some, none, some-injective}
 use lib.ListN.{get_elem?}
 use lib.Seq.{set-get_or}
 use prog.Atomic.{either}
-use Rattle.atomic_table.specs.Table.{State, Me, step, keeps, takes, gives, stepped, Allows, Splits, Joins}
+use Rattle.atomic_table.specs.Table.{step, keeps, takes, gives, stepped, Allows}
 use Rattle.atomic_table.proofs.Lists.{at_set, set_here, set_else, set_again, exchanged}
 use Rattle.sp_room.specs.declared.view.View.{View}
 use Rattle.sp_room.specs.History.{StartsWith, notes_by, LeadsTo}

@@ -14,14 +14,14 @@ use Rattle.sp_cell.specs.Spots.{In, NotIn}
 use Rattle.sp_journal.specs.Births.{Births}
 use Rattle.sp_journal.specs.Maps.{at_key}
 use Rattle.sp_journal.specs.declared.entry.Birth.{Birth}
-use Rattle.sp_code.specs.Machine.{Stop, Forks, Opens, Sends, Receives, Ends, Pauses, Config, At}
+use Rattle.sp_code.specs.Machine.{Forks, Opens, Sends, Receives, Ends, Pauses, Config, At}
 use Rattle.sp_code.specs.Memory.{Setting, Home, Memory, put_cells}
 use Rattle.sp_code.specs.PlainStore.{plain}
 use Rattle.sp_code.specs.System.{Condition, Absent, Working, Waits, Joins, Laid, Gone, Over, frames_of, store_of}
 use Rattle.sp_code.specs.System.{on_store, received, rejoined}
 use Rattle.sp_history.proofs.Queues.{number_or, at_same, at_other}
 use Rattle.sp_rules.specs.Running.{Base, Lives, StopsWell}
-use Rattle.sp_rules.specs.Systems.{without, awaits, IsLive, Lent, moved_to, with_whole, JoinsWell, Fine, Inv}
+use Rattle.sp_rules.specs.Systems.{without, awaits, IsLive, moved_to, JoinsWell, Fine, Inv}
 use Rattle.sp_rules.proofs.Messages.{lives_received}
 use Rattle.sp_rules.proofs.Rejoining.{lives_whole, lent_rest}
 

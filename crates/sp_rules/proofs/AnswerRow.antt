@@ -2,7 +2,7 @@
 -- `Rows` and `AnswerForks`.
 use Rattle.std.proofs.Common.{◌≡◌, ◌⊎◌, inl, inr, ⊎_elim, ℕ, zero, suc, ◌+◌, ◌≤◌, ◌<◌, List, [], ◌∷◌, Option, Some}
 use Rattle.std.proofs.Common.{None, Bool, true, false, ◌&&◌, refl, ap, subst, arith}
-use Rattle.std.specs.Prelude.{slice_get, All}
+use Rattle.std.specs.Prelude.{slice_get}
 use Rattle.std.proofs.lemmas.Bool.{and_parts}
 use Rattle.std.proofs.lemmas.Option.{same_Some}
 use Rattle.sp_base.proofs.Facts.{not_true_and_false}
@@ -20,10 +20,7 @@ use Rattle.sp_rules.specs.Named.{TableUnknown, LevelDiffers, InTwo, EndsWrong, O
 use Rattle.sp_rules.specs.Rules.{BreaksV4, OtherLength, NoRoom, SendsAt, BreaksV9, ComesBack, Wanders, free_nexts}
 use Rattle.sp_rules.proofs.Rows.{main, answer, only, keeps_v2, keeps_v3, keeps_v5}
 use Rattle.sp_rules.specs.Effects.{IsCalled}
-use Rattle.sp_code.specs.Sizes.{IsSize, HasNumbers, HasSmallSizes, KeepsSizes}
-use Rattle.sp_code.specs.Sound.{IsSound}
 use Rattle.sp_rules.specs.Verdict.{V1, V2, V3, V4, V5, V6, V7, V8, V9, IsVerified}
-use Rattle.sp_rules.proofs.Assembly.{verified_sound}
 
 -- a test of each instruction
 abbrev all_instrs : (Option Instr → Bool) → List Instr → Bool

@@ -1,5 +1,5 @@
 -- Code that breaks no rule is sound.
-use Rattle.std.proofs.Common.{◌≡◌, inl, ℕ, ◌<◌, List, [], ◌∷◌, length, Some, zero, suc, refl, sym, subst, arith, get_or}
+use Rattle.std.proofs.Common.{◌≡◌, inl, ℕ, List, [], ◌∷◌, Some, zero, suc, refl, sym, subst, get_or}
 use Rattle.std.specs.Prelude.{All, slice_get}
 use Rattle.std.proofs.lemmas.Option.{same_Some, slice_get_within}
 use Rattle.sp_code.specs.declared.code.Layout.{Layout}

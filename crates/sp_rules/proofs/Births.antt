@@ -29,7 +29,7 @@ use Rattle.sp_rules.specs.Forks.{handed_to}
 use Rattle.sp_rules.specs.Holding.{Has, Allowed, input_spot}
 use Rattle.sp_rules.proofs.Lists.{member_front, member_back, member_either, different_apart}
 use Rattle.sp_rules.proofs.Chains.{last_up, spot_is, size_is}
-use Rattle.sp_rules.proofs.Forking.{has_held, cells_of_position}
+use Rattle.sp_rules.proofs.Forking.{cells_of_position}
 use Rattle.sp_code.proofs.Plans.{spots_from, in_spots, out_of}
 
 cells_are : (o : Option Content) (cs : List Cell) → piece_of o ≡ Some cs → cells_of o ≡ cs

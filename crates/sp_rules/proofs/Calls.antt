@@ -25,7 +25,7 @@ use Rattle.sp_rules.specs.Chains.{Chain, variables_of, variables_in, all_variabl
 use Rattle.sp_rules.specs.Extents.{extent, extent_at, extent_by, extent_of_layout, size_in, size_at, size_of}
 use Rattle.sp_rules.specs.Extents.{size_behind, or_further}
 use Rattle.sp_rules.specs.Holding.{Has, Allowed, input_spot}
-use Rattle.sp_rules.proofs.Lists.{member_or, different_apart, different_front, different_back, place_some}
+use Rattle.sp_rules.proofs.Lists.{member_or, different_apart, place_some}
 use Rattle.sp_rules.proofs.Chains.{last_up, up_length, not_here, no_extent, chain_up, stands_up, extends_up, spot_is}
 use Rattle.sp_rules.proofs.Chains.{size_is}
 

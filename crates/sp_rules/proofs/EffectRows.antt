@@ -1,5 +1,5 @@
 -- Small codes that break V6 or V7, by computing.
-use Rattle.std.proofs.Common.{◌≡◌, ◌⊎◌, inl, inr, ℕ, List, [], ◌∷◌, Option, Some, None, refl, arith}
+use Rattle.std.proofs.Common.{inl, inr, [], ◌∷◌, Some, None, refl, arith}
 use Rattle.sp_code.specs.declared.code.ChildTable.{ChildTable}
 use Rattle.sp_code.specs.declared.code.Layout.{Layout}
 use Rattle.sp_rules.specs.Areas.{Area, Body, Child}

@@ -12,7 +12,7 @@ use Rattle.sp_code.specs.declared.code.Parts.{Parts}
 use Rattle.sp_code.specs.Machine.{layout_of}
 use Rattle.sp_code.specs.Tables.{child_at as table_child, index_of, child_by}
 use Rattle.sp_code.specs.Memory.{OfBlock, Setting, Stores, Frame, last_frames, first, entry_of}
-use Rattle.sp_code.specs.System.{with_index_frame, child_or, table_or, handing_of}
+use Rattle.sp_code.specs.System.{with_index_frame, child_or, table_or}
 use Rattle.sp_rules.specs.Areas.{Area, Body, Child, homes, entry_of_layout, homes_by, with_home, parent_of, child_at}
 use Rattle.sp_rules.specs.Areas.{child_of, table_at, table_named, index_of_child, entry_of_child, leads_by}
 use Rattle.sp_rules.specs.Reach.{IsArea, Passes}

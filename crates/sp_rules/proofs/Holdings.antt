@@ -15,7 +15,7 @@ use Rattle.sp_cell.specs.FrameLaws.{known_below, above_known, is_same, without_h
 use Rattle.sp_cell.specs.Laws.{get_other, get_here, same_or, known_of_held, known_insert}
 use Rattle.sp_cell.specs.Map.{Map, Content, Own, Shared, Output, Away, Plain, IsHeld, output_spot}
 use Rattle.sp_code.specs.declared.code.Layout.{Layout}
-use Rattle.sp_code.specs.Memory.{Home, Frame, position_in}
+use Rattle.sp_code.specs.Memory.{Home, Frame}
 use Rattle.sp_code.specs.PlainStore.{plain, is_away, none_away}
 use Rattle.sp_rules.specs.Chains.{Chain}
 use Rattle.sp_rules.specs.Holding.{Allowed, AllAllowed, AreOwn, Holding, input_spot}

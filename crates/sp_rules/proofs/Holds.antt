@@ -21,7 +21,7 @@ use Rattle.sp_code.specs.Memory.{OfBlock, Setting, Frame, Memory, memory, with_s
 use Rattle.sp_code.specs.Memory.{referred, cells_at, cells_in, position_in, or_zero}
 use Rattle.sp_code.specs.PlainStore.{plain, piece_of}
 use Rattle.sp_code.specs.System.{spot_of}
-use Rattle.sp_rules.specs.Areas.{Area, Body, Child, homes, block_homes, instr_at}
+use Rattle.sp_rules.specs.Areas.{Area, Body, homes, block_homes, instr_at}
 use Rattle.sp_rules.specs.Shapes.{Shape, O, C, L, A}
 use Rattle.sp_rules.specs.Reach.{IsIn, IsArea, Reaches}
 use Rattle.sp_rules.specs.Touched.{stored_by}

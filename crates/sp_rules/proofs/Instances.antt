@@ -1,7 +1,7 @@
 -- What the rules give at a call that is reached, and at a fork: the premises under which activations hold what they may
 -- touch.
-use Rattle.std.proofs.Common.{◌≡◌, ◌⊎◌, inl, inr, ⊎_elim, ℕ, zero, suc, ◌+◌, ◌-◌, ◌<◌, ◌==◌, ◌&&◌, ℤ, List, [], ◌∷◌}
-use Rattle.std.proofs.Common.{◌++◌, length, drop, Option, Some, None, Bool, true, false, refl, sym, ap, ◌∙◌, subst}
+use Rattle.std.proofs.Common.{◌≡◌, ◌⊎◌, inl, inr, ⊎_elim, ℕ, zero, suc, ◌+◌, ◌-◌, ◌<◌, ◌==◌, ℤ, List, [], ◌∷◌}
+use Rattle.std.proofs.Common.{◌++◌, length, drop, Option, Some, None, true, false, refl, sym, ap, ◌∙◌, subst}
 use Rattle.std.proofs.Common.{arith}
 use Rattle.std.specs.Prelude.{slice_get, IsSome}
 use Rattle.std.proofs.lemmas.Bool.{eqb-true, and_parts}
@@ -19,7 +19,7 @@ use Rattle.sp_code.specs.Machine.{layout_of, Config}
 use Rattle.sp_code.specs.Memory.{OfBlock, OfIndex, Setting, Memory}
 use Rattle.sp_code.specs.PlainStore.{plain}
 use Rattle.sp_code.specs.System.{newborn, child_or, table_or}
-use Rattle.sp_rules.specs.Areas.{Area, Body, Child, homes, with_home, instr_at, child_at, child_of, index_of_child}
+use Rattle.sp_rules.specs.Areas.{Area, Body, Child, homes, with_home, child_at, child_of, index_of_child}
 use Rattle.sp_rules.specs.Chains.{variables_of, variables_in, all_variables}
 use Rattle.sp_rules.specs.Effects.{Kind, Stored, Loaded, IsActual, IsStarted, IsCalled, IsEffect, HasEffect, handed_to}
 use Rattle.sp_rules.specs.Effects.{does_at, Does, Granted, May}

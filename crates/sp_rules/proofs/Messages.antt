@@ -11,7 +11,7 @@ use Rattle.sp_cell.specs.declared.spot.Address.{Address}
 use Rattle.sp_cell.specs.Laws.{known_of_held}
 use Rattle.sp_cell.specs.Lists.{overwritten}
 use Rattle.sp_cell.specs.Map.{Map, Content, Own, Shared, Output, Away, Plain, IsOwn, IsPiece, cells_of, output_spot}
-use Rattle.sp_code.specs.Machine.{Stop, Config, At}
+use Rattle.sp_code.specs.Machine.{Config, At}
 use Rattle.sp_code.specs.Memory.{Setting, Home, Frame, Memory, cells_in, cells_at, put_cell, put_cells}
 use Rattle.sp_code.specs.PlainStore.{plain, piece_of}
 use Rattle.sp_code.specs.Sound.{CanPut}

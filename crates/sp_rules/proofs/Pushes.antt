@@ -10,7 +10,7 @@ use Rattle.sp_cell.specs.declared.cell.Cell.TheVariants as cell
 use Rattle.sp_cell.specs.declared.spot.Spot.{Spot}
 use Rattle.sp_cell.specs.declared.spot.Address.{Address}
 use Rattle.sp_cell.specs.Frame.{next_frame, with_pieces}
-use Rattle.sp_cell.specs.FrameLaws.{known_below, known_pieces}
+use Rattle.sp_cell.specs.FrameLaws.{known_below}
 use Rattle.sp_cell.specs.Laws.{get_other, get_here, same_or, known_of_held}
 use Rattle.sp_cell.specs.Map.{Map, Own, Away, Plain, IsHeld, output_spot, owned}
 use Rattle.sp_cell.specs.Spots.{In}

@@ -2,7 +2,7 @@
 use Rattle.std.proofs.Common.{◌≡◌, ◌⊎◌, inl, inr, ⊎_elim, ℕ, zero, suc, ◌+◌, ◌-◌, ◌≤◌, ◌==◌, List, [], ◌∷◌, ◌++◌}
 use Rattle.std.proofs.Common.{length, Option, Some, None, true, false, refl, sym, ap, ◌∙◌, subst, arith, if◌then◌else◌}
 use Rattle.std.proofs.Common.{zero-add}
-use Rattle.std.specs.Prelude.{slice_get, IsSome, nat_le, not}
+use Rattle.std.specs.Prelude.{slice_get, IsSome, nat_le}
 use Rattle.std.proofs.lemmas.Bool.{eqb-true, le-leb, and_parts}
 use Rattle.std.specs.FinMap as map
 use Rattle.std.proofs.lemmas.Option.{same_Some, slice_get_within}
@@ -12,11 +12,10 @@ use Rattle.sp_cell.specs.Map.{Plain, Content, Own, Shared, Output, Away, IsOutpu
 use Rattle.sp_code.specs.declared.code.Formal.{Formal}
 use Rattle.sp_code.specs.declared.code.Layout.{Layout}
 use Rattle.sp_code.specs.Machine.{Config, At, Entry, layout_of}
-use Rattle.sp_code.specs.Memory.{Setting, Home, OfBlock, OfIndex, Frame, Memory, memory, is_held, left_after}
+use Rattle.sp_code.specs.Memory.{Setting, Home, OfBlock, Frame, Memory, memory, is_held, left_after}
 use Rattle.sp_code.specs.Memory.{position_in, has_cells, last_frames, cell_at, answer_in, answer_of, answer_by}
 use Rattle.sp_code.specs.PlainStore.{plain, piece_of}
 use Rattle.sp_code.specs.System.{spot_of, spot_of_layout, spot_at, spot_by, or_outward, place_of, first_number}
-use Rattle.sp_code.specs.System.{frames_of, store_of}
 use Rattle.sp_rules.specs.Areas.{Area, Body, homes, instr_at}
 use Rattle.sp_rules.specs.Chains.{Chain, variables_of, stands, extends}
 use Rattle.sp_rules.specs.Effects.{Stored, Loaded, Does, May}

@@ -13,7 +13,7 @@ use Rattle.sp_rules.specs.Shapes.{Shape, O, A, Wrong, shaped, stays_within}
 use Rattle.sp_rules.specs.Reach.{IsArea, Passes, Reaches, Arrives}
 use Rattle.sp_rules.specs.Named.{BreaksV1, OutOfRange}
 use Rattle.sp_rules.specs.Rules.{BreaksV2, Lacks, BreaksV3, PassesLeft, BreaksV5, NoFit, AnswersByReference, BreaksV9}
-use Rattle.sp_rules.specs.Rules.{ComesBack, ComesTo, call_fits}
+use Rattle.sp_rules.specs.Rules.{ComesBack, call_fits}
 use Rattle.sp_rules.proofs.Tabled.{is_closed, never_wrong, reached_passes, one_shape}
 
 -- the program's frame has one variable of one cell

@@ -25,12 +25,12 @@ use Rattle.sp_code.specs.PlainStore.{plain}
 use Rattle.sp_code.specs.Sound.{CanSplit, CanJoin, CanPut, StopsAt, IsSafeSystem}
 use Rattle.sp_code.specs.System.{Condition, Absent, Working, Waits, Joins, Laid, Gone, Over, System, stop_of, frames_of}
 use Rattle.sp_code.specs.System.{store_of, depth_of, on_store, entered_now, message_of, plan_of, pending_stop, clash_by}
-use Rattle.sp_code.specs.System.{clash_of, first_fault, limit_of, fault_of, event_of, event_or, event_at, config_of}
-use Rattle.sp_code.specs.System.{done, unless_fault, happens, reported, sent, taken, after, opening, Enters, Leads}
+use Rattle.sp_code.specs.System.{clash_of, first_fault, limit_of, fault_of, event_or, event_at, config_of}
+use Rattle.sp_code.specs.System.{unless_fault, happens, reported, sent, taken, after, opening, Enters, Leads}
 use Rattle.sp_code.specs.System.{IsSystem}
 use Rattle.sp_code.specs.Ranks.{IsRankedAlong}
 use Rattle.sp_code.specs.Turns.{Turn, Stopped, Faulted, IsTurn, IsSafe}
-use Rattle.sp_rules.specs.Running.{Base, Lives, StopsWell, ForksWell, Aims}
+use Rattle.sp_rules.specs.Running.{Base, Lives, StopsWell}
 use Rattle.sp_rules.specs.Systems.{awaits, IsLive, JoinsWell, Fine, Inv}
 use Rattle.sp_rules.proofs.Along.{becomes_ok, meets_ok, ends_ok}
 use Rattle.sp_rules.proofs.Forked.{splits}

@@ -1,5 +1,5 @@
 -- Where V6 and V7 are broken nowhere, what they ask holds.
-use Rattle.std.proofs.Common.{◌≡◌, ◌≢◌, ◌⊎◌, inl, inr, ⊎_elim, ℕ, zero, suc, ◌<◌, List, [], ◌∷◌, Some, refl, ap, arith}
+use Rattle.std.proofs.Common.{◌≡◌, ◌≢◌, ◌⊎◌, inl, inr, ⊎_elim, ℕ, ◌<◌, List, [], ◌∷◌, Some, refl, arith}
 use Rattle.sp_base.proofs.Facts.{less_more_or_same}
 use Rattle.sp_tree.specs.Interference.{IsMember, AllDifferent}
 use Rattle.sp_code.specs.declared.code.Layout.{Layout}

@@ -11,7 +11,7 @@ use Rattle.sp_code.specs.Machine.{Config, At, Entry, layout_of}
 use Rattle.sp_code.specs.Memory.{Setting, Home, Frame, Memory, memory}
 use Rattle.sp_code.specs.PlainStore.{plain}
 use Rattle.sp_code.specs.Sound.{IsSafeSystem}
-use Rattle.sp_code.specs.System.{System, Working, IsSystem, newborn, frames_of, depth_of, spot_of}
+use Rattle.sp_code.specs.System.{System, Working, IsSystem, depth_of}
 use Rattle.sp_rules.specs.Areas.{Area, Body, Child, homes, instr_at}
 use Rattle.sp_rules.specs.Changes.{areas, areas_of}
 use Rattle.sp_rules.specs.Chains.{Chain}

@@ -1,6 +1,6 @@
 -- Calls and steps taken apart: their parts, one after another.
-use Rattle.std.proofs.Common.{◌≡◌, ℕ, suc, ◌+◌, List, [], ◌∷◌, Option, Some, None, refl, ap, ◌∙◌, sym, subst, arith}
-use Rattle.std.proofs.Common.{drop, slice_get}
+use Rattle.std.proofs.Common.{◌≡◌, ℕ, suc, ◌+◌, List, ◌∷◌, Some, refl, ap, ◌∙◌, sym, arith}
+use Rattle.std.proofs.Common.{drop}
 use Rattle.std.proofs.lemmas.Bool.{eq-eqb}
 use Rattle.sp_tree.specs.declared.checked.KindOf.{KindOf}
 use Rattle.sp_tree.specs.declared.operators.StandardFn.{StandardFn}
@@ -11,7 +11,7 @@ use Rattle.sp_meaning.specs.Values.{Value, initials, get_at}
 use Rattle.sp_meaning.specs.Own.{Setting, Cell, Input, Tree, Position, Address, Item, Own, Who, same_loc, position_in}
 use Rattle.sp_meaning.specs.Own.{value_in}
 use Rattle.sp_meaning.specs.Eval.{Given, ValueOf, At}
-use Rattle.sp_meaning.specs.Deeds.{Deed, Stepped, begins, taken_by}
+use Rattle.sp_meaning.specs.Deeds.{Stepped, begins, taken_by}
 use Rattle.sp_meaning.specs.Texts.{Taken, line_length}
 use Rattle.sp_run.specs.Direct.{Store, Came, Got, fetch, put}
 use Rattle.sp_run.specs.DirectEval.{Calls, kind_at, left_of, input_op, checked, read_at, form_value}

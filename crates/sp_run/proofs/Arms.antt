@@ -1,6 +1,6 @@
 -- The search through the arms of a `case`, one after another.
-use Rattle.std.proofs.Common.{◌≡◌, ℕ, zero, suc, ◌<◌, ◌≤◌, Bool, true, false, List, [], ◌∷◌, Option, Some, None, map}
-use Rattle.std.proofs.Common.{drop, length, get_or, refl, ap, ◌∙◌, sym, arith, rules}
+use Rattle.std.proofs.Common.{◌≡◌, ℕ, zero, suc, ◌<◌, ◌≤◌, true, false, List, [], ◌∷◌, Some, None}
+use Rattle.std.proofs.Common.{drop, length, get_or, refl, sym, arith, rules}
 use Rattle.std.specs.Prelude.{ℤ}
 use Rattle.sp_tree.specs.declared.checked.Arm.{Arm, out-Arm, fold_out-Arm}
 use Rattle.sp_tree.specs.Plain as p

@@ -1,9 +1,8 @@
 -- Computations one after another, as the contracts of calls tell of them.
-use Rattle.std.proofs.Common.{◌≡◌, ℕ, zero, suc, ◌+◌, ◌≤◌, Bool, true, false, List, [], ◌∷◌, ◌++◌, drop, length, Some}
-use Rattle.std.proofs.Common.{None, refl, ap, ◌∙◌, sym, arith, if◌then◌else◌, length-append}
+use Rattle.std.proofs.Common.{◌≡◌, ℕ, ◌+◌, Bool, true, false, List, [], ◌∷◌, ◌++◌, drop, length, Some}
+use Rattle.std.proofs.Common.{refl, ap, ◌∙◌, arith, if◌then◌else◌, length-append}
 use Rattle.std.specs.Prelude.{ℤ, slice_get, not, replicate}
 use Rattle.std.proofs.lemmas.List.{length-replicate}
-use Rattle.std.proofs.lemmas.Grind.{common_steps}
 use Rattle.sp_run.specs.declared.stop.Done.{Done}
 use Rattle.sp_run.specs.declared.stop.Halted.{Halted}
 use Rattle.sp_run.specs.declared.machine.Machine.{Machine}

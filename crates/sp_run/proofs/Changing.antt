@@ -7,7 +7,7 @@ use Rattle.sp_run.specs.declared.machine.Setting as set
 use Rattle.sp_run.specs.declared.state.State.{State}
 use Rattle.sp_meaning.specs.Model as m
 use Rattle.sp_meaning.specs.Model.{Name, Channel, Becomes, Works, Waits, Joins, Forked, Writes, Pends, Adds, Faults}
-use Rattle.sp_meaning.specs.Model.{Forks, Offering, changed, after}
+use Rattle.sp_meaning.specs.Model.{Forks, changed, after}
 use Rattle.sp_meaning.specs.Steps.{births, hands, meets, message, outcome, result_of, passed, unless, acts, cost}
 use Rattle.sp_meaning.specs.Steps.{Faulty}
 use Rattle.sp_meaning.specs.Own as o

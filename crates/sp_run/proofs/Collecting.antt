@@ -1,7 +1,6 @@
 -- All processes of a state, gone through one after another: none is running, and those that wait.
-use Rattle.std.proofs.Common.{◌≡◌, ◌⊎◌, ⊎_elim, inl, inr, ℕ, zero, suc, ◌+◌, ◌<◌, ◌≤◌, Bool, true, false, List, [], ◌∷◌}
+use Rattle.std.proofs.Common.{◌≡◌, ◌⊎◌, ⊎_elim, ℕ, zero, suc, ◌+◌, ◌<◌, ◌≤◌, List, [], ◌∷◌}
 use Rattle.std.proofs.Common.{Option, Some, None, map, length, get_or, refl, ap, ◌∙◌, sym, subst, arith, add-one}
-use Rattle.std.specs.Prelude.{◌≢◌}
 use Rattle.sp_base.proofs.Facts.{below_or_at}
 use Rattle.sp_run.specs.declared.machine.Setting as set
 use Rattle.sp_run.specs.declared.state.Became.{Became}
@@ -9,7 +8,7 @@ use Rattle.sp_run.specs.declared.state.State.{State}
 use Rattle.sp_meaning.specs.Model as m
 use Rattle.sp_meaning.specs.Model.{Name}
 use Rattle.sp_meaning.specs.Own as o
-use Rattle.sp_meaning.specs.Runs.{StateOf, running}
+use Rattle.sp_meaning.specs.Runs.{running}
 use Rattle.sp_meaning.specs.Steps.{way_of, working_in}
 use Rattle.sp_meaning.specs.Ends.{Waiting, IsIn, IsSorted, IsIdle, WaitsSo}
 use Rattle.sp_run.specs.Machines.{setting_of}

@@ -1,5 +1,5 @@
 -- All that is left to do, one step after another.
-use Rattle.std.proofs.Common.{◌≡◌, ℕ, zero, suc, List, [], ◌∷◌, length, ◌-◌, ◌<◌, Option, Some, None, refl, ap, ◌∙◌}
+use Rattle.std.proofs.Common.{◌≡◌, ℕ, zero, suc, List, [], ◌∷◌, ◌-◌, ◌<◌, Option, Some, None, refl, ap, ◌∙◌}
 use Rattle.std.proofs.Common.{sym, arith, sub-one}
 use Rattle.sp_run.specs.declared.stop.Halted.{Halted}
 use Rattle.sp_meaning.specs.Own.{Setting, Item, Own, Who}

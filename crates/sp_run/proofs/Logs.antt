@@ -1,6 +1,6 @@
 -- Maps as lists of what was entered: the newest entry of a key decides.
-use Rattle.std.proofs.Common.{◌≡◌, ℕ, zero, suc, Bool, true, false, List, [], ◌∷◌, ◌++◌, ◌-◌, ◌<◌, ◌≤◌, Option, None}
-use Rattle.std.proofs.Common.{take, length, get_or, refl, ap, ◌∙◌, sym, arith, sub-one}
+use Rattle.std.proofs.Common.{◌≡◌, ℕ, zero, suc, Bool, true, false, List, [], ◌∷◌, ◌++◌, ◌-◌, ◌<◌, ◌≤◌, None}
+use Rattle.std.proofs.Common.{take, length, get_or, refl, arith, sub-one}
 use Rattle.sp_run.specs.declared.state.Became.{Became}
 use Rattle.sp_run.specs.declared.state.Forks.{Forks}
 use Rattle.sp_run.specs.declared.state.Pends.{Pends}
@@ -8,7 +8,6 @@ use Rattle.sp_meaning.specs.Maps.{at_key}
 use Rattle.sp_meaning.specs.Model.{Name, Channel, same_name, same_channel, Absent}
 use Rattle.sp_run.specs.Views.{plain_channel}
 use Rattle.sp_run.specs.States.{logged, plain_condition, conditions_of, forks_of, pending_of}
-use Rattle.sp_run.specs.States as s
 
 module _ {W K X : Type 0} (same : K → K → Bool) (key : W → K) (held : W → X) where
   pub logged_append : (m : K → X) (ws : List W) (w : W)

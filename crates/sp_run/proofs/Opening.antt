@@ -1,5 +1,5 @@
 -- The opening state: the root alone.
-use Rattle.std.proofs.Common.{◌≡◌, List, [], ◌∷◌, None, refl, ap, ◌∙◌, sym}
+use Rattle.std.proofs.Common.{◌≡◌, List, [], ◌∷◌, None, refl, ap, ◌∙◌}
 use Rattle.sp_run.specs.declared.machine.Setting as set
 use Rattle.sp_run.specs.declared.state.Process.{Process}
 use Rattle.sp_run.specs.declared.state.Condition.TheVariants as condition
@@ -7,8 +7,6 @@ use Rattle.sp_run.specs.declared.state.Became.{Became}
 use Rattle.sp_run.specs.declared.state.Forks.{Forks}
 use Rattle.sp_run.specs.declared.state.Pends.{Pends}
 use Rattle.sp_run.specs.declared.machine.Write.{Write}
-use Rattle.sp_run.specs.declared.state.State.{State}
-use Rattle.sp_meaning.specs.Model as m
 use Rattle.sp_meaning.specs.Model.{Name}
 use Rattle.sp_meaning.specs.Own as o
 use Rattle.sp_meaning.specs.SuperPascal.{root}

@@ -1,5 +1,5 @@
 -- The place of a waiting process among others in order.
-use Rattle.std.proofs.Common.{◌≡◌, ℕ, List, ◌∷◌, ◌++◌, Some, map, take, drop, refl, ◌∙◌, sym}
+use Rattle.std.proofs.Common.{◌≡◌, ℕ, List, ◌∷◌, ◌++◌, Some, take, drop, ◌∙◌, sym}
 use Rattle.std.proofs.lemmas.List.{map-append, take-map, drop-map}
 use Rattle.sp_run.specs.declared.ends.Pending.{Pending}
 use Rattle.sp_run.specs.Meanings.{plain_pending, waiting_of, inserted, Places}

@@ -1,7 +1,6 @@
 -- What a value in memory stands for, form by form.
-use Rattle.std.proofs.Common.{◌≡◌, ℤ, List, map, rules, refl, ap, ◌∙◌, sym, arith}
-use Rattle.sp_run.specs.declared.value.Value.{Value, fold-roll-Value, roll-Value}
-use Rattle.sp_run.specs.declared.value.Value.TheViews.{the_lemmas}
+use Rattle.std.proofs.Common.{◌≡◌, ℤ, List, map, ap, ◌∙◌, sym}
+use Rattle.sp_run.specs.declared.value.Value.{Value, fold-roll-Value}
 use Rattle.sp_run.specs.declared.value.Value.TheOpen as layer
 use Rattle.sp_run.specs.declared.value.Value.TheVariants as val
 use Rattle.sp_run.specs.declared.value.Value.TheVariants.{rolls-Undefined, rolls-Ordinal, rolls-Chan, rolls-Parts}

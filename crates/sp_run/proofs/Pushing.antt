@@ -1,5 +1,5 @@
 -- Statements pushed one after another.
-use Rattle.std.proofs.Common.{◌≡◌, ℕ, zero, suc, List, [], ◌∷◌, ◌++◌, ◌-◌, ◌<◌, ◌≤◌, slice_get, map, take, length}
+use Rattle.std.proofs.Common.{◌≡◌, ℕ, zero, suc, List, [], ◌∷◌, ◌-◌, ◌<◌, ◌≤◌, map, take, length}
 use Rattle.std.proofs.Common.{get_or, refl, ap, ◌∙◌, sym, arith, sub-one}
 use Rattle.std.proofs.lemmas.List.{take_all}
 use Rattle.sp_tree.specs.declared.checked.Expr as ast_e

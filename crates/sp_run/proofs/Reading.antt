@@ -1,7 +1,7 @@
 -- Bytes read one after another: how far blanks, digits and a line go, and the number that digits spell.
-use Rattle.std.proofs.Common.{◌≡◌, ℕ, zero, suc, ◌+◌, ◌-◌, ◌*◌, ◌==◌, ◌<◌, ◌≤◌, Bool, true, false, List, [], ◌∷◌, drop}
-use Rattle.std.proofs.Common.{length, get_or, refl, ap, ◌∙◌, sym, arith, if◌then◌else◌}
-use Rattle.std.specs.Prelude.{ℤ, ◌^◌}
+use Rattle.std.proofs.Common.{◌≡◌, ℕ, zero, suc, ◌+◌, ◌-◌, ◌*◌, ◌==◌, ◌<◌, ◌≤◌, true, false, List, [], ◌∷◌, drop}
+use Rattle.std.proofs.Common.{length, get_or, refl, sym, arith}
+use Rattle.std.specs.Prelude.{ℤ}
 use Rattle.sp_tree.specs.Characters.{is_blank, is_digit}
 use Rattle.sp_tree.specs.Items.{blanks, digits, number_from, line_length}
 use Rattle.sp_tree.specs.Operators.{same_ordinal}

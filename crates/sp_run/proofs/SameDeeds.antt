@@ -1,21 +1,21 @@
 -- Passing the store along is the meaning: statements and steps.
-use Rattle.std.proofs.Common.{◌≡◌, ℕ, zero, suc, ◌+◌, Bool, true, false, List, [], ◌∷◌, ◌++◌, Option, Some, None}
+use Rattle.std.proofs.Common.{◌≡◌, ℕ, zero, suc, ◌+◌, Bool, true, false, List, [], ◌∷◌, Option, Some, None}
 use Rattle.std.proofs.Common.{length, refl, if◌then◌else◌}
-use Rattle.std.specs.Prelude.{ℤ, pos, ◌+ℤ◌, ◌-ℤ◌, nat_abs, slice_get, nat_lt, int_le, int_lt, take}
+use Rattle.std.specs.Prelude.{ℤ, pos, ◌+ℤ◌, ◌-ℤ◌, nat_abs, slice_get, nat_lt, int_le, int_lt}
 use Rattle.sp_base.specs.declared.fault.Fault.TheVariants as fault
-use Rattle.sp_tree.specs.Plain.{Expr, Typed, Variable, Block, Stmt, Empty, Assign, Call, Sequence, If, IfElse, While}
+use Rattle.sp_tree.specs.Plain.{Expr, Typed, Variable, Stmt, Empty, Assign, Call, Sequence, If, IfElse, While}
 use Rattle.sp_tree.specs.Plain.{Repeat, For, Case, Parallel, Forall, Assume, ReadValue, ReadLine, WriteValue, WriteText}
-use Rattle.sp_tree.specs.Plain.{WriteLine, Open, Send, Receive, Stmts, No, And, On, Arms, NoArm, Or}
+use Rattle.sp_tree.specs.Plain.{WriteLine, Open, Send, Receive}
 use Rattle.sp_tree.specs.Cells.{variables_of}
-use Rattle.sp_meaning.specs.Values.{Value, Ordinal, Chan, initials}
-use Rattle.sp_meaning.specs.Own.{Setting, Loc, Cell, Input, Output, Held, Tree, Position, Written, Address, Frame, Own}
-use Rattle.sp_meaning.specs.Own.{Who, Item, Do, First, Again, Test, Leave, Break, is_block, bytes_in, position_in}
+use Rattle.sp_meaning.specs.Values.{Value, Ordinal}
+use Rattle.sp_meaning.specs.Own.{Setting, Input, Output, Address, Own}
+use Rattle.sp_meaning.specs.Own.{Who, Item, Do, First, Again, Test, Leave, Break, is_block, bytes_in}
 use Rattle.sp_meaning.specs.Own as n
-use Rattle.sp_meaning.specs.Texts.{Taken, Takes as Took, Fails as Stops, padded, line_length}
+use Rattle.sp_meaning.specs.Texts.{Taken, Takes as Took, Fails as Stops, line_length}
 use Rattle.sp_meaning.specs.Eval.{Given, ValueOf, PlaceOf}
 use Rattle.sp_meaning.specs.Eval as v
-use Rattle.sp_meaning.specs.Deeds.{Birth, Deed, Stepped, Ticked, Opened, Forked, Offered, Ended, push, push_all}
-use Rattle.sp_meaning.specs.Deeds.{arm_for, is_range, goes_on, next_value, begins, pushed_frame, without_frame}
+use Rattle.sp_meaning.specs.Deeds.{Birth, Deed, Stepped, Ticked, Opened, Forked, Offered, Ended, push}
+use Rattle.sp_meaning.specs.Deeds.{arm_for, goes_on, next_value, pushed_frame}
 use Rattle.sp_meaning.specs.Deeds.{children, indexed_children, size_of_frame, references, taken_by, shown}
 use Rattle.sp_meaning.specs.Deeds as m
 use Rattle.sp_meaning.specs.Run.{run}

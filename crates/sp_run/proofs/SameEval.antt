@@ -1,7 +1,7 @@
 -- Passing the store along is the meaning: expressions.
-use Rattle.std.proofs.Common.{◌≡◌, ℕ, Bool, true, false, List, [], ◌∷◌, Option, Some, None, length, refl, sym, ap, ◌∙◌}
+use Rattle.std.proofs.Common.{◌≡◌, ℕ, Bool, true, false, List, [], ◌∷◌, Option, Some, None, length, refl, ap, ◌∙◌}
 use Rattle.std.proofs.Common.{if◌then◌else◌}
-use Rattle.std.specs.Prelude.{ℤ, pos, ◌-ℤ◌, nat_abs, slice_get, int_le, ◌&&◌, ◌++◌}
+use Rattle.std.specs.Prelude.{ℤ, pos, int_le, ◌&&◌}
 use Rattle.sp_base.specs.declared.fault.Fault.{Fault}
 use Rattle.sp_base.specs.declared.fault.Fault.TheVariants as fault
 use Rattle.sp_tree.specs.declared.checked.KindOf.{KindOf}
@@ -22,10 +22,10 @@ use Rattle.sp_meaning.specs.Operators.{unary_op, binary_op, least, greatest}
 use Rattle.sp_meaning.specs.Maps.{at_key}
 use Rattle.sp_meaning.specs.Asking.{Asking, Done, Loads, Puts, and_then, answer}
 use Rattle.sp_meaning.specs.Own.{Loc, Held, Address, Home, OfBlock, OfIndex, Frame, Setting, Own, Who, same_loc, seen}
-use Rattle.sp_meaning.specs.Own.{seek, is_block, is_index, referred}
+use Rattle.sp_meaning.specs.Own.{seek}
 use Rattle.sp_meaning.specs.Own as n
 use Rattle.sp_meaning.specs.Run.{run}
-use Rattle.sp_meaning.specs.Eval.{Place, At, Fixed, Given, field_kind}
+use Rattle.sp_meaning.specs.Eval.{Place, At, Fixed}
 use Rattle.sp_meaning.specs.Eval as m
 use Rattle.sp_run.specs.Direct as e
 use Rattle.sp_run.specs.DirectEval as d

@@ -1,9 +1,9 @@
 -- Stores as lists of what was written.
-use Rattle.std.proofs.Common.{◌≡◌, ℕ, zero, suc, Bool, true, false, List, [], ◌∷◌, ◌++◌, ◌-◌, ◌<◌, ◌≤◌, take, length}
-use Rattle.std.proofs.Common.{get_or, refl, ap, ◌∙◌, sym, arith, sub-one}
+use Rattle.std.proofs.Common.{◌≡◌, ℕ, zero, suc, true, false, List, [], ◌∷◌, ◌++◌, ◌-◌, ◌<◌, ◌≤◌, take, length}
+use Rattle.std.proofs.Common.{get_or, refl, arith, sub-one}
 use Rattle.sp_run.specs.declared.machine.Write.{Write}
 use Rattle.sp_meaning.specs.Maps.{at_key}
-use Rattle.sp_meaning.specs.Own.{Loc, Held, same_loc}
+use Rattle.sp_meaning.specs.Own.{Loc, same_loc}
 use Rattle.sp_run.specs.Direct.{Store}
 use Rattle.sp_run.specs.Views.{plain_loc}
 use Rattle.sp_run.specs.Machines.{plain_held, written}

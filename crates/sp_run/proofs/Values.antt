@@ -1,11 +1,10 @@
 -- Parts of values that are kept in lists.
-use Rattle.std.proofs.Common.{◌≡◌, ℕ, zero, suc, ℤ, List, [], ◌∷◌, Some, None, slice_get, slice_set, map, length, ◌≤◌}
-use Rattle.std.proofs.Common.{refl, ap, ◌∙◌, sym, arith}
+use Rattle.std.proofs.Common.{◌≡◌, ℕ, zero, suc, List, [], ◌∷◌, Some, None, slice_get, slice_set, map}
+use Rattle.std.proofs.Common.{refl, ap, sym}
 use Rattle.std.specs.Option.{option_map}
 use Rattle.sp_tree.specs.Cells.{first_or}
-use Rattle.sp_journal.specs.Names.{Channel}
-use Rattle.sp_meaning.specs.Values.{Value, Undefined, Ordinal, Chan, Parts, Values, End, Then, values, item, with_item}
-use Rattle.sp_meaning.specs.Values.{get_at, set_at, part}
+use Rattle.sp_meaning.specs.Values.{Value, Undefined, Parts, Then, values, item, with_item}
+use Rattle.sp_meaning.specs.Values.{set_at}
 
 pub item_values : {A : Type 0} (p : A → Value) (vs : List A) (i : ℕ)
     → item (values (map p vs)) i ≡ first_or Undefined (option_map p (slice_get vs i))

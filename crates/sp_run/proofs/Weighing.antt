@@ -1,5 +1,5 @@
 -- The weights of statements one after another.
-use Rattle.std.proofs.Common.{◌≡◌, ℕ, zero, suc, ◌+◌, ◌<◌, ◌≤◌, List, [], ◌∷◌, map, drop, length, get_or, refl, ap, ◌∙◌}
+use Rattle.std.proofs.Common.{◌≡◌, ℕ, zero, suc, ◌+◌, ◌<◌, ◌≤◌, List, [], ◌∷◌, map, drop, length, get_or, refl}
 use Rattle.std.proofs.Common.{sym, arith}
 use Rattle.sp_tree.specs.declared.checked.Arm.{Arm, out-Arm}
 use Rattle.sp_tree.specs.declared.checked.Block.{Block}

@@ -1,15 +1,14 @@
 -- None of this belongs to what the program promises: it is for contracts between crates.
 -- The parts of a call: variables laid, values copied, a frame pushed. The contracts of `calls` cite it, a part for
 -- each function.
-use Rattle.std.specs.Prelude.{ℕ, List, Option, Some, None, length, slice_get}
-use Rattle.sp_tree.specs.Plain.{Variable, Block}
+use Rattle.std.specs.Prelude.{ℕ, List, length}
+use Rattle.sp_tree.specs.Plain.{Block}
 use Rattle.sp_tree.specs.Cells.{variables_of}
-use Rattle.sp_meaning.specs.Values.{Value, initials}
-use Rattle.sp_meaning.specs.Own.{Setting, Cell, Tree}
+use Rattle.sp_meaning.specs.Own.{Setting}
 use Rattle.sp_meaning.specs.Eval.{Given}
-use Rattle.sp_meaning.specs.Deeds.{begins, references, pushed_frame}
-use Rattle.sp_run.specs.Direct.{Work, bind, give, mine, who, become, put}
-use Rattle.sp_run.specs.DirectDeeds.{lay, lay_one, copy_in, enclosing}
+use Rattle.sp_meaning.specs.Deeds.{references, pushed_frame}
+use Rattle.sp_run.specs.Direct.{Work, bind, give, mine, who, become}
+use Rattle.sp_run.specs.DirectDeeds.{lay, copy_in, enclosing}
 
 module _ (g : Setting) where
   -- the variables are laid and the value parameters copied

@@ -1,14 +1,14 @@
 -- None of this belongs to what the program promises: it is for contracts between crates.
 -- Work with the store passed along: what a computation gives in this store, and the store after it. The interpreter
 -- works so, and `Agree.antt` leads it to the meaning's trees of reads and writes.
-use Rattle.std.specs.Prelude.{ℕ, ◌+◌, ◌==◌, List, [], ◌∷◌, Option, Some, None, Bool, if◌then◌else◌, nat_lt, length}
+use Rattle.std.specs.Prelude.{ℕ, ◌+◌, List, [], ◌∷◌, Option, Some, None, Bool, if◌then◌else◌, nat_lt, length}
 use Rattle.sp_base.specs.declared.fault.Fault.{Fault}
 use Rattle.sp_base.specs.declared.fault.Fault.TheVariants as fault
 use Rattle.sp_base.specs.declared.limits.Limits.{Limits}
 use Rattle.sp_run.specs.declared.stop.Halted.{Halted}
 use Rattle.sp_run.specs.declared.stop.Halted.TheVariants as halted
 use Rattle.sp_meaning.specs.Maps.{at_key}
-use Rattle.sp_meaning.specs.Values.{Value, Undefined, get_at, set_at}
+use Rattle.sp_meaning.specs.Values.{Value, get_at}
 use Rattle.sp_meaning.specs.Own.{Loc, Held, Tree, Address, Home, Frame, Own, Who, value_in, assigned, same_loc, seek}
 use Rattle.sp_meaning.specs.Own.{seen}
 

@@ -2,30 +2,23 @@
 -- Statements in steps, with the store passed along: the meaning's Deeds, line by line, over the work of
 -- `Direct.antt`. The interpreter promises it.
 use Rattle.std.specs.Prelude.{ℕ, zero, suc, ◌+◌, ◌-◌, ℤ, pos, ◌+ℤ◌, ◌-ℤ◌, nat_abs, int_lt, int_le, List, [], ◌∷◌, ◌++◌}
-use Rattle.std.specs.Prelude.{Option, Some, None, Bool, true, false, if◌then◌else◌, nat_lt, length, take, slice_get}
-use Rattle.std.specs.Fmt.{signed_decimal}
+use Rattle.std.specs.Prelude.{Option, Some, None, Bool, true, if◌then◌else◌, nat_lt, length, take, slice_get}
 use Rattle.sp_base.specs.declared.fault.Fault.TheVariants as fault
-use Rattle.sp_tree.specs.declared.checked.KindOf.{KindOf}
-use Rattle.sp_tree.specs.declared.checked.KindOf.TheVariants as kind
-use Rattle.sp_tree.specs.declared.checked.Role.{Role}
-use Rattle.sp_tree.specs.declared.checked.Role.TheVariants as role
 use Rattle.sp_tree.specs.Plain.{Expr, Typed, Variable, Block, Stmt, Empty, Assign, Call, Sequence, If, IfElse, While}
 use Rattle.sp_tree.specs.Plain.{Repeat, For, Case, Parallel, Forall, Assume, ReadValue, ReadLine, WriteValue, WriteText}
-use Rattle.sp_tree.specs.Plain.{WriteLine, Open, Send, Receive, Stmts, No, And, On, Arms, NoArm, Or}
-use Rattle.sp_meaning.specs.Model.{Name, Channel, Cargo, Message, Takes}
-use Rattle.sp_tree.specs.Cells.{variables_of, cells_of_frame}
-use Rattle.sp_meaning.specs.Values.{Value, Undefined, Ordinal, Chan, Parts, initials}
-use Rattle.sp_meaning.specs.Own.{Setting, Cell, Input, Output, Held, Tree, Position, Written, Address, Home, OfBlock}
-use Rattle.sp_meaning.specs.Own.{OfIndex, Frame, Own, Who, Item, Do, First, Again, Test, Leave, Break, Process}
+use Rattle.sp_tree.specs.Plain.{WriteLine, Open, Send, Receive}
+use Rattle.sp_meaning.specs.Model.{Message, Takes}
+use Rattle.sp_tree.specs.Cells.{variables_of}
+use Rattle.sp_meaning.specs.Values.{Value, Ordinal, Chan, initials}
+use Rattle.sp_meaning.specs.Own.{Setting, Cell, Input, Output, Tree, Position, Written, Address}
+use Rattle.sp_meaning.specs.Own.{Item, Do, First, Again, Test, Leave, Break}
 use Rattle.sp_meaning.specs.Own.{position_in, bytes_in, is_block}
 use Rattle.sp_run.specs.Direct.{Work, bind, give, fail, lost, long, mine, who, become, look, put, fetch, assign}
 use Rattle.sp_run.specs.Direct.{or_lost, reach, tick, deepen, widen}
 use Rattle.sp_meaning.specs.Deeds.{Birth, Deed, Stepped, Ticked, Opened, Forked, Offered, Ended, push, push_all}
 use Rattle.sp_meaning.specs.Deeds.{arm_for, if_true, is_range, next_value, goes_on, begins, references, shown, taken_by}
 use Rattle.sp_meaning.specs.Deeds.{children, indexed_children, pushed_frame, without_frame, size_of_frame}
-use Rattle.sp_meaning.specs.Operators.{same_ordinal}
-use Rattle.sp_meaning.specs.Texts.{Taken, Takes as Took, Fails as Stops, number_in, char_in, line_length, padded}
-use Rattle.sp_meaning.specs.Texts.{truth_text}
+use Rattle.sp_meaning.specs.Texts.{Taken, Takes as Took, Fails as Stops, line_length, padded}
 use Rattle.sp_meaning.specs.Eval.{Given, ValueOf, PlaceOf}
 use Rattle.sp_run.specs.DirectEval.{Calls, kind_at, read_at, address_of, place_of, left_of, value, actuals, address}
 use Rattle.sp_run.specs.DirectEval.{ordinal_of, ordinal, channel}

@@ -1,7 +1,7 @@
 -- None of this belongs to what the program promises: it is for contracts between crates.
 -- Expressions, variables and arguments, evaluated from left to right, with the store passed along: the meaning's Eval,
 -- line by line. The interpreter promises it.
-use Rattle.std.specs.Prelude.{ℕ, ◌==◌, ℤ, pos, ◌-ℤ◌, nat_abs, int_le, List, [], ◌∷◌, ◌++◌, Option, Some, None, ◌&&◌}
+use Rattle.std.specs.Prelude.{ℕ, ◌==◌, ℤ, pos, ◌-ℤ◌, nat_abs, int_le, List, [], ◌∷◌, ◌++◌, ◌&&◌}
 use Rattle.std.specs.Prelude.{not, if◌then◌else◌, length, drop, slice_get}
 use Rattle.sp_base.specs.declared.fault.Fault.TheVariants as fault
 use Rattle.sp_tree.specs.declared.checked.KindOf.{KindOf}
@@ -17,7 +17,7 @@ use Rattle.sp_tree.specs.Plain.{Entire, Index, Field, Selectors, Whole, Select, 
 use Rattle.sp_tree.specs.Plain.{Pass, Variable}
 use Rattle.sp_meaning.specs.Model.{Channel, same_channel}
 use Rattle.sp_meaning.specs.Values.{Value, Undefined, Ordinal, Chan, Parts}
-use Rattle.sp_meaning.specs.Own.{Cell, Input, Address, Home, OfBlock, OfIndex, Frame, Setting, position_in, is_block}
+use Rattle.sp_meaning.specs.Own.{Input, Address, Home, OfBlock, OfIndex, Setting, position_in, is_block}
 use Rattle.sp_meaning.specs.Own.{is_index, referred}
 use Rattle.sp_meaning.specs.Eval.{Place, At, Fixed, Given, ValueOf, PlaceOf, field_kind, in_frame}
 use Rattle.sp_run.specs.Direct.{Work, bind, give, fail, lost, look, fetch, or_lost, visible}

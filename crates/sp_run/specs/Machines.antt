@@ -12,7 +12,6 @@ use Rattle.sp_run.specs.declared.machine.Reference.{Reference}
 use Rattle.sp_run.specs.declared.machine.Frame.{Frame}
 use Rattle.sp_run.specs.declared.machine.Own.{Own}
 use Rattle.sp_run.specs.declared.machine.Who.{Who}
-use Rattle.sp_run.specs.declared.machine.Machine.{Machine}
 use Rattle.sp_run.specs.declared.machine.Setting as set
 use Rattle.sp_tree.specs.PlainOf.{program_of}
 use Rattle.sp_meaning.specs.Maps.{at_key}

@@ -1,7 +1,7 @@
 -- None of this belongs to what the program promises: it is for contracts between crates.
 -- What a schedule means (`Means`): the longest lawful front of it, what it writes, and how it ends. The contract of
 -- `meaning_run` promises it, in the words of `sp_meaning` alone.
-use Rattle.std.specs.Prelude.{◌≡◌, ℕ, ◌<◌, Bool, true, false, List, [], ◌∷◌, ◌++◌, take, drop, length, map, reverse}
+use Rattle.std.specs.Prelude.{◌≡◌, ℕ, Bool, true, false, List, [], ◌∷◌, ◌++◌, take, drop, map, reverse}
 use Rattle.std.specs.Prelude.{Option, Some, None, if◌then◌else◌}
 use Rattle.sp_base.specs.declared.name.Pair.{Pair}
 use Rattle.sp_base.specs.declared.name.ProcName.{ProcName}

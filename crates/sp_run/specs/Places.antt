@@ -1,7 +1,7 @@
 -- None of this belongs to what the program promises: it is for contracts between crates.
 -- Places of variables, as they are kept in memory. The contracts of frames and operators speak of the meaning's places
 -- by it.
-use Rattle.std.specs.Prelude.{ℕ, Bool, ◌==◌}
+use Rattle.std.specs.Prelude.{Bool}
 use Rattle.sp_run.specs.declared.frames.Place.{Place}
 use Rattle.sp_run.specs.declared.frames.Place.TheVariants as place
 use Rattle.sp_run.specs.declared.frames.Wanted.{Wanted}

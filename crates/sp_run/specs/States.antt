@@ -1,8 +1,7 @@
 -- None of this belongs to what the program promises: it is for contracts between crates.
 -- The state of a run, as it is kept in memory: of each of its parts all that it became, the oldest first. The
 -- contracts of the steps speak of the meaning's state by it.
-use Rattle.std.specs.Prelude.{◌≡◌, ℕ, ◌+◌, Bool, true, false, List, [], ◌∷◌, Option, Some, None, if◌then◌else◌}
-use Rattle.std.specs.Option.{option_map}
+use Rattle.std.specs.Prelude.{◌≡◌, ℕ, ◌+◌, Bool, true, false, List, [], ◌∷◌, Option, Some, None}
 use Rattle.sp_base.specs.declared.fault.Fault.{Fault}
 use Rattle.sp_base.specs.declared.fault.Fault.TheVariants as fault
 use Rattle.sp_run.specs.declared.stop.Halted.TheVariants as halted

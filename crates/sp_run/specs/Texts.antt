@@ -1,7 +1,7 @@
 -- None of this belongs to what the program promises: it is for contracts between crates.
 -- Items read and written, as they are kept in memory; the children of a forall; the values of a for loop. The contracts
 -- of `texts` and of the deeds cite it.
-use Rattle.std.specs.Prelude.{ℕ, ℤ, pos, ◌+ℤ◌, ◌-ℤ◌, nat_abs, int_lt, List, Bool, true, false, not, Option}
+use Rattle.std.specs.Prelude.{ℕ, ℤ, pos, ◌+ℤ◌, ◌-ℤ◌, nat_abs, int_lt, List, Bool, false, not, Option}
 use Rattle.std.specs.Prelude.{if◌then◌else◌}
 use Rattle.std.specs.Option.{option_map}
 use Rattle.sp_run.specs.declared.texts.Taken.{Taken}

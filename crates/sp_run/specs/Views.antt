@@ -1,7 +1,7 @@
 -- None of this belongs to what the program promises: it is for contracts between crates.
 -- What is kept in memory, as the definitions of the meaning have it: channels, values, places. The other views of this
 -- crate are made of these.
-use Rattle.std.specs.Prelude.{List, [], ◌∷◌, map, Option, Some, None}
+use Rattle.std.specs.Prelude.{Option}
 use Rattle.sp_run.specs.declared.value.Value.{Value, fold-Value}
 use Rattle.sp_run.specs.declared.value.Value.TheOpen as layer
 use Rattle.sp_run.specs.declared.value.Chan.{Chan}

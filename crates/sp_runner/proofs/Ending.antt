@@ -1,6 +1,6 @@
 -- What stands once all workers have left: one seat that has left tells that the run is over.
-use Rattle.std.proofs.Common.{◌≡◌, ◌⊎◌, inl, inr, ◌+◌, ℕ, nat_lt, zero, suc, length, slice_get, ◌<◌, ◌≤◌, false, List}
-use Rattle.std.proofs.Common.{[], ◌∷◌, ◌++◌, Option, Some, None, ltb-false, refl, sym, ap, ◌∙◌, subst, arith}
+use Rattle.std.proofs.Common.{◌≡◌, ◌⊎◌, inl, inr, ◌+◌, ℕ, length, slice_get, ◌<◌, ◌≤◌, false, List}
+use Rattle.std.proofs.Common.{[], ◌∷◌, ◌++◌, Option, Some, None, refl, sym, ap, ◌∙◌, subst, arith}
 use Rattle.sp_journal.specs.declared.entry.Note.{Note}
 use Rattle.sp_journal.specs.declared.entry.Event.{Event}
 use Rattle.sp_code.specs.Memory.{Setting, Stores}

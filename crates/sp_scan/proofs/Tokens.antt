@@ -11,13 +11,12 @@ use Rattle.std.proofs.lemmas.Bool.{cases_lt}
 use Rattle.sp_tree.specs.declared.token.Kind.{Kind}
 use Rattle.sp_tree.specs.declared.token.Kind.TheVariants as kind
 use Rattle.sp_tree.specs.Characters.{lower, is_letter, is_digit, is_name_byte}
-use Rattle.sp_tree.specs.Lexemes.{signs, Lacks, Run, run_ends, run_goes_on, TextBody, text_ends, two_quotes, text_byte}
+use Rattle.sp_tree.specs.Lexemes.{signs, Run, run_ends, run_goes_on, TextBody, text_ends, two_quotes, text_byte}
 use Rattle.sp_tree.specs.Lexemes.{BraceBody, StarBody, Comment, brace_comment, star_comment, lowered, Lexeme, name}
 use Rattle.sp_tree.specs.Lexemes.{word, number, text, sign, Longest}
 use Rattle.sp_tree.specs.Scans.{NoToken}
 use Rattle.sp_grammar.proofs.OneList.{sign_plain, no_letter, no_digit, no_quote, letter_digit, letter_quote}
 use Rattle.sp_grammar.proofs.OneList.{digit_quote}
-use Rattle.sp_grammar.proofs.Rising.{lexeme_length}
 use Rattle.sp_scan.specs.Finds.{EndsRun, IsWordOf, HasSign, FindsSign, Closes}
 use Rattle.std.specs.Borrow.{Bor}
 use Rattle.sp_base.proofs.Facts.{below_or_last}

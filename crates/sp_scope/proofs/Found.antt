@@ -1,5 +1,5 @@
 -- What the walk finds in a part, from what it finds in its own parts.
-use Rattle.std.proofs.Common.{◌≡◌, refl, ap, sym, ◌∙◌, subst, List, [], ◌∷◌, map, Option, Some, None, Result, Ok, Err}
+use Rattle.std.proofs.Common.{◌≡◌, ap, sym, ◌∙◌, subst, List, [], ◌∷◌, Option, None, Result, Ok, Err}
 use Rattle.sp_base.specs.declared.halt.Refusal.{Refusal}
 use Rattle.sp_base.specs.declared.halt.Halt.{Halt}
 use Rattle.sp_tree.specs.declared.syntax.Name.{Name}

@@ -1,13 +1,13 @@
 -- The first of a list of broken rules: it stands in the list, and none of the list is before it.
-use Rattle.std.proofs.Common.{◌≡◌, ◌⊎◌, inl, inr, refl, ap, sym, ◌∙◌, subst, List, [], ◌∷◌, if◌then◌else◌, Option, Some}
+use Rattle.std.proofs.Common.{◌≡◌, inl, inr, refl, ap, sym, ◌∙◌, subst, List, [], ◌∷◌, if◌then◌else◌, Some}
 use Rattle.std.proofs.Common.{None, Bool, true, false}
 use Rattle.std.specs.declared.cmp.Ordering.{Ordering}
 use Rattle.std.specs.declared.cmp.Ordering.TheVariants.{Less, Equal, Greater}
-use Rattle.std.specs.Ordering.{nat_cmp, on, then_cmp, is_lt, is_gt, ordering_reverse}
+use Rattle.std.specs.Ordering.{is_lt, is_gt, ordering_reverse}
 use Rattle.std.specs.Cmp.{IsTotalOrder, then_total, on_total, nat_cmp_total, upto, tied_itself}
 use Rattle.sp_base.specs.declared.halt.Refusal.{Refusal}
-use Rattle.sp_tree.specs.First.{row, refusal_cmp, before, IsFirst}
-use Rattle.sp_tree.specs.Found.{Found, lesser, taken}
+use Rattle.sp_tree.specs.First.{row, refusal_cmp, before}
+use Rattle.sp_tree.specs.Found.{taken}
 use Rattle.sp_scope.specs.Laws.{Among, IsFirstOf}
 
 refusal_total : IsTotalOrder refusal_cmp

@@ -14,7 +14,7 @@ use Rattle.sp_tree.specs.declared.syntax.SynKind.TheVariants as kinds
 use Rattle.sp_tree.specs.declared.syntax.SynFormal.{SynFormal}
 use Rattle.sp_tree.specs.declared.syntax.SynGroup.{SynGroup}
 use Rattle.sp_tree.specs.Found.{Found, lesser, listed, taken}
-use Rattle.sp_tree.specs.Scopes.{Scope, Env, Local, inside, declared, variable, next_constant}
+use Rattle.sp_tree.specs.Scopes.{Scope, Env, Local, declared, variable, next_constant}
 use Rattle.sp_tree.specs.declared.meaning.Meaning.TheVariants as meaning
 use Rattle.sp_tree.specs.declared.meaning.Sort.TheVariants as sort
 use Rattle.sp_tree.specs.NameRules.{Site, broken, aims, same_place}
@@ -26,7 +26,7 @@ use Rattle.sp_tree.specs.PlainSyntax.{Pass, Width, NoWidth, Within, Arguments, N
 use Rattle.sp_tree.specs.PlainSyntax.{Form, Empty, Assign, Call, Sequence, If, While, Repeat, Case, For, Parallel}
 use Rattle.sp_tree.specs.PlainSyntax.{Forall, Assume, Other, NoElse, Else, Statements, NoStatement, AndThen, Arm, On}
 use Rattle.sp_tree.specs.PlainSyntax.{Arms, NoArm, Or, Branches, NoBranch, Beside, Part, Const, Kind, Var, Proc, Parts}
-use Rattle.sp_tree.specs.PlainSyntax.{NoPart, Declare, Block, Program}
+use Rattle.sp_tree.specs.PlainSyntax.{NoPart, Declare, Program}
 
 -- what holds of two ways to gather, at nothing, at a site and of two parts, holds of them at each tree
 module _ {M N : Type 0} (none : M) (join : M → M → M) (site : Env → Site → M) (none2 : N) (join2 : N → N → N)

@@ -1,26 +1,22 @@
 -- Each rule of names on a small program that breaks it, beside one that does not.
-use Rattle.std.proofs.Common.{◌+◌, ◌≡◌, refl, ℕ, List, [], ◌∷◌, Option, Some, None, Bool, true, false, codes, Result}
-use Rattle.std.proofs.Common.{Ok, Err}
+use Rattle.std.proofs.Common.{◌+◌, ◌≡◌, refl, ℕ, List, [], ◌∷◌, Option, Some, None, Bool, true, false, codes}
 use Rattle.sp_base.specs.declared.place.Place.{Place}
 use Rattle.sp_base.specs.declared.rule.Rule.{Rule}
 use Rattle.sp_base.specs.declared.rule.Rule.TheVariants as rule
-use Rattle.sp_base.specs.declared.halt.Refusal.{Refusal}
-use Rattle.sp_tree.specs.declared.operators.UnaryOp.TheVariants as unary
 use Rattle.sp_tree.specs.declared.syntax.Name.{Name}
 use Rattle.sp_tree.specs.declared.syntax.SynConst.{SynConst}
 use Rattle.sp_tree.specs.declared.syntax.SynValue.TheVariants as value
 use Rattle.sp_tree.specs.declared.syntax.SynKind.TheVariants as kinds
 use Rattle.sp_tree.specs.declared.syntax.SynFormal.{SynFormal}
-use Rattle.sp_tree.specs.declared.syntax.SynGroup.{SynGroup}
-use Rattle.sp_tree.specs.Found.{Found, breaks}
-use Rattle.sp_tree.specs.NameFirst.{names_first, names_broken, resolved}
-use Rattle.sp_tree.specs.PlainSyntax.{Expression, At, ExpressionForm, Number, Quoted, Read, Apply, Unary, Binary}
-use Rattle.sp_tree.specs.PlainSyntax.{Variable, Entire, Selector, Index, Field, Selectors, Whole, Select, Argument}
-use Rattle.sp_tree.specs.PlainSyntax.{Pass, Width, NoWidth, Within, Arguments, NoArgument, AndArgument, Statement, Does}
-use Rattle.sp_tree.specs.PlainSyntax.{Form, Empty, Assign, Call, Sequence, If, While, Repeat, Case, For, Parallel}
-use Rattle.sp_tree.specs.PlainSyntax.{Forall, Assume, Other, NoElse, Else, Statements, NoStatement, AndThen, Arm, On}
-use Rattle.sp_tree.specs.PlainSyntax.{Arms, NoArm, Or, Branches, NoBranch, Beside, Part, Const, Kind, Var, Proc, Parts}
-use Rattle.sp_tree.specs.PlainSyntax.{NoPart, Declare, Block, Program}
+use Rattle.sp_tree.specs.Found.{breaks}
+use Rattle.sp_tree.specs.NameFirst.{names_first}
+use Rattle.sp_tree.specs.PlainSyntax.{Expression, At, Number, Read, Apply}
+use Rattle.sp_tree.specs.PlainSyntax.{Entire, Index, Whole, Select}
+use Rattle.sp_tree.specs.PlainSyntax.{Pass, NoWidth, Within, Arguments, NoArgument, AndArgument, Does}
+use Rattle.sp_tree.specs.PlainSyntax.{Form, Empty, Assign, Call, Sequence, Case, For}
+use Rattle.sp_tree.specs.PlainSyntax.{Forall, Assume, Statements, NoStatement, AndThen, On}
+use Rattle.sp_tree.specs.PlainSyntax.{NoArm, Or, Part, Const, Kind, Var, Proc, Parts}
+use Rattle.sp_tree.specs.PlainSyntax.{NoPart, Declare, Program}
 
 -- on the first line
 abbrev at : ℕ → Place

@@ -1,6 +1,6 @@
 -- Blocks of declarations in tables, and how names are looked up in them.
-use Rattle.std.proofs.Common.{suc, length, map, ◌≡◌, refl, ap, ◌∙◌, List, [], ◌∷◌, ◌++◌, ℕ, Option, Some, None, Bool}
-use Rattle.std.proofs.Common.{true, false, if◌then◌else◌}
+use Rattle.std.proofs.Common.{suc, length, map, ◌≡◌, refl, ap, ◌∙◌, List, [], ◌∷◌, ◌++◌, ℕ, Option, None, Bool}
+use Rattle.std.proofs.Common.{if◌then◌else◌}
 use Rattle.std.specs.Str.{bytes_eq}
 use Rattle.indexmap.specs.IndexMap.{insert_entry}
 use Rattle.sp_tree.specs.declared.meaning.Meaning.{Meaning}

@@ -1,5 +1,5 @@
 -- Each instruction does to shapes what its form does, and goes on where its form goes.
-use Rattle.std.proofs.Common.{◌≡◌, ◌⊎◌, inl, inr, refl, ap, sym, ◌∙◌, subst, ℕ, zero, suc, ◌+◌, List, [], ◌∷◌, Option}
+use Rattle.std.proofs.Common.{◌≡◌, inl, inr, refl, ap, sym, subst, ℕ, zero, suc, ◌+◌, List, [], ◌∷◌, Option}
 use Rattle.std.proofs.Common.{Some, None, Bool, true, false}
 use Rattle.sp_code.specs.declared.instr.Instr.{Instr}
 use Rattle.sp_code.specs.declared.instr.Instr.TheVariants as i

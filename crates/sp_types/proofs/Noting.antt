@@ -1,6 +1,6 @@
 -- A table of fields by name grows with the fields, and a set of numbers with the numbers.
-use Rattle.std.proofs.Common.{◌≡◌, refl, ap, sym, ◌∙◌, subst, rules, ℕ, ◌+◌, nat_eq, Bool, true, false, cond, ◌||◌}
-use Rattle.std.proofs.Common.{if◌then◌else◌, List, ◌∷◌, Option, Some, None, arith}
+use Rattle.std.proofs.Common.{◌≡◌, refl, ap, sym, ◌∙◌, rules, ℕ, ◌+◌, nat_eq, Bool, true, false, cond, ◌||◌}
+use Rattle.std.proofs.Common.{if◌then◌else◌, List, ◌∷◌, Option, Some, None}
 use Rattle.std.specs.List.{list_any}
 use Rattle.std.specs.Option.{option_or, is_some}
 use Rattle.std.specs.Str.{bytes_eq}
@@ -8,10 +8,9 @@ use Rattle.std.specs.Ordering.{nat_cmp, is_eq}
 use Rattle.std.specs.Cmp.Lexicographic.{slice_cmp}
 use Rattle.std.proofs.lemmas.Map.Text.{is_eq-slice_cmp}
 use Rattle.std.proofs.lemmas.Slice.Eq.{bytes_eq-Decides}
-use Rattle.std.proofs.lemmas.Bool.Decides.{nat_tests}
 use Rattle.std.proofs.lemmas.Bool.{true≢false}
 use Rattle.sp_base.proofs.Facts.{tie_is_equal}
-use Rattle.sp_types.specs.Entries.{Index, under, Notes, IsIndex, IsNumbers, field_from}
+use Rattle.sp_types.specs.Entries.{Index, under, Notes, field_from}
 
 by_test : (b : Bool) (x : ℕ × ℕ) (rest : Option (ℕ × ℕ))
     → option_or (if b then Some x else None) rest ≡ (if b then Some x else rest)

@@ -1,5 +1,5 @@
 -- Bodies, declarations and rows of blocks, gathered one block after another.
-use Rattle.std.proofs.Common.{◌≡◌, ◌↔◌, ◌⊎◌, ℕ, zero, suc, ◌+◌, ◌<◌, ◌≤◌, Bool, true, false, ◌==◌, ◌||◌, ◌&&◌, List, []}
+use Rattle.std.proofs.Common.{◌≡◌, ◌↔◌, ◌⊎◌, ℕ, zero, suc, ◌+◌, ◌<◌, ◌≤◌, true, ◌==◌, ◌||◌, ◌&&◌, List, []}
 use Rattle.std.proofs.Common.{◌∷◌, ◌++◌, map, drop, length, get_or, slice_get, refl, sym, ap, subst, ◌∙◌, arith, inl}
 use Rattle.std.proofs.Common.{inr, add-one, eqb-true, eq-eqb, Some, None}
 use Rattle.std.proofs.lemmas.Bool.{cases_eq, and_from, and_parts, or_cases}

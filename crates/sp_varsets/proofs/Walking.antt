@@ -1,7 +1,7 @@
 -- What is recorded of statements, one after another.
-use Rattle.std.proofs.Common.{◌≡◌, ◌≢◌, ◌↔◌, ◌⊎◌, ℕ, zero, suc, ◌+◌, ◌<◌, ◌≤◌, true, List, [], ◌∷◌, ◌++◌, map, drop}
+use Rattle.std.proofs.Common.{◌≡◌, ◌≢◌, ◌↔◌, ◌⊎◌, ℕ, zero, suc, ◌+◌, ◌<◌, ◌≤◌, true, List, [], ◌∷◌, map, drop}
 use Rattle.std.proofs.Common.{length, get_or, set, refl, sym, ap, subst, ◌∙◌, arith, rules, inl, inr, add-one, Option}
-use Rattle.std.proofs.Common.{Some, None}
+use Rattle.std.proofs.Common.{Some}
 use Rattle.std.proofs.lemmas.Bool.{cases_eq}
 use Rattle.std.proofs.lemmas.Option.{same_Some}
 use Rattle.sp_base.specs.declared.place.Place.{Place}

@@ -1,6 +1,6 @@
 -- The witness of a race shows it: the run up to the later offer, parted into the witness and the rest.
 use Rattle.std.proofs.Common.{◌≡◌, ◌≢◌, ⊎_elim, inl, inr, ℕ, suc, ◌+◌, ◌<◌, lt_irrefl, nat_lt, Bool, true, false, cond}
-use Rattle.std.proofs.Common.{◌&&◌, ◌||◌, List, [], ◌∷◌, ◌++◌, length, length-append, append_assoc, append-nil, take}
+use Rattle.std.proofs.Common.{◌&&◌, ◌||◌, List, [], ◌∷◌, ◌++◌, length, append_assoc, append-nil, take}
 use Rattle.std.proofs.Common.{take_at, Option, Some, None, slice_get, refl, sym, ap, ◌∙◌, subst, arith}
 use Rattle.std.proofs.lemmas.Bool.{false_from_ne_true, or_cases, or_from, or_parts}
 use Rattle.std.proofs.lemmas.Option.{none-some}

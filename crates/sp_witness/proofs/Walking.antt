@@ -28,7 +28,7 @@ use Rattle.sp_witness.proofs.Independent.{IsLocal}
 use Rattle.sp_witness.proofs.Moving.{Head, Tag, Block, heads, Does, Runs, BlockRuns}
 use Rattle.sp_witness.proofs.Pasts.{heads_from}
 use Rattle.sp_witness.proofs.Ticks.{ticks_by, ticks_after, said_same}
-use Rattle.sp_witness.proofs.Blocks.{AllQuiet, IsLast, Valid, since_after, since_all, AllValid}
+use Rattle.sp_witness.proofs.Blocks.{AllQuiet, IsLast, Valid, since_all, AllValid}
 use Rattle.sp_witness.proofs.Blocks as blocks
 
 module _ (g : Setting) where

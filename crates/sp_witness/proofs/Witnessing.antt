@@ -1,5 +1,5 @@
 -- The witness of a race is a run's journal, and ends in the contention of the two offers.
-use Rattle.std.proofs.Common.{◌≡◌, ◌≢◌, ◌⊎◌, ⊎_elim, inl, inr, ℕ, suc, ◌+◌, Bool, true, false, ◌||◌, List, [], ◌∷◌}
+use Rattle.std.proofs.Common.{◌≡◌, ◌≢◌, ◌⊎◌, ⊎_elim, inl, inr, ℕ, suc, ◌+◌, Bool, true, false, List, [], ◌∷◌}
 use Rattle.std.proofs.Common.{◌++◌, length, Option, Some, refl, sym, ap, ◌∙◌, subst, arith}
 use Rattle.sp_base.proofs.Facts.{true_is_not_false}
 use Rattle.sp_journal.specs.declared.entry.Way.{Way}
@@ -15,7 +15,7 @@ use Rattle.sp_race.specs.Notes.{Event, mine}
 use Rattle.sp_race.specs.Noting.{WithNotes}
 use Rattle.sp_witness.specs.Witness.{is_pause}
 use Rattle.sp_witness.proofs.Independent.{IsLocal}
-use Rattle.sp_witness.proofs.Moving.{Head, Tag, Block, Does, Runs, BlockRuns, EachFree}
+use Rattle.sp_witness.proofs.Moving.{Head, Tag, Block, Does, Runs, BlockRuns}
 use Rattle.sp_witness.proofs.Blocks.{IsMove, IsQuiet, AllQuiet, IsLast, Valid, since_after, since_all, AllValid}
 use Rattle.sp_witness.proofs.Back.{entry_of, entries}
 use Rattle.sp_witness.proofs.Contending.{Offers, offers_of, local_pending, local_condition, pends_next}

@@ -2,7 +2,7 @@
 use Rattle.std.proofs.Common.{◌≡◌, ◌^◌, ◌&&◌, ℕ, Bool, cond, true, false, refl, sym, ap, ap₂, ◌∙◌, List, [], ◌∷◌, ◌++◌}
 use Rattle.std.proofs.Common.{map, Option, Some, None, option_map, is_some, true≢false, append_assoc, append-nil, inl}
 use Rattle.std.proofs.Common.{inr}
-use Rattle.std.specs.List.{find, fold, list_any, list_all}
+use Rattle.std.specs.List.{find, fold, list_all}
 use Rattle.std.specs.Option.{option_map_or}
 use Rattle.std.specs.Prelude.{codes, nat_le, nat_lt, option_and_then}
 use Rattle.std.specs.Str.{bytes_eq}
@@ -13,7 +13,7 @@ use Rattle.sp_base.proofs.Facts.{and_with_false, first_true, value_if_some}
 use Rattle.clap.specs.Walk.{Names, Row, Rule, Walk, answers_to, finished, first_of, nothing_held, settled, stop_after}
 use Rattle.clap.specs.Walk.{walk, walk_from, walked}
 use Rattle.clap.specs.Walk.{rows_after as matched_rows}
-use Rattle.clap.specs.Simple.{App, Shape, built, entered, is_simple, label_of, names_of, new_shape, rows_at}
+use Rattle.clap.specs.Simple.{App, Shape, entered, is_simple, label_of, names_of, new_shape, rows_at}
 use Rattle.clap.specs.Simple.{subcommand_of}
 use Rattle.clap.specs.Kinds.{Kinds, or_else}
 use Rattle.clap.specs.Faults.{built_fault, check_fault, defaults_fault, entered_fault, fault_of, settle_fault}

@@ -1,6 +1,6 @@
 -- How numbers and names are read from texts.
 use Rattle.std.proofs.Common.{◌≡◌, ◌^◌, ◌&&◌, ℕ, Bool, cond, true, false, refl, sym, ap, ◌∙◌, List, [], ◌∷◌, length}
-use Rattle.std.proofs.Common.{Some, None, option_map, Result, Ok, Err, true≢false}
+use Rattle.std.proofs.Common.{Some, None, option_map, Result, Ok, Err}
 use Rattle.std.proofs.lemmas.Bool.{ltb-true, lt-ltb, and_parts}
 use Rattle.std.proofs.lemmas.Slice.Eq.{bytes_eq-Decides}
 use Rattle.std.specs.Prelude.{nat_lt, unwrap_or}

@@ -5,7 +5,6 @@ use Rattle.sp_cell.specs.Map.{Plain}
 use Rattle.sp_code.specs.System.{System}
 use Rattle.sp_execute.specs.declared.execution.Ran.{Ran}
 use Rattle.sp_execute.specs.Runs.{Executes, setting}
-use Rattle.sp_execute.specs.Witnesses.{IsReadyRun}
 use Rattle.sp_journal.specs.declared.entry.Entry.{Entry}
 use Rattle.sp_journal.specs.declared.entry.Journal.{Journal}
 use Rattle.sp_journal.specs.declared.outcome.End.{End}

@@ -1,4 +1,4 @@
-use Rattle.std.proofs.Common.{◌≡◌, ◌||◌, ◌∙◌, ap}
+use Rattle.std.proofs.Common.{◌||◌, ◌∙◌, ap}
 use Rattle.sp_varsets.specs.Members.{has, joined}
 use Rattle.sp_varsets.specs.AreSets.{targets_of, expressions_of}
 use Rattle.sp_interfere.specs.Tests.{is_target, is_used}

@@ -1,4 +1,4 @@
-use Rattle.std.proofs.Common.{◌≡◌, ◌-◌, Some, length, map}
+use Rattle.std.proofs.Common.{◌≡◌, ◌-◌, Some, length}
 use Rattle.sp_tree.specs.CheckedOf.{program_of}
 use Rattle.sp_interfere.specs.Rules.{stands_in}
 use Rattle.sp_interfere.proofs.sites.stands_in.Given as goal

@@ -1,4 +1,4 @@
-use Rattle.std.proofs.Common.{◌≡◌, ℕ, length, map, sym, ap, ◌∙◌, arith}
+use Rattle.std.proofs.Common.{◌≡◌, length, map, sym, ap, ◌∙◌, arith}
 use Rattle.sp_tree.specs.CheckedOf.{expression_of, variable_of, program_of}
 use Rattle.sp_interfere.specs.Rules.{site_first}
 use Rattle.sp_interfere.specs.Walk.{each_first, expression_first, variable_first}

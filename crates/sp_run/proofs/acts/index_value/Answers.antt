@@ -1,4 +1,3 @@
-use Rattle.std.proofs.Common.{◌≡◌}
 use Rattle.sp_run.proofs.acts.index_value.Goals as goal
 
 pub returns : goal.returns

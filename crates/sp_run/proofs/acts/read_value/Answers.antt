@@ -1,9 +1,9 @@
-use Rattle.std.proofs.Common.{rules, ◌≡◌, refl, Some}
+use Rattle.std.proofs.Common.{◌≡◌, Some}
 use Rattle.sp_meaning.specs.Deeds.{taken_by}
 use Rattle.sp_run.specs.Machines.{setting_of, plain_who, plain_own, store_of}
 use Rattle.sp_run.specs.Views.{plain_address}
 use Rattle.sp_run.specs.Items.{items_of}
-use Rattle.sp_run.specs.Texts.{plain_taken, taken_of}
+use Rattle.sp_run.specs.Texts.{plain_taken}
 use Rattle.sp_run.proofs.Acting.{value_read}
 use Rattle.sp_run.proofs.acts.read_value.Goals as goal
 

@@ -1,5 +1,5 @@
-use Rattle.std.proofs.Common.{rules, subst, ◌≡◌, ◌+◌, ◌∷◌, refl, sym, ap, ◌∙◌, arith, map, slice_get, Some, None}
-use Rattle.sp_meaning.specs.Eval.{Given, ValueOf}
+use Rattle.std.proofs.Common.{rules, subst, ◌≡◌, ◌∷◌, sym, ap, ◌∙◌}
+use Rattle.sp_meaning.specs.Eval.{ValueOf}
 use Rattle.sp_run.specs.Machines.{setting_of, plain_who, plain_own, store_of}
 use Rattle.sp_run.specs.Views.{plain_value}
 use Rattle.sp_run.specs.Doings.{plain_given, given_of}

@@ -1,4 +1,4 @@
-use Rattle.std.proofs.Common.{rules, subst, ◌≡◌, ◌+◌, ◌∷◌, refl, sym, ap, ◌∙◌, arith, map, slice_get, Some, None}
+use Rattle.std.proofs.Common.{rules, subst, ◌≡◌, ◌+◌, ◌∷◌, sym, ap, map}
 use Rattle.sp_tree.specs.Bare.{variable_of}
 use Rattle.sp_run.specs.Machines.{setting_of, plain_who, plain_own, store_of}
 use Rattle.sp_run.specs.Comings.{Comes, same}

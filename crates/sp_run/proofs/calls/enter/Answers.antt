@@ -1,4 +1,4 @@
-use Rattle.std.proofs.Common.{rules, ◌≡◌, refl, sym, ap, ◌∙◌, arith, slice_get, Some, None}
+use Rattle.std.proofs.Common.{rules, ◌≡◌, refl, slice_get, Some, None}
 use Rattle.sp_run.proofs.Blocks.{some_block, no_block}
 use Rattle.sp_run.proofs.calls.enter.Goals as goal
 

@@ -1,4 +1,3 @@
-use Rattle.std.proofs.Common.{rules, ◌≡◌, ◌+◌, ◌∷◌, refl, sym, ap, ◌∙◌, arith, map, slice_get, Some, None}
 use Rattle.std.proofs.lemmas.List.{length-map}
 use Rattle.sp_run.specs.Machines.{plain_frame}
 use Rattle.sp_run.proofs.calls.entered.Goals as goal

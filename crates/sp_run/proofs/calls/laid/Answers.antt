@@ -1,4 +1,4 @@
-use Rattle.std.proofs.Common.{rules, ◌≡◌, refl, sym, ap, ◌∙◌, arith}
+use Rattle.std.proofs.Common.{refl}
 use Rattle.sp_run.proofs.calls.laid.Goals as goal
 
 pub returns-in-Halts : goal.returns-in-Halts

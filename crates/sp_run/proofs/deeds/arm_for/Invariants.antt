@@ -1,4 +1,4 @@
-use Rattle.std.proofs.Common.{◌≡◌, map, drop}
+use Rattle.std.proofs.Common.{◌≡◌, drop}
 use Rattle.sp_tree.specs.PlainOf.{arms_of}
 use Rattle.sp_meaning.specs.Deeds.{arm_for}
 use Rattle.sp_run.proofs.deeds.arm_for.Given as goal

@@ -4,10 +4,10 @@ use mir.Val.{to_z, of_z}
 use mir.Syntax.{w64}
 use Rattle.sp_tree.specs.PlainOf.{stmt_of}
 use Rattle.sp_meaning.specs.Own.{Item, Again}
-use Rattle.sp_meaning.specs.Deeds.{Deed, Ticked, push}
+use Rattle.sp_meaning.specs.Deeds.{Ticked, push}
 use Rattle.sp_run.specs.Items.{items_of}
 use Rattle.sp_run.specs.Machines.{setting_of, plain_who, plain_own, store_of}
-use Rattle.sp_run.specs.Direct.{Came, Got}
+use Rattle.sp_run.specs.Direct.{Got}
 use Rattle.sp_run.proofs.Chains.{turned, turned_not, turned_late}
 use Rattle.sp_run.proofs.deeds.turn_of.Goals as goal
 

@@ -1,4 +1,4 @@
-use Rattle.std.proofs.Common.{rules, ◌≡◌}
+use Rattle.std.proofs.Common.{rules}
 use Rattle.sp_run.specs.Meanings.{waiting_of}
 use Rattle.sp_run.proofs.Ending.{ends_fault, ends_done, ends_deadlock, ends_none}
 use Rattle.sp_run.proofs.ends.end_of.Goals as goal

@@ -1,4 +1,4 @@
-use Rattle.std.proofs.Common.{rules, ◌≡◌}
+use Rattle.std.proofs.Common.{rules}
 use Rattle.sp_run.proofs.Placing.{inserted_at}
 use Rattle.sp_run.proofs.ends.insert.Goals as goal
 

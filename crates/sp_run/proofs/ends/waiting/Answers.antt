@@ -1,4 +1,4 @@
-use Rattle.std.proofs.Common.{rules, ◌≡◌, ◌≤◌, length, arith}
+use Rattle.std.proofs.Common.{rules, ◌≤◌, length}
 use Rattle.sp_run.specs.Meanings.{waiting_of}
 use Rattle.sp_run.proofs.Collecting.{below_next, below_all}
 use Rattle.sp_run.proofs.ends.waiting.Goals as goal

@@ -1,4 +1,4 @@
-use Rattle.std.proofs.Common.{rules, ◌≡◌, refl, sym, ap, ◌∙◌, arith, map}
+use Rattle.std.proofs.Common.{rules, ◌≡◌, ◌∙◌, arith, map}
 use Rattle.sp_tree.specs.declared.checked.Form.TheFolds as folds
 use Rattle.sp_tree.specs.Plain.{Sequence}
 use Rattle.sp_tree.specs.PlainOf.{stmt_of, sends, receives}

@@ -1,4 +1,4 @@
-use Rattle.std.proofs.Common.{◌≡◌, ◌≤◌, map, take, length}
+use Rattle.std.proofs.Common.{◌≡◌, ◌≤◌, take, length}
 use Rattle.sp_tree.specs.PlainOf.{stmts_of}
 use Rattle.sp_meaning.specs.Deeds.{push_all}
 use Rattle.sp_run.specs.Items.{items_of}

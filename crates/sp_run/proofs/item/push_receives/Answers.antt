@@ -1,4 +1,4 @@
-use Rattle.std.proofs.Common.{rules, ◌≡◌, refl, sym, ◌∙◌, arith}
+use Rattle.std.proofs.Common.{rules, ◌∙◌, arith}
 use Rattle.sp_tree.specs.declared.checked.Var.{Var}
 use Rattle.sp_tree.specs.Plain.{Receive}
 use Rattle.sp_tree.specs.PlainOf.{expr_of, var_of}

@@ -1,4 +1,4 @@
-use Rattle.std.proofs.Common.{rules, ◌≡◌, refl, sym, ◌∙◌, arith}
+use Rattle.std.proofs.Common.{rules, ◌∙◌, arith}
 use Rattle.sp_tree.specs.declared.checked.Expr.{Expr}
 use Rattle.sp_tree.specs.Plain.{Send}
 use Rattle.sp_tree.specs.PlainOf.{expr_of}

@@ -1,5 +1,4 @@
-use Rattle.std.proofs.Common.{rules, ◌≡◌, refl, sym, ap, ◌∙◌, arith}
-use Rattle.sp_meaning.specs.Values as v
+use Rattle.std.proofs.Common.{rules, refl}
 use Rattle.sp_run.proofs.Plains.{plain_parts}
 use Rattle.sp_run.proofs.kinds.initial_of.Goals as goal
 

@@ -1,4 +1,4 @@
-use Rattle.std.proofs.Common.{◌≡◌, sym, subst}
+use Rattle.std.proofs.Common.{sym, subst}
 use Rattle.sp_meaning.specs.Values.{Value}
 use Rattle.sp_run.specs.Comings.{Comes}
 use Rattle.sp_run.specs.Machines.{setting_of, plain_who, plain_own, store_of}

@@ -1,4 +1,4 @@
-use Rattle.std.proofs.Common.{rules, ◌≡◌, ◌∙◌}
+use Rattle.std.proofs.Common.{rules, ◌∙◌}
 use Rattle.sp_run.proofs.Longest.{halts, goes_further}
 use Rattle.sp_run.proofs.run.goes.Goals as goal
 

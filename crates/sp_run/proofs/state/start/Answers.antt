@@ -1,4 +1,4 @@
-use Rattle.std.proofs.Common.{rules, ◌≡◌}
+use Rattle.std.proofs.Common.{rules}
 use Rattle.sp_run.proofs.Opening.{opening_of}
 use Rattle.sp_run.proofs.state.start.Goals as goal
 

@@ -1,4 +1,4 @@
-use Rattle.std.proofs.Common.{◌≡◌, map, drop}
+use Rattle.std.proofs.Common.{◌≡◌, drop}
 use Rattle.sp_tree.specs.PlainOf.{stmts_of}
 use Rattle.sp_meaning.specs.Model.{after}
 use Rattle.sp_meaning.specs.Steps.{births}

@@ -1,4 +1,4 @@
-use Rattle.std.proofs.Common.{rules, ◌≡◌, refl, sym, ap, ◌∙◌, subst}
+use Rattle.std.proofs.Common.{◌≡◌, ap, ◌∙◌, subst}
 use Rattle.sp_meaning.specs.Own.{Held, Tree, assigned}
 use Rattle.sp_run.specs.Comings.{Implements, same}
 use Rattle.sp_run.specs.Machines.{plain_held, store_of}

@@ -1,4 +1,4 @@
-use Rattle.std.proofs.Common.{rules, ◌≡◌, refl, sym, ap, ◌∙◌, arith}
+use Rattle.std.proofs.Common.{sym, arith}
 use Rattle.sp_meaning.specs.SuperPascal.{first_store}
 use Rattle.sp_run.specs.Machines.{setting_of}
 use Rattle.sp_run.specs.Views.{plain_loc}

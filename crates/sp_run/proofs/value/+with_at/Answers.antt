@@ -1,6 +1,6 @@
-use Rattle.std.proofs.Common.{rules, ◌≡◌, refl, sym, ap, ◌∙◌, arith}
+use Rattle.std.proofs.Common.{rules, sym}
 use Rattle.sp_run.specs.Views.{plain_value}
-use Rattle.sp_run.proofs.Plains.{plain_undefined, plain_ordinal, plain_chan, plain_parts}
+use Rattle.sp_run.proofs.Plains.{plain_parts}
 use Rattle.sp_run.proofs.Values.{with_part_here, with_part_past}
 use Rattle.sp_run.proofs.value.+with_at.Goals as goal
 

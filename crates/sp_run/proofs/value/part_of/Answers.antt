@@ -1,4 +1,4 @@
-use Rattle.std.proofs.Common.{rules, ◌≡◌, refl, sym, ap, ◌∙◌, arith}
+use Rattle.std.proofs.Common.{refl}
 use Rattle.sp_run.specs.Views.{plain_value}
 use Rattle.sp_run.proofs.Plains.{plain_undefined, plain_ordinal, plain_chan, plain_parts}
 use Rattle.sp_run.proofs.Values.{item_values}

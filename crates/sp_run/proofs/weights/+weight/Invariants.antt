@@ -1,4 +1,4 @@
-use Rattle.std.proofs.Common.{◌≡◌, ◌+◌, map, drop}
+use Rattle.std.proofs.Common.{◌≡◌, ◌+◌, drop}
 use Rattle.sp_tree.specs.PlainOf.{arms_of, stmts_of}
 use Rattle.sp_meaning.specs.SuperPascal.{weight_all, weight_arms}
 use Rattle.sp_run.proofs.weights.+weight.Given as goal

@@ -1,4 +1,4 @@
-use Rattle.std.proofs.Common.{◌≡◌, ◌+◌, map, drop}
+use Rattle.std.proofs.Common.{◌≡◌, ◌+◌, drop}
 use Rattle.sp_tree.specs.PlainOf.{blocks_of}
 use Rattle.sp_meaning.specs.SuperPascal.{weight_blocks}
 use Rattle.sp_run.proofs.weights.weight_of_blocks.Given as goal

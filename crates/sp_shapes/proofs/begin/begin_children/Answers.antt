@@ -1,4 +1,4 @@
-use Rattle.std.proofs.Common.{◌≡◌, inl, inr, refl, length}
+use Rattle.std.proofs.Common.{◌≡◌, refl, length}
 use Rattle.std.proofs.lemmas.Option.{slice_get_read}
 use Rattle.sp_shapes.specs.Starts.{IsOfChildren}
 use Rattle.sp_shapes.proofs.Starting.{adds_then, more_children}

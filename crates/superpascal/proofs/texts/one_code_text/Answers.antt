@@ -1,5 +1,4 @@
 use Rattle.std.proofs.Common.{sym, ap, ◌∙◌, subst}
-use Rattle.sp_code.specs.declared.code.Parts.{Parts}
 use Rattle.sp_codefile.specs.CodeText.{code_text}
 use Rattle.sp_generate.specs.Generated.{IsCodeOf}
 use Rattle.sp_tree.specs.Bare.{bare}
