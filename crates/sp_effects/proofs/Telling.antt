@@ -120,12 +120,6 @@ puts_loads old s x h (deed.Stores y) = refl
 puts_loads old s x h (deed.Loads y) = number_put s.keys old.loaded.keys x h y
 puts_loads old s x h deed.Stops = refl
 
-pub puts_stops : (old : Sets)
-    → PutsIn old (record { stored = old.stored; loaded = old.loaded; stops = true }) deed.Stops
-puts_stops old (deed.Stores y) = refl
-puts_stops old (deed.Loads y) = refl
-puts_stops old deed.Stops = refl
-
 pub puts_deed : (old new : Sets) (g e : Deed) → g ≡ e → PutsIn old new e → (d : Deed)
     → in_sets new d ≡ (same_deed d g || in_sets old d)
 puts_deed old new g e s h d = h d ∙ ap (λ (x : Deed). same_deed d x || in_sets old d) (sym s)

@@ -99,10 +99,6 @@ module _ (es : List Occurrence) (e : Occurrence) where
         ∙ ap (λ xs. made xs q) (take_low es e i (omega arith)),
   )
 
-  pub place_more : (q : Name) (i k : ℕ) → PlaceOf es q i k → PlaceOf more q i k
-  place_more q i k p = let l = slice_get_within es i _ p.1 in
-      (p.0, get_low es e i l ∙ p.1, p.2, p.3 ∙ ap (λ xs. made xs q) (sym (take_low es e i (omega arith))))
-
   pub place_last : (q : Name) (k : ℕ) → PlaceOf more q (length es) k → (e.who ≡ q) × (is_counted e.what ≡ true)
       × (k ≡ made es q)
   place_last q k p =

@@ -1,9 +1,8 @@
 -- A rule at a part that has its type.
-use Rattle.std.proofs.Common.{◌≡◌, sym, ap, subst, ◌∙◌, ℕ, Option, Ok, Err, Result}
+use Rattle.std.proofs.Common.{◌≡◌, sym, ap, ◌∙◌, ℕ, Option, Ok, Err, Result}
 use Rattle.sp_base.specs.declared.place.Place.{Place}
 use Rattle.sp_base.specs.declared.halt.Refusal.{Refusal}
-use Rattle.sp_base.specs.declared.halt.Halt.{Halt}
-use Rattle.sp_tree.specs.Found.{Found, lesser, AnswersAs}
+use Rattle.sp_tree.specs.Found.{Found, lesser}
 
 -- what a part gives: its tree, its type and the first broken rule
 abbrev gives : {A : Type 0} → A → Option ℕ → Found → Result (A × Option ℕ × Found) Refusal
@@ -24,17 +23,3 @@ pub ruled :
 ruled tree kind rule p q a b k j f g broken first at_is h broken_is first_is =
     ap (with_rule tree kind (rule p)) h ∙ ap (λ (m : Found). gives (tree b) (kind j) m)
     (sym (first_is ∙ ap (lesser g) (broken_is ∙ ap (λ (s : Place). rule s j) at_is)))
-
--- what a call answers that goes on from an answer
-abbrev after_value : {A B : Type 0} → (A → Result B Refusal) → Result A Refusal → Result B Refusal
-after_value f (Ok x) = f x
-after_value f (Err r) = Err r
-
-abbrev the_answer : {A : Type 0} → A → Result A Refusal
-the_answer x = Ok x
-
--- A call goes on from what another answered, which is what it should have answered.
-pub chained :
-    {A B D : Type 0} (view : D → B) (f : A → Result B Refusal) (x y : A) (result : Result D Halt) →
-    the_answer x ≡ the_answer y → AnswersAs view result (f y) → AnswersAs view result (f x)
-chained view f x y result e h = subst (λ d. AnswersAs view result (after_value f d)) (sym e) h
