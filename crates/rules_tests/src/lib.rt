@@ -6,7 +6,7 @@
 //! - Of V1, `alone.rt` has what is wrong in itself, `around.rt` what instructions name and what forks hand on,
 //!   `declarations.rt` variables that are declared twice, `naming.rt` tables and who names them, `placed.rt` where
 //!   instructions stand.
-//! - `shaped.rt` has V2 to V5, `rounds.rt` V9. No test here breaks V6, V7 or V8.
+//! - `shaped.rt` has V2 to V5, `rounds.rt` V9. Code files that break V6, V7 and V8 stand in `superpascal_tests`.
 #![tactic(auto)]
 
 #[cfg(test)]

@@ -19,7 +19,7 @@ const ANSWER_CODE: &str =
 const RUN: [(&str, &str, &str); 1] = [(ANSWER_CODE, "42", "done\n")];
 
 // Code files that are not run, and the notes.
-const REJECTED: [(&str, &str, &str); 7] = [
+const REJECTED: [(&str, &str, &str); 10] = [
     (
         "superpascal code 1\nlayout 0 0 - none sizes 1 variables 2 formals\n0 addr 0 3\n1 const 6\n2 store\n3 addr 0 2\n4 load\n5 const 7\n6 mul\n7 write int\n8 end\n",
         "",
@@ -29,6 +29,21 @@ const REJECTED: [(&str, &str, &str); 7] = [
         "superpascal code 1\nlayout 0 0 - none sizes 1 variables 2 formals\n0 addr 0 2\n1 neg\n2 store\n3 addr 0 2\n4 load\n5 const 7\n6 mul\n7 write int\n8 end\n",
         "",
         "rejected V2 1\n",
+    ),
+    (
+        "superpascal code 1\nlayout 0 0 - none sizes 1 1 variables 2 3 formals\n0 fork 0\n1 jump 10\n2 addr 0 2\n3 const 1\n4 store\n5 end\n6 addr 0 3\n7 const 2\n8 store\n9 end\n10 end\ntable 0 child 0 entry 2 moves shares 2\ntable 0 child 1 entry 6 moves 3 shares\n",
+        "",
+        "rejected V6 2\n",
+    ),
+    (
+        "superpascal code 1\nlayout 0 0 - none sizes 1 1 variables 2 3 formals\nlayout 1 4 0 none sizes 1 1 variables 4 5 formals reference 1 reference 1\n0 addr 0 2\n1 addr 0 2\n2 call 1 0\n3 end\n4 deref 0 0\n5 const 1\n6 store\n7 deref 0 1\n8 const 2\n9 store\n10 return\n",
+        "",
+        "rejected V7 2\n",
+    ),
+    (
+        "superpascal code 1\nlayout 0 0 - none sizes 1 variables 2 formals\nlayout 1 5 0 none sizes variables formals\nlayout 2 10 0 answer sizes 1 variables 3 formals\n0 call 1 0\n1 addr 0 2\n2 call 2 0\n3 store\n4 end\n5 fork 0\n6 jump 9\n7 end\n8 end\n9 return\n10 call 1 1\n11 addr 0 0\n12 const 1\n13 store\n14 return\ntable 0 child 0 entry 7 moves shares\ntable 0 child 1 entry 8 moves shares\n",
+        "",
+        "rejected V8 10\n",
     ),
     (
         "layout 0 0 - none sizes 1 variables 2 formals\n0 addr 0 2\n1 const 6\n2 store\n3 addr 0 2\n4 load\n5 const 7\n6 mul\n7 write int\n8 end\n",
