@@ -173,6 +173,7 @@ impl State {
     }
 
     // What an operator makes of two ordinals.
+    #[inline(always)]
     pub(crate) fn operate(
         &mut self,
         op: BinaryOp,

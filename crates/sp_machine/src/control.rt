@@ -198,6 +198,7 @@ impl State {
     }
 
     // Goes on with the next value of a loop, or leaves it.
+    #[inline(always)]
     pub(crate) fn go_on_loop(
         &mut self,
         down: bool,

@@ -16,9 +16,10 @@
 //! - The types are `Proc`, `Answer`, `Stop` (why a turn ended), `State`, `Stack`, `Operand`, `Frames`, `Frame`, `Home`.
 //! - `turn`, `root` and `split` require one layout for each block, `turn` also that frames have room for formals.
 //! - `specs/Procs.antt` leads from memory to the definitions: `config_of` is a process as the definitions see it.
-//! - Each instruction is a function of `State`, whose contract is `Came` of the definition's instruction. How an
-//!   instruction ends: `src/steps.rt`. `src/turn.rt` joins them to a turn, and `proofs/Going` leads from instructions
-//!   to a turn.
+//! - Each instruction is a function of `State`, whose contract is `CameBy` of the definition's instruction. It answers
+//!   by a small `Interrupt`, and what a stop holds besides stands in the state, so that the many instructions that go
+//!   on hand nothing about. How an instruction ends: `src/steps.rt`. `src/turn.rt` joins them to a turn, and
+//!   `proofs/Going` leads from instructions to a turn.
 //! - After want of memory nothing is said of a process but that it keeps its number and its input.
 //!
 //! To change:

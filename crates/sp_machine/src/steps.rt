@@ -25,6 +25,7 @@ impl State {
     }
 
     /// Stays at an instruction that has a fault, with the operand that it had on top.
+    #[cold]
     pub(crate) fn fail(&mut self, entry: Operand, fault: Fault) -> Result<Option<Interrupt>, Memory>
         ensures came { (p : State) → config_of p
             ≡ At self.old.pc (entry_of entry ∷ entries_of self.old.stack) (memory_of self.old)
@@ -36,6 +37,7 @@ impl State {
     }
 
     /// Stays at an instruction that has a fault, with the two operands that it had on top.
+    #[cold]
     pub(crate) fn fail_both(
         &mut self,
         below: Operand,

@@ -47,6 +47,7 @@ pub(crate) fn share(alloc: Global, entry: &Entry) -> Result<Entry, Memory>
 }
 
 /// A piece that others share becomes a copy of its own; a piece whose other holders are gone is taken as it is.
+#[inline(always)]
 pub(crate) fn make_own(entry: &mut Entry) -> Result<(), Memory>
     requires { IsPiece (Some (content entry.old)) }
     ensures ok { OnOk result (content entry.new ≡ Own (cells_of (Some (content entry.old)))) }
@@ -57,6 +58,17 @@ pub(crate) fn make_own(entry: &mut Entry) -> Result<(), Memory>
         Entry::Own(_) => return Ok(()),
         _ => {}
     }
+    unshare(entry)
+}
+
+// The same where it is none of its own yet.
+#[inline(never)]
+fn unshare(entry: &mut Entry) -> Result<(), Memory>
+    requires { IsPiece (Some (content entry.old)) }
+    ensures ok { OnOk result (content entry.new ≡ Own (cells_of (Some (content entry.old)))) }
+    ensures err { OnErr result (content entry.new ≡ content entry.old) }
+    ensures succeeds { IsOwn (Some (content entry.old)) → IsOk result }
+{
     match mem::replace(entry, Entry::Away) {
         Entry::Shared(piece) => match Arc::try_unwrap(piece) {
             Ok(piece) => {
