@@ -26,6 +26,7 @@ use Rattle.sp_history.specs.Agreement.{phase_in, waiting_phase, IsQueue, IsOrder
 use Rattle.sp_history.specs.Agreement.{IsGot}
 use Rattle.sp_history.proofs.Queues.{at_other, both_at}
 use Rattle.sp_history.proofs.Orders.{queue_take}
+use Rattle.sp_history.proofs.Unchanged.{fewer_faulted, fewer_pending}
 
 -- ---- small steps
 
@@ -225,40 +226,10 @@ module _ {S : Type 0} (stores : Stores S) (g : Setting) (k : Control) (s : Syste
                 ∙ sym (at_phase_in b.parent q (rejoined stores g c (s.condition b.parent))
                 (at_key ◌==◌ p HasGone s.condition));
             births = a.births;
-            faulted = faulted_fewer b.parent (m.doing b.parent) m ∙ a.faulted;
-            pending = λ ch. subst (λ o. SamePending o (s.pending ch)) (pending_fewer b.parent (m.doing b.parent) m ch)
+            faulted = fewer_faulted b.parent (m.doing b.parent) m ∙ a.faulted;
+            pending = λ ch. subst (λ o. SamePending o (s.pending ch)) (fewer_pending b.parent (m.doing b.parent) m ch)
                 (a.pending ch);
           }
-        where
-          faulted_fewer : (x : ℕ) (d : Doing) (m : Control) → (one_fewer x d m).faulted ≡ m.faulted
-          faulted_fewer x (Joining n) m = go2 (n == 1)
-            where
-              go2 : (b : Bool) → (if b then queues x m else does x (Joining (n - 1)) m).faulted ≡ m.faulted
-              go2 true = refl
-              go2 false = refl
-          faulted_fewer x Unborn m = refl
-          faulted_fewer x Ready m = refl
-          faulted_fewer x (Out w) m = refl
-          faulted_fewer x (Sending c) m = refl
-          faulted_fewer x (Receiving c) m = refl
-          faulted_fewer x Laid m = refl
-          faulted_fewer x Ended m = refl
-          faulted_fewer x Gone m = refl
-
-          pending_fewer : (x : ℕ) (d : Doing) (m : Control) (ch : ℕ) → m.pending ch ≡ (one_fewer x d m).pending ch
-          pending_fewer x (Joining n) m ch = go2 (n == 1)
-            where
-              go2 : (b : Bool) → m.pending ch ≡ (if b then queues x m else does x (Joining (n - 1)) m).pending ch
-              go2 true = refl
-              go2 false = refl
-          pending_fewer x Unborn m ch = refl
-          pending_fewer x Ready m ch = refl
-          pending_fewer x (Out w) m ch = refl
-          pending_fewer x (Sending c) m ch = refl
-          pending_fewer x (Receiving c) m ch = refl
-          pending_fewer x Laid m ch = refl
-          pending_fewer x Ended m ch = refl
-          pending_fewer x Gone m ch = refl
 
   -- an offer: of this way, with this stop, on this channel
   agrees_sent : (stop : Stop) (ch : ℕ) (cs : List Cell) (c : Config (Memory S)) → waiting_phase stop ≡ ToSend ch

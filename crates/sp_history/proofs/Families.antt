@@ -1,7 +1,6 @@
 -- A child that has not ended is awaited by its parent.
-use Rattle.std.proofs.Common.{◌≡◌, ◌≢◌, ◌⊎◌, ℕ, zero, suc, ◌-◌, ◌≤◌, ◌==◌, inl, inr, Bool, true, false, cond}
-use Rattle.std.proofs.Common.{if◌then◌else◌, List, [], ◌∷◌, length, Option, Some, None, refl, sym, ap, ◌∙◌, subst}
-use Rattle.std.proofs.Common.{arith}
+use Rattle.std.proofs.Common.{◌≡◌, ◌≢◌, ◌⊎◌, ℕ, ◌-◌, ◌≤◌, ◌==◌, inl, inr, Bool, true, false, cond, if◌then◌else◌, List}
+use Rattle.std.proofs.Common.{[], ◌∷◌, length, Option, Some, None, refl, sym, ap, ◌∙◌, subst, arith}
 use Rattle.std.proofs.lemmas.Bool.{eqb-true}
 use Rattle.std.proofs.lemmas.Option.{same_Some}
 use Rattle.sp_journal.specs.declared.entry.Way.{Way}
@@ -20,14 +19,10 @@ use Rattle.sp_code.specs.Memory.{Setting, Stores}
 use Rattle.sp_code.specs.System.{System, Gives, Gets}
 use Rattle.sp_history.specs.Agreement.{Among, IsOrderly, Agrees, Reaches, waits_by, IsGot}
 use Rattle.sp_history.specs.Lines.{left_of, IsLive, HasChildren}
-use Rattle.sp_history.proofs.Queues.{number_or, at_same, at_other, numbers_have}
+use Rattle.sp_history.proofs.Queues.{number_or, at_same, at_other, numbers_have, numbers_length, among_none}
 use Rattle.sp_history.proofs.Orders.{orderly_back, next_is, out_there}
 use Rattle.sp_history.proofs.Legal.{got_of, keeps}
 use Rattle.sp_history.proofs.Outs.{without, without_length, without_has}
-
-numbers_length : (a n : ℕ) → length (numbers a n) ≡ n
-numbers_length a zero = refl
-numbers_length a (suc n) = ap suc (numbers_length (suc a) n)
 
 -- so many children, by what the process does, and who they are
 abbrev Kept : (ℕ → List ℕ) → (ℕ → Doing) → (ℕ → Option Birth) → Type 0
@@ -182,13 +177,9 @@ module _ (k : Control) (o : IsOrderly k) (h : HasChildren k) (p w : ℕ) (out : 
           (numbers_have k.births.processes n q l.0 l.1))
       all q b false e f i = go (number_or p b.parent) (h.all q b f (live_was q (number_or p q) i))
         where
-          empty : (xs : List ℕ) → length xs ≡ 0 → Among q xs → ⊥
-          empty [] e i = i
-          empty (x ∷ xs) e i = omega (arith, e)
-
           go : (p ≡ b.parent) ⊎ ((p ≢ b.parent) × (p == b.parent ≡ false)) → Among q (h.children b.parent)
               → Among q (at_key ◌==◌ p (numbers k.births.processes n) h.children b.parent)
-          go (inl is) a = absurd (empty (h.children b.parent)
+          go (inl is) a = absurd (among_none q (h.children b.parent)
               (h.count b.parent ∙ ap left_of (ap k.doing (sym is)) ∙ left_out) a)
           go (inr d) a = subst (Among q) (sym (at_other h.children p b.parent (numbers k.births.processes n) d.0)) a
 

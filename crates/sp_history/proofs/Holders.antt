@@ -1,7 +1,6 @@
 -- Along a history of safe code one process holds the output, and no other.
-use Rattle.std.proofs.Common.{◌≡◌, ◌≢◌, ◌⊎◌, inl, inr, ℕ, ◌+◌, ◌-◌, ◌<◌, ◌≤◌, ◌==◌, ℤ, List, [], ◌∷◌, Option, Some}
-use Rattle.std.proofs.Common.{None, Bool, true, false, cond, if◌then◌else◌, refl, sym, ap, ◌∙◌, subst, arith}
-use Rattle.std.proofs.Common.{zero-add}
+use Rattle.std.proofs.Common.{◌≡◌, ◌≢◌, ◌⊎◌, inl, inr, ℕ, ◌+◌, ◌-◌, ◌<◌, ◌==◌, ℤ, List, [], ◌∷◌, Option, Some, None}
+use Rattle.std.proofs.Common.{Bool, true, false, cond, if◌then◌else◌, refl, sym, ap, ◌∙◌, subst, arith, zero-add}
 use Rattle.std.specs.Prelude.{slice_get}
 use Rattle.std.specs.FinMap as map
 use Rattle.std.proofs.lemmas.Bool.{eqb-true}
@@ -47,7 +46,7 @@ use Rattle.sp_history.specs.Holding.{IsOutputOf}
 use Rattle.sp_history.proofs.Queues.{number_or, at_same, at_other}
 use Rattle.sp_history.proofs.Orders.{next_is, next_not, next_yes}
 use Rattle.sp_history.proofs.Keeping.{turn_does}
-use Rattle.sp_history.proofs.Naming.{there, after_counted}
+use Rattle.sp_history.proofs.Naming.{there, after_counted, opening_counted}
 use Rattle.sp_history.proofs.Families.{parent_joins, children_by, children_start}
 use Rattle.sp_history.proofs.Agreeing.{orderly_start, agrees_start}
 use Rattle.sp_history.proofs.Legal.{keeps}
@@ -576,13 +575,6 @@ module _ (g : Setting) where
         },
       )
 
-  opening_counted : IsCounted (opening plain g)
-  opening_counted = record { forks = λ q. omega arith; opens = λ q. omega arith; absent = λ q l. go q (q == 0) refl l }
-    where
-      go : (q : ℕ) (b : Bool) → q == 0 ≡ b → 1 ≤ q → (if b then Working (first plain g) else Absent) ≡ Absent
-      go q true e l = absurd (omega (arith, eqb-true q 0 e, l))
-      go q false e l = refl
-
   -- after a history of safe code
   pub one_holder : (s : System Plain) (ns : List Note) → AllSafe (opening plain g)
       → Reaches plain g control_at_start (opening plain g) ns s → (q : ℕ) × (bs : List ℕ) × IsOutputOf s q bs
@@ -590,7 +582,7 @@ module _ (g : Setting) where
       one_output s (reaches_fine control_at_start (opening plain g) s ns orderly_start (agrees_start plain g)
       children_start (record {
         held = opening_held g;
-        counted = opening_counted;
+        counted = opening_counted g;
         born = λ q d e. absurd (cc e);
         safe = safe;
       }) r).held

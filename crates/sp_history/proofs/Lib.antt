@@ -1,5 +1,6 @@
 pub mod Queues
 pub mod Orders
+pub mod Unchanged
 pub mod Agreeing
 pub mod Staying
 pub mod Legal
@@ -12,6 +13,8 @@ pub mod Families
 pub mod InTurn
 pub mod Naming
 pub mod OneFault
+pub mod Phases
+pub mod Along
 pub mod Outputs
 pub mod Holding
 pub mod Splitting

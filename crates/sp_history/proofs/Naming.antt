@@ -35,6 +35,13 @@ first_none (Some f) b e = absurd cc
 
 -- ---- counts and absent processes
 
+pub opening_counted : (g : Setting) → IsCounted (opening plain g)
+opening_counted g = record { forks = λ q. omega arith; opens = λ q. omega arith; absent = λ q l. go q (q == 0) refl l }
+  where
+    go : (q : ℕ) (b : Bool) → q == 0 ≡ b → 1 ≤ q → (if b then Working (first plain g) else Absent) ≡ Absent
+    go q true e l = absurd (omega (arith, eqb-true q 0 e, l))
+    go q false e l = refl
+
 module _ (g : Setting) (s : System Plain) (q : ℕ) (c0 : Config (Memory Plain)) (runs : s.condition q ≡ Working c0)
     (h : IsCounted s) where
   pub there : q < s.births.processes
@@ -247,12 +254,5 @@ module _ (g : Setting) (lim : AreLimits g.limits) where
             (leads_nameable l.0 es t next (enters_spoken g s e.process e.event l.0 k n) l.2),
       )
 
-  opening_counted : IsCounted (opening plain g)
-  opening_counted = record { forks = λ q. omega arith; opens = λ q. omega arith; absent = λ q l. go q (q == 0) refl l }
-    where
-      go : (q : ℕ) (b : Bool) → q == 0 ≡ b → 1 ≤ q → (if b then Working (first plain g) else Absent) ≡ Absent
-      go q true e l = absurd (omega (arith, eqb-true q 0 e, l))
-      go q false e l = refl
-
   pub system_nameable : (es : List Entry) (s : System Plain) → IsSystem plain g es s → NameableFrom at_start es
-  system_nameable es s l = leads_nameable (opening plain g) es s opening_counted (opening_spoken g) l
+  system_nameable es s l = leads_nameable (opening plain g) es s (opening_counted g) (opening_spoken g) l

@@ -12,6 +12,15 @@ use Rattle.sp_history.specs.Faults.{IsFaulty}
 use Rattle.sp_code.specs.System.{System, event_at, event_or, event_of, fault_of, unless_fault, lays, after, config_of}
 use Rattle.sp_code.specs.System.{Leads}
 
+-- what a process stops for is no fault
+pub stop_not_fault : (stop : Stop) (f : Fault) → event_at stop ≡ event.Fault f → ⊥
+stop_not_fault (Forks t v n) f e = cc e
+stop_not_fault (Opens a) f e = cc e
+stop_not_fault (Sends c k cs) f e = cc e
+stop_not_fault (Receives c k a) f e = cc e
+stop_not_fault Ends f e = cc e
+stop_not_fault Pauses f e = cc e
+
 module _ {S : Type 0} (stores : Stores S) (g : Setting) where
   -- once a fault stands it stays, and each event is Laid
   stands : (s : System S) (q : ℕ) (t : Turn (Memory S)) → s.faulted ≡ true → ((after stores g q t s).faulted ≡ true)
@@ -24,14 +33,6 @@ module _ {S : Type 0} (stores : Stores S) (g : Setting) where
       go true w = (e, refl)
       go false w = absurd (cc w)
 
-  not_faulty : (stop : Stop) (f : Fault) → event_at stop ≡ event.Fault f → ⊥
-  not_faulty (Forks t v n) f e = cc
-  not_faulty (Opens a) f e = cc
-  not_faulty (Sends c k cs) f e = cc
-  not_faulty (Receives c k a) f e = cc
-  not_faulty Ends f e = cc
-  not_faulty Pauses f e = cc
-
   -- a fault stands after its event
   begins : (s : System S) (q : ℕ) (t : Turn (Memory S)) (f : Fault) → event_of g.limits s t ≡ event.Fault f
       → (after stores g q t s).faulted ≡ true
@@ -41,7 +42,7 @@ module _ {S : Type 0} (stores : Stores S) (g : Setting) where
           → (unless_fault stores g o q x s).faulted ≡ true
       by_fault (Some d) x w = refl
       by_fault None (Faulted d c) w = refl
-      by_fault None (Stopped stop c) w = absurd (not_faulty stop f w)
+      by_fault None (Stopped stop c) w = absurd (stop_not_fault stop f w)
 
       go : (b : Bool) → (if b then event.Laid else event_or (fault_of g.limits s t) t) ≡ event.Fault f
           → (if b then lays stores g q (config_of t) s else unless_fault stores g (fault_of g.limits s t) q t s).faulted

@@ -2,6 +2,7 @@
 use Rattle.std.proofs.Common.{◌≡◌, ◌≢◌, ◌⊎◌, ℕ, ◌+◌, ◌-◌, ◌≤◌, ◌<◌, ◌==◌, nat_le, inl, inr, Bool, true, false, cond}
 use Rattle.std.proofs.Common.{if◌then◌else◌, List, [], ◌∷◌, ◌++◌, Option, Some, None, refl, sym, ap, ◌∙◌, subst, arith}
 use Rattle.std.proofs.lemmas.Option.{same_Some}
+use Rattle.sp_base.proofs.Facts.{equals_itself}
 use Rattle.sp_journal.specs.declared.entry.Way.{Way}
 use Rattle.sp_journal.specs.declared.entry.Way.TheVariants as way
 use Rattle.sp_journal.specs.declared.entry.Event.{Event}
@@ -14,7 +15,7 @@ use Rattle.sp_code.specs.Control.{Control, Doing, Unborn, Ready, Out, Sending, R
 use Rattle.sp_code.specs.Control.{does, queues, offers, one_fewer, reports, comes_back}
 use Rattle.sp_history.specs.Agreement.{Each, Among, IsQueue, IsOrderly, waits_by}
 use Rattle.sp_history.proofs.Queues.{each_of, each_append, differ_append, among_front, among_back, numbers_from}
-use Rattle.sp_history.proofs.Queues.{numbers_below, numbers_differ, numbers_have, itself, number_or, at_same, at_other}
+use Rattle.sp_history.proofs.Queues.{numbers_below, numbers_differ, numbers_have, number_or, at_same, at_other}
 
 -- ---- what a number is not
 
@@ -156,7 +157,7 @@ queue_forks d r s p n v h unborn np nv = record {
         go (inl is) f = absurd (nv (sym (subst (λ z. cond (p == z) v (d z) ≡ v) is (here p)) ∙ f))
           where
             here : (p : ℕ) → cond (p == p) v (d p) ≡ v
-            here p = rw (itself p) refl
+            here p = rw (equals_itself p) refl
         go (inr o) f = sym (skip o.1) ∙ f
           where
             skip : p == q ≡ false → cond (p == q) v (d q) ≡ d q
@@ -254,6 +255,11 @@ module _ {k : Control} (h : IsOrderly k) where
           at_other k.doing p z (waits_by w c) (λ is. no_offer p u e d v (g ∙ ap (λ y. Some (v, y)) (sym is)))
           ∙ h.pending d z v g
 
+-- who waits is not out
+pub waits_not_out : (v : Way) (c u : ℕ) → waits_by v c ≢ Out u
+waits_not_out way.Send c u g = absurd (cc g)
+waits_not_out way.Receive c u g = absurd (cc g)
+
 -- an offer waits, or meets
 orderly_offers : (k : Control) → IsOrderly k → (w : Way) (p u c : ℕ) → k.doing p ≡ Out u → (o : Option (Way × ℕ))
     → k.pending c ≡ o → IsOrderly (offers w (waits_by w c) p c o k)
@@ -261,7 +267,7 @@ orderly_offers k h w p u c e None f = waiting h p u c w e
 orderly_offers k h w p u c e (Some z) f =
     let k0 : Control = record k { pending = at_key ◌==◌ c None k.pending } in
     let wz : k.doing z.1 ≡ waits_by z.0 c = h.pending c z.1 z.0 f in
-    let apart : z.1 ≢ p = λ is. not_both z.0 (sym wz ∙ ap k.doing is ∙ e) in
+    let apart : z.1 ≢ p = λ is. waits_not_out z.0 c u (sym wz ∙ ap k.doing is ∙ e) in
     let one : IsOrderly (queues z.1 k0) = orderly_queues (cleared h c) z.1
     (there_of h z.1 (waits_by z.0 c) wz (not_unborn z.0)) (not_ready_waits (k.doing z.1) z.0 c wz)
     (λ d v g. not_cleared h c d z.1 z.0 v f g) in
@@ -269,10 +275,6 @@ orderly_offers k h w p u c e (Some z) f =
     (λ g. not_ready_out (k.doing p) u e (sym (at_other k.doing z.1 p Ready apart) ∙ g))
     (λ d v g. no_offer (cleared h c) p u e d v g)
   where
-    not_both : (v : Way) → waits_by v c ≡ Out u → ⊥
-    not_both way.Send g = absurd (cc g)
-    not_both way.Receive g = absurd (cc g)
-
     not_unborn : (v : Way) → waits_by v c ≢ Unborn
     not_unborn way.Send g = absurd (cc g)
     not_unborn way.Receive g = absurd (cc g)

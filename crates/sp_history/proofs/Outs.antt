@@ -2,6 +2,7 @@
 use Rattle.std.proofs.Common.{◌≡◌, ◌≢◌, ◌⊎◌, ℕ, ◌+◌, ◌-◌, ◌≤◌, ◌==◌, inl, inr, Bool, true, false, cond, nat_lt, ◌||◌}
 use Rattle.std.proofs.Common.{if◌then◌else◌, List, [], ◌∷◌, ◌++◌, length, Option, Some, None, refl, sym, ap, ◌∙◌, subst}
 use Rattle.std.proofs.Common.{arith}
+use Rattle.sp_base.proofs.Facts.{equals_itself}
 use Rattle.sp_journal.specs.declared.entry.Way.{Way}
 use Rattle.sp_journal.specs.declared.entry.Way.TheVariants as way
 use Rattle.sp_journal.specs.declared.entry.Event.{Event}
@@ -18,7 +19,7 @@ use Rattle.sp_code.specs.System.{System, Gives, Gets}
 use Rattle.sp_code.specs.Memory.{Setting, Stores}
 use Rattle.sp_history.specs.Agreement.{Each, Differ, Among, IsOrderly, IsGot, Agrees, Reaches, phase, phase_in, Running}
 use Rattle.sp_history.specs.Agreement.{IsOut, HasOuts, IsOver}
-use Rattle.sp_history.proofs.Queues.{each_of, itself, number_or, at_same, at_other}
+use Rattle.sp_history.proofs.Queues.{each_of, number_or, at_same, at_other, among_none}
 use Rattle.sp_history.proofs.Orders.{orderly_back}
 use Rattle.sp_history.proofs.Staying.{back_out}
 use Rattle.sp_history.proofs.Legal.{got_of, keeps}
@@ -48,7 +49,7 @@ without_length p (x ∷ xs) i = go (number_or p x) i (without_length p xs) (some
     go : (p ≡ x) ⊎ ((p ≢ x) × (p == x ≡ false)) → Among p (x ∷ xs)
         → (Among p xs → length (without p xs) ≡ length xs - 1) → (Among p xs → 1 ≤ length xs)
         → length (cond (p == x) xs (x ∷ without p xs)) ≡ length (x ∷ xs) - 1
-    go (inl is) j h l = rw (subst (λ y. p == y ≡ true) is (itself p)) (omega arith)
+    go (inl is) j h l = rw (subst (λ y. p == y ≡ true) is (equals_itself p)) (omega arith)
     go (inr n) (inl e) h l = absurd (n.0 e)
     go (inr n) (inr j) h l = rw (n.1) (let a = h j in let b = l j in omega (arith, a, b))
 
@@ -74,7 +75,7 @@ without_gone p (x ∷ xs) d = go (number_or p x) (without_gone p xs d.1)
   where
     go : (p ≡ x) ⊎ ((p ≢ x) × (p == x ≡ false)) → Each (λ y. y ≢ p) (without p xs)
         → Each (λ y. y ≢ p) (cond (p == x) xs (x ∷ without p xs))
-    go (inl is) h = rw (subst (λ y. p == y ≡ true) is (itself p))
+    go (inl is) h = rw (subst (λ y. p == y ≡ true) is (equals_itself p))
         (each_of (λ y. y ≢ x) (λ y. y ≢ p) xs (λ y n e. n (e ∙ is)) d.0)
     go (inr n) h = rw (n.1) ((λ e. n.0 (sym e)), h)
 
@@ -85,7 +86,7 @@ without_has p q (x ∷ xs) n i = go (number_or p x) i (without_has p q xs n)
     go : (p ≡ x) ⊎ ((p ≢ x) × (p == x ≡ false)) → Among q (x ∷ xs) → (Among q xs → Among q (without p xs))
         → Among q (cond (p == x) xs (x ∷ without p xs))
     go (inl is) (inl e) h = absurd (n (e ∙ sym is))
-    go (inl is) (inr j) h = rw (subst (λ y. p == y ≡ true) is (itself p)) j
+    go (inl is) (inr j) h = rw (subst (λ y. p == y ≡ true) is (equals_itself p)) j
     go (inr m) (inl e) h = rw (m.1) (inl e)
     go (inr m) (inr j) h = rw (m.1) (inr (h j))
 
@@ -257,13 +258,9 @@ module _ {S : Type 0} (stores : Stores S) (g : Setting) where
   over_by w None (Some e) got k s t o v i j = absurd i
   over_by w (Some p) e got k s t o v i j = absurd (nobody e i)
     where
-      empty : (xs : List ℕ) → length xs ≡ 0 → Among p xs → ⊥
-      empty [] e i = i
-      empty (x ∷ xs) e i = omega (arith, e)
-
       nobody : (e : Option Event) → Gives stores g k s w (Some p) e got t → ⊥
-      nobody None i = empty o.outs (o.count ∙ v.1) (o.all p (w, i.0))
-      nobody (Some e) i = empty o.outs (o.count ∙ v.1) (o.all p (w, i.0))
+      nobody None i = among_none p o.outs (o.count ∙ v.1) (o.all p (w, i.0))
+      nobody (Some e) i = among_none p o.outs (o.count ∙ v.1) (o.all p (w, i.0))
 
   no_event : (give : Option ℕ) (e : Option Event) → e ≡ None → entry_of give e ≡ []
   no_event None None f = refl
@@ -287,14 +284,10 @@ pub nobody_runs : {S : Type 0} (k : Control) (s : System S) → IsOrderly k → 
     → k.out ≡ 0 → ((q : ℕ) → k.doing q ≢ Gone) → (q : ℕ) → phase_in (s.condition q) ≢ Running
 nobody_runs k s h a o none idle kept q is = go (k.doing q) refl (a.each q ∙ is)
   where
-    empty : (xs : List ℕ) → length xs ≡ 0 → Among q xs → ⊥
-    empty [] e i = i
-    empty (x ∷ xs) e i = omega (arith, e)
-
     go : (d : Doing) → k.doing q ≡ d → phase d ≡ Running → ⊥
     go Unborn e f = absurd (cc f)
     go Ready e f = let i : Among q [] = subst (Among q) none (h.queue.all q e) in i
-    go (Out w) e f = empty o.outs (o.count ∙ idle) (o.all q (w, e))
+    go (Out w) e f = among_none q o.outs (o.count ∙ idle) (o.all q (w, e))
     go (Sending c) e f = absurd (cc f)
     go (Receiving c) e f = absurd (cc f)
     go (Joining n) e f = absurd (cc f)

@@ -1,8 +1,9 @@
 -- Lists of numbers: each, different, among.
 use Rattle.std.proofs.Common.{◌≡◌, ◌≢◌, ◌⊎◌, ℕ, zero, suc, ◌+◌, ◌≤◌, ◌<◌, ◌==◌, inl, inr, Bool, true, false, cond, List}
-use Rattle.std.proofs.Common.{[], ◌∷◌, ◌++◌, refl, sym, subst, arith}
+use Rattle.std.proofs.Common.{[], ◌∷◌, ◌++◌, refl, sym, subst, arith, length, ap}
 use Rattle.std.proofs.lemmas.Bool.{eqb-false}
 use borrow.Author.Tests.{eqb-true}
+use Rattle.sp_base.proofs.Facts.{equals_itself}
 use Rattle.sp_journal.specs.Maps.{at_key}
 use Rattle.sp_journal.specs.Queue.{numbers}
 use Rattle.sp_history.specs.Agreement.{Each, Differ, Among}
@@ -32,6 +33,14 @@ among_front q (x ∷ xs) ys (inr i) = inr (among_front q xs ys i)
 pub among_back : (q : ℕ) (xs ys : List ℕ) → Among q ys → Among q (xs ++ ys)
 among_back q [] ys i = i
 among_back q (x ∷ xs) ys i = inr (among_back q xs ys i)
+
+pub among_none : (q : ℕ) (xs : List ℕ) → length xs ≡ 0 → Among q xs → ⊥
+among_none q [] e i = i
+among_none q (x ∷ xs) e i = omega (arith, e)
+
+pub numbers_length : (a n : ℕ) → length (numbers a n) ≡ n
+numbers_length a zero = refl
+numbers_length a (suc n) = ap suc (numbers_length (suc a) n)
 
 pub numbers_from : (a n : ℕ) → Each (λ q. a ≤ q) (numbers a n)
 numbers_from a zero = tt {0}
@@ -66,18 +75,16 @@ numbers_have a (suc n) q l h = elim (q == a) as (λ b. q == a ≡ b → Among q 
 
 -- ---- maps by numbers
 
-pub itself : (p : ℕ) → p == p ≡ true
-itself p = grind (arith)
-
 pub number_or : (p q : ℕ) → (p ≡ q) ⊎ ((p ≢ q) × (p == q ≡ false))
 number_or p q = elim (p == q) as (λ b. p == q ≡ b → (p ≡ q) ⊎ ((p ≢ q) × (p == q ≡ false))) [
   | true ↦ λ e. inl (eqb-true p q e)
-  | false ↦ λ e. inr ((λ is. let t : p == q ≡ true = subst (λ n. p == n ≡ true) is (itself p) in absurd (cc (e, t))), e)
+  | false ↦ λ e. inr (
+      (λ is. let t : p == q ≡ true = subst (λ n. p == n ≡ true) is (equals_itself p) in absurd (cc (e, t))), e)
 ] refl
 
 module _ {X : Type 0} where
   pub at_same : (m : ℕ → X) (p : ℕ) (v : X) → at_key ◌==◌ p v m p ≡ v
-  at_same m p v = rw (itself p)
+  at_same m p v = rw (equals_itself p)
 
   pub at_other : (m : ℕ → X) (p q : ℕ) (v : X) → p ≢ q → at_key ◌==◌ p v m q ≡ m q
   at_other m p q v apart = go (number_or p q)

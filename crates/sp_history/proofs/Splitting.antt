@@ -3,6 +3,7 @@ use Rattle.std.proofs.Common.{◌≡◌, ◌≢◌, ◌⊎◌, inl, inr, ℕ, ze
 use Rattle.std.proofs.Common.{Some, None, Bool, true, false, cond, refl, sym, ap, ◌∙◌, subst, arith}
 use Rattle.std.specs.FinMap as map
 use Rattle.std.proofs.lemmas.Option.{same_Some}
+use Rattle.sp_base.proofs.Facts.{equals_itself}
 use Rattle.sp_cell.specs.declared.cell.Cell.TheVariants as cell
 use Rattle.sp_cell.specs.declared.spot.Spot.{Spot}
 use Rattle.sp_cell.specs.declared.spot.Handing.{Handing}
@@ -22,22 +23,15 @@ use Rattle.sp_code.specs.Memory.{Memory, Frame}
 use Rattle.sp_code.specs.PlainStore.{plain}
 use Rattle.sp_code.specs.Sound.{CanSplit}
 use Rattle.sp_code.specs.System.{Condition, Working, Joins, store_in, store_of, handing_of, child_or, plan_from}
+use Rattle.sp_code.proofs.Plans.{in_either}
 use Rattle.sp_history.specs.Holding.{Share, Holds, Lends, Lacks, StoreIs, IsPart, AimsIn, IsShared}
-use Rattle.sp_history.proofs.Queues.{itself, number_or, at_same, at_other}
+use Rattle.sp_history.proofs.Queues.{number_or, at_same, at_other}
 use Rattle.sp_history.proofs.Outputs.{not_output, output_known}
 use Rattle.sp_history.proofs.Holding.{store_runs, store_joins, joined_lacks, hold_lend, hold_lack}
 
 -- ---- what a plan hands to its children
 
-in_split : (q : Spot) (xs ys : List Spot) → In q (xs ++ ys) → In q xs ⊎ In q ys
-in_split q [] ys i = inr i
-in_split q (x ∷ xs) ys (inl e) = inl (inl e)
-in_split q (x ∷ xs) ys (inr i) = elim (in_split q xs ys i) [
-  | inl j ↦ inl (inr j)
-  | inr j ↦ inr j
-]
-
-distinct_apart : (q : Spot) (xs ys : List Spot) → IsDistinct (xs ++ ys) → In q xs → In q ys → ⊥
+pub distinct_apart : (q : Spot) (xs ys : List Spot) → IsDistinct (xs ++ ys) → In q xs → In q ys → ⊥
 distinct_apart q [] ys d i j = i
 distinct_apart q (x ∷ xs) ys d (inl e) j = not_both x (xs ++ ys) (in_back x xs ys (subst (λ s. In s ys) e j)) d.0
 distinct_apart q (x ∷ xs) ys d (inr i) j = distinct_apart q xs ys d.1 i j
@@ -57,7 +51,7 @@ module _ (ls : List Layout) (fs : List Frame) (t : ForkTable) (v : ℤ) (q : Spo
 
   pub plan_found : (i m : ℕ) → In q (moved_of (plan_from ls fs t v i m)) → (j : ℕ) × (j < m) × In q (hand (i + j)).moved
   plan_found i zero h = absurd h
-  plan_found i (suc m) h = go (in_split q (hand i).moved (moved_of (plan_from ls fs t v (suc i) m)) h)
+  plan_found i (suc m) h = go (in_either q (hand i).moved (moved_of (plan_from ls fs t v (suc i) m)) h)
       (λ k. plan_found (suc i) m k)
     where
       go : In q (hand i).moved ⊎ In q (moved_of (plan_from ls fs t v (suc i) m))
@@ -333,7 +327,7 @@ module _ (share : ℕ → Share) (holder : ℕ) (birth : ℕ → Option Birth) (
 
     on_first : lent_on r0 ≡ Holds
     on_first = ap (λ b. cond b (cond (r0 == r0) Holds Lacks) (at_key ◌==◌ q Lends share r0)) new0
-        ∙ ap (λ b. cond b Holds Lacks) (itself r0)
+        ∙ ap (λ b. cond b Holds Lacks) (equals_itself r0)
 
     on_new : (r : ℕ) → nx r ≡ true → r0 ≢ r → lent_on r ≡ Lacks
     on_new r w d = ap (λ b. cond b (cond (r0 == r) Holds Lacks) (at_key ◌==◌ q Lends share r)) w ∙ go (number_or r0 r)

@@ -18,9 +18,9 @@ use Rattle.sp_code.specs.Control.{does, queues, offers, one_fewer, reports, come
 use Rattle.sp_code.specs.System.{System, Condition, Working, Waits, Joins, Laid as IsLaid, Gone as HasGone, Over}
 use Rattle.sp_code.specs.System.{fault_of, entered_now, received, sent, taken, rejoined, reported, happens}
 use Rattle.sp_code.specs.System.{unless_fault, lays, after, config_of}
-use Rattle.sp_history.specs.Agreement.{IsOrderly, waits_by}
+use Rattle.sp_history.specs.Agreement.{IsOrderly}
 use Rattle.sp_history.proofs.Queues.{number_or, at_same, at_other}
-use Rattle.sp_history.proofs.Orders.{there_of, next_not}
+use Rattle.sp_history.proofs.Orders.{there_of, next_not, waits_not_out}
 
 -- ---- the system
 
@@ -94,11 +94,8 @@ module _ (k : Control) (h : IsOrderly k) (p u q : ℕ) (out : k.doing p ≡ Out 
       → (offers w waits q c o k).doing p ≡ Out u
   offers_out w waits c None e = at_q waits
   offers_out w waits c (Some z) e = at_other (at_key ◌==◌ z.1 Ready k.doing) q p Ready apart
-      ∙ at_other k.doing z.1 p Ready (λ is. no z.0 (sym (h.pending c z.1 z.0 e) ∙ ap k.doing is ∙ out)) ∙ out
-    where
-      no : (v : Way) → waits_by v c ≡ Out u → ⊥
-      no way.Send f = absurd (cc f)
-      no way.Receive f = absurd (cc f)
+      ∙ at_other k.doing z.1 p Ready
+      (λ is. waits_not_out z.0 c u (sym (h.pending c z.1 z.0 e) ∙ ap k.doing is ∙ out)) ∙ out
 
   fewer_out : (x : ℕ) (d : Doing) (m : Control) → m.doing p ≡ Out u → m.doing x ≡ d → (one_fewer x d m).doing p ≡ Out u
   fewer_out x (Joining n) m e f = go (n == 1)

@@ -1,0 +1,49 @@
+-- What an event leaves of a control as it was: whether a fault stands, and what is pending.
+use Rattle.std.proofs.Common.{◌≡◌, ℕ, ◌-◌, ◌==◌, if◌then◌else◌, Bool, true, false, Option, Some, None, refl}
+use Rattle.sp_journal.specs.declared.entry.Way.{Way}
+use Rattle.sp_journal.specs.declared.entry.Birth.{Birth}
+use Rattle.sp_code.specs.Control.{Control, Doing, Unborn, Ready, Out, Sending, Receiving, Joining, Laid, Ended, Gone}
+use Rattle.sp_code.specs.Control.{does, queues, offers, one_fewer, reports}
+
+-- ---- whether a fault stands
+
+pub offers_faulted : (w : Way) (d : Doing) (p c : ℕ) (o : Option (Way × ℕ)) (k : Control)
+    → (offers w d p c o k).faulted ≡ k.faulted
+offers_faulted w d p c None k = refl
+offers_faulted w d p c (Some z) k = refl
+
+pub fewer_faulted : (x : ℕ) (d : Doing) (k : Control) → (one_fewer x d k).faulted ≡ k.faulted
+fewer_faulted x (Joining n) k = go (n == 1)
+  where
+    go : (b : Bool) → (if b then queues x k else does x (Joining (n - 1)) k).faulted ≡ k.faulted
+    go true = refl
+    go false = refl
+fewer_faulted x Unborn k = refl
+fewer_faulted x Ready k = refl
+fewer_faulted x (Out w) k = refl
+fewer_faulted x (Sending c) k = refl
+fewer_faulted x (Receiving c) k = refl
+fewer_faulted x Laid k = refl
+fewer_faulted x Ended k = refl
+fewer_faulted x Gone k = refl
+
+pub reports_faulted : (o : Option Birth) (k : Control) → (reports o k).faulted ≡ k.faulted
+reports_faulted None k = refl
+reports_faulted (Some b) k = fewer_faulted b.parent (k.doing b.parent) k
+
+-- ---- what is pending
+
+pub fewer_pending : (x : ℕ) (d : Doing) (k : Control) (c : ℕ) → k.pending c ≡ (one_fewer x d k).pending c
+fewer_pending x (Joining n) k c = go (n == 1)
+  where
+    go : (b : Bool) → k.pending c ≡ (if b then queues x k else does x (Joining (n - 1)) k).pending c
+    go true = refl
+    go false = refl
+fewer_pending x Unborn k c = refl
+fewer_pending x Ready k c = refl
+fewer_pending x (Out w) k c = refl
+fewer_pending x (Sending d) k c = refl
+fewer_pending x (Receiving d) k c = refl
+fewer_pending x Laid k c = refl
+fewer_pending x Ended k c = refl
+fewer_pending x Gone k c = refl
