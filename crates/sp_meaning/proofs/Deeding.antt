@@ -1,8 +1,8 @@
 -- What a step of statements, calls and items reads and writes is the process's to read and write, and what it comes
 -- to is fair.
-use Rattle.std.proofs.Common.{◌≡◌, ◌≢◌, ◌⊎◌, inl, inr, ⊎_elim, sym, ap, ◌∙◌, subst, arith, ◌==◌, eqb-true, eq-eqb, ℕ}
-use Rattle.std.proofs.Common.{zero, suc, ◌+◌, ◌≤◌, Bool, true, false, List, [], ◌∷◌, ◌++◌, length, Option, Some, None}
-use Rattle.std.proofs.Common.{refl, if◌then◌else◌}
+use Rattle.std.proofs.Common.{◌≡◌, ◌≢◌, ◌⊎◌, inl, inr, ⊎_elim, sym, ap, ◌∙◌, subst, arith, eq-eqb, ℕ, zero, suc, ◌+◌}
+use Rattle.std.proofs.Common.{◌≤◌, Bool, true, false, List, [], ◌∷◌, ◌++◌, length, Option, Some, None, refl}
+use Rattle.std.proofs.Common.{if◌then◌else◌}
 use Rattle.std.specs.Prelude.{◌+ℤ◌, ◌-ℤ◌, ℤ, pos, nat_abs, slice_get, nat_lt, int_le, int_lt, take}
 use Rattle.std.proofs.lemmas.Option.{same_Some}
 use Rattle.sp_tree.specs.Plain.{Expr, Typed, Actuals, Var, Program, Variable, Block, Stmt, Empty, Assign, Call}
@@ -13,9 +13,8 @@ use Rattle.sp_base.specs.declared.fault.Fault.{Fault}
 use Rattle.sp_base.specs.declared.fault.Fault.TheVariants as fault
 use Rattle.sp_meaning.specs.Values.{Value, Ordinal, Chan, initials}
 use Rattle.sp_meaning.specs.Own.{Setting, Cell, Input, OfBlock, seek, reach, reached, Loc, Output, Held, Tree, Written}
-use Rattle.sp_meaning.specs.Own.{Address, Frame, Own, Who, Item, Do, First, Again, Test, Leave, Break}
-use Rattle.sp_meaning.specs.Own.{Work, bind, give, fail, become, put, assign, tick, deepen, widen}
-use Rattle.sp_meaning.specs.Own.{is_block, bytes_in, fetch}
+use Rattle.sp_meaning.specs.Own.{Address, Frame, Own, Who, Item, Do, First, Again, Test, Leave, Break, Work, bind, give}
+use Rattle.sp_meaning.specs.Own.{fail, become, put, assign, tick, deepen, widen, is_block, bytes_in, fetch}
 use Rattle.sp_meaning.specs.Texts.{Taken, Takes as Took, Fails as Refuses_it, padded, line_length}
 use Rattle.sp_meaning.specs.Eval.{value, ordinal_of, address, Place, At, Fixed, Given, ValueOf, PlaceOf, Calls}
 use Rattle.sp_tree.specs.Cells.{variables_of}
@@ -42,6 +41,7 @@ use Rattle.sp_meaning.proofs.Within.{channel_stays, kind_stays, read_stays, Of, 
 use Rattle.sp_meaning.proofs.Within.{input_written, output_written, left_stays, value_stays, actuals_keeps, Writable}
 use Rattle.sp_meaning.proofs.Within.{address_keeps, ordinal_of_stays}
 use Rattle.sp_meaning.proofs.Entered.{fresh, fresh_linked, fresh_sound}
+use Rattle.sp_meaning.proofs.Keys.{number_or}
 
 -- begun by q with these frames it keeps within W and R, and its value and the frames then have this fact
 pub record From {A : Type 0} (q : Name) (W R : Loc → Type 0) (fs : List Frame) (G : A → List Frame → Type 0)
@@ -72,13 +72,6 @@ module _ (q : Name) (W R : Loc → Type 0) where
   pub fails : {A : Type 0} {G : A → List Frame → Type 0} {fs : List Frame} (f : Fault) → From q W R fs G (fail f)
   fails f = record { by = λ w o n e. tt }
 
-number : (a b : ℕ) → (a ≡ b) ⊎ (a ≢ b)
-number a b = go (a == b) refl
-  where
-    go : (c : Bool) → a == b ≡ c → (a ≡ b) ⊎ (a ≢ b)
-    go true e = inl (eqb-true a b e)
-    go false e = inr (λ f. let x : false ≡ true = sym e ∙ eq-eqb a b f in absurd (cc x))
-
 used_part : (p : Program) {Here Above : Use → Type 0} → ((u : Use) → Here u → Above u) → (x : ℕ) → IsUsed p Here x
     → IsUsed p Above x
 used_part p i x (inl h) = inl (h.0, reach_part p i h.0 (Target x) h.1)
@@ -105,10 +98,10 @@ clear : {p : Program} {W R : Loc → Type 0} {fs : List Frame} {Here : Use → T
 clear {p} {fs = fs} so s t i j a b l = (
   λ h k. ⊎_elim (λ (e : h.0 ≡ k.0). a k.0 (subst (λ z. IsTarget p (In_stmt s) z) e h.1) k.1)
       (λ (n : h.0 ≢ k.0). uses_apart so h.0 k.0 l n h.2 k.2 (inl (target_part p i h.0 h.1)) (used_part p j k.0 k.1))
-      (number h.0 k.0),
+      (number_or h.0 k.0),
   λ h k. ⊎_elim (λ (e : h.0 ≡ k.0). b k.0 (subst (λ z. IsUsed p (In_stmt s) z) e h.1) k.1)
       (λ (n : h.0 ≢ k.0). uses_apart so h.0 k.0 l n h.2 k.2 (used_part p i h.0 h.1) (inl (target_part p j k.0 k.1)))
-      (number h.0 k.0),
+      (number_or h.0 k.0),
 )
 
 abbrev pub list_of : Stmts → List Stmt
@@ -165,9 +158,9 @@ module _ {p : Program} {W R : Loc → Type 0} {fs : List Frame} (x : ℕ) (from 
 
   other_or : (u : Use) → ((y : ℕ) (l : Loc) → Touches p fs u y l → ⊥) ⊎ IsOther x u
   other_or (Target y) = ⊎_elim (λ (e : x ≡ y). inl (λ z l t. no_spot l (ap (stands p fs) (e ∙ t.0) ∙ t.1)))
-      (λ (n : x ≢ y). inr n) (number x y)
+      (λ (n : x ≢ y). inr n) (number_or x y)
   other_or (Seen y) = ⊎_elim (λ (e : x ≡ y). inl (λ z l t. no_spot l (ap (stands p fs) (e ∙ t.0) ∙ t.1)))
-      (λ (n : x ≢ y). inr n) (number x y)
+      (λ (n : x ≢ y). inr n) (number_or x y)
   other_or (CallOf f args) = inr tt
   other_or (ParallelOf ss) = inr tt
   other_or (ForallOf y t) = inr tt

@@ -3,17 +3,18 @@
 use Rattle.std.proofs.Common.{◌≡◌, ◌≢◌, ◌⊎◌, ⊎_elim, inl, inr, ℕ, suc, ◌+◌, ◌<◌, ◌≤◌, le_refl, le_trans, Bool, true}
 use Rattle.std.proofs.Common.{false, cond, List, [], ◌∷◌, length, Option, Some, None, refl, sym, ap, ◌∙◌, subst, arith}
 use Rattle.std.proofs.lemmas.Option.{none-some}
+use Rattle.sp_base.proofs.Facts.{same_head, same_tail}
 use Rattle.sp_meaning.specs.Model.{Name, Channel, same_name, Totals, Language, Moves, Opens, Forks, Offering, Ends}
 use Rattle.sp_meaning.specs.Model.{Fails, Condition, Absent, Works, Waits, Joins, Ended, State, Change, Becomes, Forked}
 use Rattle.sp_meaning.specs.Model.{Adds, changed, after}
-use Rattle.sp_meaning.specs.Steps.{ActOf, OfferOf, ConditionOf, has_ended, Outcome, Advances, births, meeting, waiting}
-use Rattle.sp_meaning.specs.Steps.{acts, WaitsOn, Lives, JoinsAt, Sound}
+use Rattle.sp_meaning.specs.Steps.{ActOf, OfferOf, ConditionOf, has_ended, Advances, births, meeting, waiting, acts}
+use Rattle.sp_meaning.specs.Steps.{WaitsOn, Lives, JoinsAt, Sound}
 use Rattle.sp_meaning.proofs.Maps.{same_or_not, itself, at_other}
 use Rattle.sp_meaning.proofs.Keys.{name_test, channel_test}
 use Rattle.sp_meaning.proofs.Frames.{IsOn, IsPartner, IsChild, IsNear, AllIn, all_in, condition_frame, pending_frame}
 use Rattle.sp_meaning.proofs.Status.{Makes, Stands, working_stands, working_lives, child_absent, waits_absent}
 use Rattle.sp_meaning.proofs.Status.{on_partner, waiting_far, waits_joins, lives_ended, working_joins}
-use Rattle.sp_meaning.proofs.Meeting.{met, waited}
+use Rattle.sp_meaning.proofs.Meeting.{met, waited, same_changes}
 
 -- What only grows
 pub forks_grow : {L : Language} (cs : List (Change L)) (t : State L) (r : Name) → t.forks r ≤ (after cs t).forks r
@@ -101,9 +102,9 @@ module _ {L : Language} {limits : Totals} (s : State L) (p : Name) (cs : List (C
   forked_later (Forks o os) does z k i h =
       let list : cs ≡ (Becomes p (Joins (s.forks p) (length os) o) ∷ Forked p
       ∷ Adds (record { processes = length os; channels = 0; entries = 1 }) ∷ births p (s.forks p) 0 os) =
-      does_is _ _ does in
-      let k_is : k ≡ s.forks p = ap (λ (x : Name). head_fork x) h.1 in
-      let z_is : p ≡ z = sym (tail_of _ _ _ _ h.1) in
+      same_changes _ _ does in
+      let k_is : k ≡ s.forks p = ap (λ (x : ℕ × ℕ). x.0) (same_head h.1) in
+      let z_is : p ≡ z = sym (same_tail h.1) in
       let rest : List (Change L) = Adds (record { processes = length os; channels = 0; entries = 1 })
       ∷ births p (s.forks p) 0 os in
       let t : State L = changed (Forked p) (changed (Becomes p (Joins (s.forks p) (length os) o)) s) in
@@ -111,16 +112,6 @@ module _ {L : Language} {limits : Totals} (s : State L) (p : Name) (cs : List (C
       let more : t.forks p ≤ (after rest t).forks p = forks_grow rest t p in
       let less : k < (after rest t).forks p = omega (arith, here, more, k_is) in
       subst (λ x. k < (after x s).forks z) (sym list) (subst (λ x. k < (after rest t).forks x) z_is less)
-    where
-      does_is : (x y : List (Change L)) → ◌≡◌ {A = Outcome L} (Advances x) (Advances y) → y ≡ x
-      does_is x y h = cc
-
-      head_fork : Name → ℕ
-      head_fork [] = 0
-      head_fork (x ∷ r) = x.0
-
-      tail_of : (x y : ℕ × ℕ) (p q : Name) → x ∷ p ≡ y ∷ q → p ≡ q
-      tail_of x y p q e = cc
   forked_later (Moves o ws) does z k i h = absurd h
   forked_later (Opens o ws) does z k i h = absurd h
   forked_later (Offering o) does z k i h = absurd h
@@ -163,10 +154,10 @@ module _ {L : Language} {limits : Totals} (s : State L) (p : Name) (cs : List (C
   child_joined (Forks o os) does z k i h =
       let list : cs ≡ (Becomes p (Joins (s.forks p) (length os) o) ∷ Forked p
       ∷ Adds (record { processes = length os; channels = 0; entries = 1 }) ∷ births p (s.forks p) 0 os) =
-      does_is _ _ does in
-      let k_is : s.forks p ≡ k = sym (ap (λ (x : Name). head_fork x) h.1) in
-      let i_is : i ≡ h.0 = ap (λ (x : Name). head_child x) h.1 in
-      let z_is : p ≡ z = sym (tail_of _ _ _ _ h.1) in
+      same_changes _ _ does in
+      let k_is : s.forks p ≡ k = sym (ap (λ (x : ℕ × ℕ). x.0) (same_head h.1)) in
+      let i_is : i ≡ h.0 = ap (λ (x : ℕ × ℕ). x.1) (same_head h.1) in
+      let z_is : p ≡ z = sym (same_tail h.1) in
       let t : State L = changed (Adds (record { processes = length os; channels = 0; entries = 1 }))
       (changed (Forked p) (changed (Becomes p (Joins (s.forks p) (length os) o)) s)) in
       let there : t.condition p ≡ Joins (s.forks p) (length os) o = rw (itself name_test p) refl in
@@ -177,20 +168,7 @@ module _ {L : Language} {limits : Totals} (s : State L) (p : Name) (cs : List (C
       subst (λ (x : ConditionOf L). JoinsAt k i x) (sym at) (k_is, less) in
       subst (λ x. JoinsAt k i ((after x s).condition z)) (sym list)
       (subst (λ x. JoinsAt k i ((after (births p (s.forks p) 0 os) t).condition x)) z_is good)
-    where
-      does_is : (x y : List (Change L)) → ◌≡◌ {A = Outcome L} (Advances x) (Advances y) → y ≡ x
-      does_is x y h = cc
 
-      head_fork : Name → ℕ
-      head_fork [] = 0
-      head_fork (x ∷ r) = x.0
-
-      head_child : Name → ℕ
-      head_child [] = 0
-      head_child (x ∷ r) = x.1
-
-      tail_of : (x y : ℕ × ℕ) (p q : Name) → x ∷ p ≡ y ∷ q → p ≡ q
-      tail_of x y p q e = cc
   child_joined (Moves o ws) does z k i h = absurd h
   child_joined (Opens o ws) does z k i h = absurd h
   child_joined (Offering o) does z k i h = absurd h

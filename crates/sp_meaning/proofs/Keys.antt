@@ -1,9 +1,17 @@
--- Names and channels are told apart by their tests.
-use Rattle.std.proofs.Common.{◌≡◌, true, ◌&&◌, ◌==◌, [], ◌∷◌, refl, ap, subst, eqb-true, eq-eqb}
+-- Numbers, names and channels are told apart by their tests.
+use Rattle.std.proofs.Common.{◌≡◌, true, ◌&&◌, ◌==◌, [], ◌∷◌, refl, ap, subst, eqb-true, eq-eqb, ◌≢◌, ◌⊎◌, inl, inr, ℕ}
+use Rattle.std.proofs.Common.{Bool, false, sym, ◌∙◌}
 use Rattle.std.proofs.lemmas.Bool.{and_from}
 use Rattle.sp_base.proofs.Facts.{first_true, second_true}
 use Rattle.sp_meaning.specs.Maps.{IsTest}
 use Rattle.sp_meaning.specs.Model.{Name, Channel, same_name, same_channel}
+
+pub number_or : (a b : ℕ) → (a ≡ b) ⊎ (a ≢ b)
+number_or a b = go (a == b) refl
+  where
+    go : (c : Bool) → a == b ≡ c → (a ≡ b) ⊎ (a ≢ b)
+    go true e = inl (eqb-true a b e)
+    go false e = inr (λ f. let x : false ≡ true = sym e ∙ eq-eqb a b f in absurd (cc x))
 
 pub name_test : IsTest same_name
 name_test p q = (name_is p q, name_same p q)

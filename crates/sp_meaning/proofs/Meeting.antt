@@ -5,6 +5,10 @@ use Rattle.sp_meaning.specs.Model.{Name, Language, Offering, Absent, Works, Wait
 use Rattle.sp_meaning.specs.Steps.{OfferOf, ConditionOf, Outcome, Advances, Faulty, message, meeting, waiting, hands}
 use Rattle.sp_meaning.specs.Steps.{meets, offered, acts}
 
+-- what two advances that are the same change
+pub same_changes : {L : Language} (x y : List (Change L)) → ◌≡◌ {A = Outcome L} (Advances x) (Advances y) → y ≡ x
+same_changes x y h = cc
+
 -- an offer that met another's, without a fault
 pub record Met {L : Language} (s : State L) (p : Name) (o : OfferOf L) (z : Name) (cs : List (Change L)) : Type 0 where
   pub its : OfferOf L
@@ -21,12 +25,9 @@ module _ {L : Language} (s : State L) (p : Name) (o : OfferOf L) (z : Name) (cs 
   met_by w (Some m) c h e = elim (o.kind == w.kind) as
       (λ b. o.kind == w.kind ≡ b → cond b (Advances (meeting s p o z w m)) (Faulty fault.F7) ≡ Advances cs
       → Met s p o z cs) [
-        | true ↦ λ a f. record { its = w; waits = c; passes = m; is = h; alike = a; made = does_is _ _ f }
+        | true ↦ λ a f. record { its = w; waits = c; passes = m; is = h; alike = a; made = same_changes _ _ f }
         | false ↦ λ a f. absurd (cc f)
       ] refl e
-    where
-      does_is : (x y : List (Change L)) → ◌≡◌ {A = Outcome L} (Advances x) (Advances y) → y ≡ x
-      does_is x y h = cc
 
   met_in : (c : ConditionOf L) → s.condition z ≡ c → meets s p o z c ≡ Advances cs → Met s p o z cs
   met_in Absent c e = absurd (cc e)

@@ -56,7 +56,7 @@ learn_more p known past q i h = by (same_name p q)
     by true = or_left (past q i) (known i) h
     by false = h
 
-learn_here : (p : Name) (known : ℕ → Bool) (past : Name → ℕ → Bool) (i : ℕ) → known i ≡ true
+pub learn_here : (p : Name) (known : ℕ → Bool) (past : Name → ℕ → Bool) (i : ℕ) → known i ≡ true
     → learn p known past p i ≡ true
 learn_here p known past i h = ap (λ t. cond t (past p i || known i) (past p i)) (name_itself p)
     ∙ or_right (past p i) (known i) h
@@ -121,11 +121,11 @@ pub record Kept (j : Judged) (es : List Occurrence) : Type 0 where
 pair_first : (x y : Name × ℕ) → ◌≡◌ {A = Option (Name × ℕ)} (Some x) (Some y) → x.0 ≡ y.0
 pair_first x y e = ap (λ (z : Name × ℕ). z.0) (same_Some x y e)
 
-pair_second : (x y : Name × ℕ) → ◌≡◌ {A = Option (Name × ℕ)} (Some x) (Some y) → x.1 ≡ y.1
+pub pair_second : (x y : Name × ℕ) → ◌≡◌ {A = Option (Name × ℕ)} (Some x) (Some y) → x.1 ≡ y.1
 pair_second x y e = ap (λ (z : Name × ℕ). z.1) (same_Some x y e)
 
 -- the value at a channel, by whether it is the one that was set
-at_channel : (c d : Channel) (v : Option (Name × ℕ)) (m : Channel → Option (Name × ℕ)) (x : Name × ℕ)
+pub at_channel : (c d : Channel) (v : Option (Name × ℕ)) (m : Channel → Option (Name × ℕ)) (x : Name × ℕ)
     → at_key same_channel c v m d ≡ Some x → ((c ≡ d) × (v ≡ Some x)) ⊎ (m d ≡ Some x)
 at_channel c d v m x h = by (same_channel c d) (channel_is c d) h
   where

@@ -4,6 +4,7 @@ use Rattle.std.proofs.Common.{◌==◌, List, [], ◌∷◌, length, Option, Som
 use Rattle.std.proofs.lemmas.Bool.Decides.{nat_tests}
 use Rattle.sp_base.specs.declared.fault.Fault.{Fault}
 use Rattle.sp_base.specs.declared.fault.Fault.TheVariants as fault
+use Rattle.sp_base.proofs.Facts.{same_tail}
 use Rattle.sp_meaning.specs.Maps.{IsTest}
 use Rattle.sp_meaning.specs.Model.{Name, Channel, Totals, add, Language, Moves, Opens, Forks, Offering, Ends, Fails}
 use Rattle.sp_meaning.specs.Model.{Absent, Works, Waits, Joins, Ended, State, Change, Becomes, Forked, Writes, Pends}
@@ -258,8 +259,6 @@ module _ {L : Language} {limits : Totals} (s : State L) (sound : Sound s) (p q :
     (one : Makes limits s p cs) (two : Makes limits s q ds) (apart : q ≢ p)
     (off : (c : Channel) → IsOn (L.next one.own s.store) c → IsOn (L.next two.own s.store) c → ⊥)
     (free : (l : L.Loc) → WritesTo s (L.next one.own s.store) l → WritesTo s (L.next two.own s.store) l → ⊥) where
-  tail_is : (x y : ℕ × ℕ) (p q : Name) → x ∷ p ≡ y ∷ q → p ≡ q
-  tail_is x y p q e = cc
 
   near_apart : (r : Name) → IsNear s p (L.next one.own s.store) r → IsNear s q (L.next two.own s.store) r → ⊥
   near_apart r n m = ⊎_elim
@@ -280,7 +279,7 @@ module _ {L : Language} {limits : Totals} (s : State L) (sound : Sound s) (p q :
       (λ (g : IsPartner s (L.next two.own s.store) r). let k =
       on_partner s q ds sound two (L.next two.own s.store) r g in waits_absent k.0 (s.condition r) k.2 none)
       (λ (g : IsChild s q (L.next two.own s.store) r). let y = child_below s q (L.next two.own s.store) r g in
-      apart (tail_is y.0 x.0 q p (sym y.1 ∙ x.1))))
+      apart (same_tail (sym y.1 ∙ x.1))))
       m))
       n
 

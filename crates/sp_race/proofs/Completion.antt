@@ -14,7 +14,7 @@ use Rattle.sp_meaning.proofs.Maps.{same_or_not, at_other}
 use Rattle.sp_meaning.proofs.Keys.{channel_test}
 use Rattle.sp_race.specs.Known.{KnowsOffers, KnownFrom, AreKnown}
 use Rattle.sp_race.proofs.Linking.{grown_size, kept_entry, last_entry}
-use Rattle.sp_race.proofs.LinkedSteps.{learn_below, teach_below}
+use Rattle.sp_race.proofs.LinkedSteps.{learn_below, teach_below, now_below, report_below}
 
 -- where it holds a completion, it holds what was completed
 abbrev pub IsClosed : (ℕ → Option ℕ) → (ℕ → Bool) → Type 0
@@ -65,10 +65,6 @@ module _ (j : Judged) (n : ℕ) (paired : Paired j n) (p : Name) where
 
   past_below : (q : Name) (i : ℕ) → j.past q i ≡ true → i < suc n
   past_below q i h = let k = paired.below q i h in omega (arith, k)
-
-  now_below : (i : ℕ) → now j p n i ≡ true → i < suc n
-  now_below i h = ⊎_elim (λ (k : j.past p i ≡ true). past_below p i k) (λ (k : n == i ≡ true). this_below i k)
-      (or_cases (j.past p i) (n == i) h)
 
   -- an entry that is no offer
   same_offers : (j' : Judged) → ((q : Name) → IsClosed j.completed (j'.past q))
@@ -132,7 +128,7 @@ module _ (j : Judged) (n : ℕ) (paired : Paired j n) (p : Name) where
       (union_closed j.completed (j.past z) (λ i. k == i) (paired.closed z) at_k) in
       let k_below : (i : ℕ) → k == i ≡ true → i < suc n = λ i h. (let e = eqb-true k i h in omega (arith, e, w.0)) in
       let known_below : (i : ℕ) → known i ≡ true
-      → i < suc n = λ i h. ⊎_elim (λ (x : now j p n i ≡ true). now_below i x)
+      → i < suc n = λ i h. ⊎_elim (λ (x : now j p n i ≡ true). now_below j p n (paired.below p) i x)
       (λ (x : now j z k i ≡ true). ⊎_elim (λ (y : j.past z i ≡ true). past_below z i y)
       (λ (y : k == i ≡ true). k_below i y) (or_cases (j.past z i) (k == i) x))
       (or_cases (now j p n i) (now j z k i) h) in
@@ -232,7 +228,8 @@ module _ (j : Judged) (n : ℕ) (paired : Paired j n) (p : Name) where
   judged_paired (Forked k) = same_offers (judged_by j n p (Forked k))
       (teach_closed j.completed p (j.forks p) (now j p n) now_closed 0 k (learn p (λ i. n == i) j.past)
       (learn_closed j.completed p (λ i. n == i) j.past this_closed paired.closed))
-      (teach_below p (j.forks p) (now j p n) (suc n) now_below 0 k (learn p (λ i. n == i) j.past)
+      (teach_below p (j.forks p) (now j p n) (suc n) (now_below j p n (paired.below p)) 0 k
+      (learn p (λ i. n == i) j.past)
       (learn_below p (λ i. n == i) (suc n) this_below j.past past_below)) refl refl
   judged_paired (Offered w c) = elim (j.pending c) as (λ m. j.pending c ≡ m → Paired (met_now j p n c m) (suc n))
       [ None ↦ λ e. waits_paired c | Some o ↦ λ e. meets_paired c o.0 o.1 e ] refl
@@ -242,13 +239,8 @@ module _ (j : Judged) (n : ℕ) (paired : Paired j n) (p : Name) where
   judged_paired Ended = same_offers (judged_by j n p Ended)
       (report_closed j.completed p (now j p n) (learn p (λ i. n == i) j.past) now_closed
       (learn_closed j.completed p (λ i. n == i) j.past this_closed paired.closed))
-      (told p (learn p (λ i. n == i) j.past) (learn_below p (λ i. n == i) (suc n) this_below j.past past_below)) refl
-      refl
-    where
-      told : (r : Name) (past : Name → ℕ → Bool) → ((q : Name) (i : ℕ) → past q i ≡ true → i < suc n)
-          → (q : Name) (i : ℕ) → report r (now j p n) past q i ≡ true → i < suc n
-      told [] past h = h
-      told (a ∷ r) past h = learn_below r (now j p n) (suc n) now_below past h
+      (report_below p (now j p n) (suc n) (now_below j p n (paired.below p)) (learn p (λ i. n == i) j.past)
+      (learn_below p (λ i. n == i) (suc n) this_below j.past past_below)) refl refl
 
   known_by : (done : List Occurrence) (h : Happening) → KnowsCompletions j done p h → KnowsOffers j done p h
   known_by done (Offered w c) k = λ i z e. let x = k i z e in paired.closed p i x.0 x.1 x.2

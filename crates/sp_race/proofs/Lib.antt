@@ -1,3 +1,4 @@
+pub mod Ways
 pub mod Diamond
 pub mod Changes
 pub mod Commuting

@@ -10,10 +10,10 @@ use Rattle.sp_journal.specs.Past.{Judged, learn, teach, report, now, met_now, ju
 use Rattle.sp_meaning.specs.Maps.{at_key}
 use Rattle.sp_meaning.specs.Model.{Name, Channel, same_name, Totals, Language, Moves, Opens, Forks, Offering, Ends}
 use Rattle.sp_meaning.specs.Model.{Works, Joins, Ended, State, Change, Becomes, Forked, Writes, Adds, changed, after}
-use Rattle.sp_meaning.specs.Steps.{OfferOf, Outcome, Advances, puts, births, way_of, acts, Sound}
+use Rattle.sp_meaning.specs.Steps.{OfferOf, Advances, puts, births, way_of, acts, Sound}
 use Rattle.sp_meaning.proofs.Frames.{IsOn, all_in, condition_frame, pending_frame}
 use Rattle.sp_meaning.proofs.Status.{Makes, waiting_far}
-use Rattle.sp_meaning.proofs.Meeting.{met, waited}
+use Rattle.sp_meaning.proofs.Meeting.{met, waited, same_changes}
 use Rattle.sp_race.specs.Notes.{Event, same_event, Notes, Note, Counts, Learns, noted, all_noted, mine, knows, teaches}
 use Rattle.sp_race.specs.Notes.{tells, meeting_notes, offer_notes, notes_of, IsKnowledge}
 use Rattle.sp_race.specs.Noting.{notes_after}
@@ -57,21 +57,25 @@ teach_below p k f n g x zero past h q i e = h q i e
 teach_below p k f n g x (suc m) past h q i e =
     teach_below p k f n g (suc x) m (learn ((k, x) ∷ p) f past) (learn_below ((k, x) ∷ p) f n g past h) q i e
 
+pub now_below : (j : Judged) (p : Name) (n : ℕ) → ((i : ℕ) → j.past p i ≡ true → i < n) → (i : ℕ)
+    → now j p n i ≡ true → i < suc n
+now_below j p n below i e = by (j.past p i) (n == i) (below i) (eqb-true n i) e
+  where
+    by : (a b : Bool) → (a ≡ true → i < n) → (b ≡ true → n ≡ i) → a || b ≡ true → i < suc n
+    by true b f g h = let k = f refl in omega (arith, k)
+    by false b f g h = let k = g h in omega (arith, k)
+
+pub report_below : (r : Name) (f : ℕ → Bool) (n : ℕ) → ((i : ℕ) → f i ≡ true → i < n) → (past : Name → ℕ → Bool)
+    → ((q : Name) (i : ℕ) → past q i ≡ true → i < n) → (q : Name) (i : ℕ) → report r f past q i ≡ true → i < n
+report_below [] f n g past h = h
+report_below (a ∷ r) f n g past h = learn_below r f n g past h
+
 module _ {L : Language} {limits : Totals} (s : State L) (v : Notes) (p : Name) (cs : List (Change L)) (sound : Sound s)
     (known : IsKnowledge v) (one : Makes limits s p cs) (j : Judged) (done : List Occurrence) (n : ℕ)
     (label : ℕ → Option Event) (link : Linked s v j done n label) where
-  does_is : (x y : List (Change L)) → ◌≡◌ {A = Outcome L} (Advances x) (Advances y) → y ≡ x
-  does_is x y h = cc
 
   abbrev pub grows_label : ℕ → Option Event
   grows_label i = cond (n == i) (Some (mine v p)) (label i)
-
-  now_below : (i : ℕ) → now j p n i ≡ true → i < suc n
-  now_below i e = by (j.past p i) (n == i) (link.below p i) (eqb-true n i) e
-    where
-      by : (a b : Bool) → (a ≡ true → i < n) → (b ≡ true → n ≡ i) → a || b ≡ true → i < suc n
-      by true b f g h = let k = f refl in omega (arith, k)
-      by false b f g h = let k = g h in omega (arith, k)
 
   abbrev counted_notes : Notes
   counted_notes = noted (Counts p) v
@@ -106,7 +110,7 @@ module _ {L : Language} {limits : Totals} (s : State L) (v : Notes) (p : Name) (
   opens_linked o ws is =
       let es : List (Change L) = Becomes p (Works o) ∷ Adds (record { processes = 0; channels = 1; entries = 1 })
       ∷ puts ws in
-      let list : cs ≡ es = does_is _ _ (subst (λ a. acts s p a ≡ Advances cs) is one.does) in
+      let list : cs ≡ es = same_changes _ _ (subst (λ a. acts s p a ≡ Advances cs) is one.does) in
       let forks_at : (after cs s).forks ≡ s.forks = ap (λ x. (after x s).forks) list
       ∙ puts_forks ws (changed (Adds (record { processes = 0; channels = 1; entries = 1 }))
       (changed (Becomes p (Works o)) s)) in
@@ -127,7 +131,7 @@ module _ {L : Language} {limits : Totals} (s : State L) (v : Notes) (p : Name) (
       let new : Totals = record { processes = length os; channels = 0; entries = 1 } in
       let es : List (Change L) = Becomes p (Joins (s.forks p) (length os) o) ∷ Forked p ∷ Adds new
       ∷ births p (s.forks p) 0 os in
-      let list : cs ≡ es = does_is _ _ (subst (λ a. acts s p a ≡ Advances cs) is one.does) in
+      let list : cs ≡ es = same_changes _ _ (subst (λ a. acts s p a ≡ Advances cs) is one.does) in
       let forks_at : (after es s).forks ≡ at_key same_name p (s.forks p + 1) s.forks =
       births_forks p (s.forks p) 0 os (changed (Adds new)
       (changed (Forked p) (changed (Becomes p (Joins (s.forks p) (length os) o)) s))) in
@@ -141,7 +145,8 @@ module _ {L : Language} {limits : Totals} (s : State L) (v : Notes) (p : Name) (
       ∙ teaches_past p (s.forks p) (knows v p) 0 (length os) (noted (Learns p (same_event (mine v p))) counted_notes)
       (now j p n) (learn p (λ x. n == x) j.past) i (grows_label i) (knows_label h i lt) (λ r. first_past h r i lt) q
       ∙ ap (λ x. known_label ((all_noted x v).past q) (grows_label i)) (sym notes_are))
-      (teach_below p (j.forks p) (now j p n) (suc n) now_below 0 (length os) (learn p (λ x. n == x) j.past) first_below)
+      (teach_below p (j.forks p) (now j p n) (suc n) (now_below j p n (link.below p)) 0 (length os)
+      (learn p (λ x. n == x) j.past) first_below)
       (λ c. refl)
       (λ q. (λ x. cond (same_name p q) (link.forks p x + 1) (link.forks q x)) ∙ ap (λ f. f q) (sym forks_at)
       ∙ ap (λ x. (after x s).forks q) (sym list))
@@ -153,17 +158,12 @@ module _ {L : Language} {limits : Totals} (s : State L) (v : Notes) (p : Name) (
   tells_past (a ∷ r) w past i l fe h q = (λ y. cond (same_name r q) (h q y || fe y) (h q y))
       ∙ sym (spread (same_name r q) (w.past q) (knows v p) l)
 
-  report_below : (r : Name) (past : Name → ℕ → Bool) → ((q : Name) (i : ℕ) → past q i ≡ true → i < suc n)
-      → (q : Name) (i : ℕ) → report r (now j p n) past q i ≡ true → i < suc n
-  report_below [] past h = h
-  report_below (a ∷ r) past h = learn_below r (now j p n) (suc n) now_below past h
-
   pub ends_linked : L.next one.own s.store ≡ Ends
       → Linked (after cs s) (notes_after s v p (L.next one.own s.store)) (judged_by j n p happenings.Ended)
       (done ++ record { who = p; what = happenings.Ended } ∷ []) (suc n) grows_label
   ends_linked is =
       let es : List (Change L) = Becomes p Ended ∷ [] in
-      let list : cs ≡ es = does_is _ _ (subst (λ a. acts s p a ≡ Advances cs) is one.does) in
+      let list : cs ≡ es = same_changes _ _ (subst (λ a. acts s p a ≡ Advances cs) is one.does) in
       let ns : List Note = Counts p ∷ Learns p (same_event (mine v p)) ∷ tells p (knows v p) in
       let notes_are : notes_of s v p (L.next one.own s.store) ≡ ns = ap (notes_of s v p) is in
       linked_on s v p cs sound known one j done n label link happenings.Ended (λ c on. subst (λ a. IsOn a c) is on)
@@ -172,7 +172,7 @@ module _ {L : Language} {limits : Totals} (s : State L) (v : Notes) (p : Name) (
       tells_past p (noted (Learns p (same_event (mine v p))) counted_notes) (learn p (λ x. n == x) j.past) i
       (grows_label i) (knows_label happenings.Ended i lt) (λ r. first_past happenings.Ended r i lt) q
       ∙ ap (λ x. known_label ((all_noted x v).past q) (grows_label i)) (sym notes_are))
-      (report_below p (learn p (λ x. n == x) j.past) first_below)
+      (report_below p (now j p n) (suc n) (now_below j p n (link.below p)) (learn p (λ x. n == x) j.past) first_below)
       (λ c. refl)
       (λ q. link.forks q ∙ ap (λ x. (after x s).forks q) (sym list))
 
@@ -182,7 +182,7 @@ module _ {L : Language} {limits : Totals} (s : State L) (v : Notes) (p : Name) (
   moves_linked o ws is =
       let a = L.next one.own s.store in
       let es : List (Change L) = Becomes p (Works o) ∷ puts ws in
-      let list : cs ≡ es = does_is _ _ (subst (λ a. acts s p a ≡ Advances cs) is one.does) in
+      let list : cs ≡ es = same_changes _ _ (subst (λ a. acts s p a ≡ Advances cs) is one.does) in
       let forks_at : (after cs s).forks ≡ s.forks = ap (λ x. (after x s).forks) list
       ∙ puts_forks ws (changed (Becomes p (Works o)) s) in
       let i = all_in s p a cs one.does in

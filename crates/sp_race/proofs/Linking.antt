@@ -5,7 +5,6 @@ use Rattle.std.proofs.Common.{List, [], ◌∷◌, ◌++◌, length, Option, Som
 use Rattle.std.proofs.lemmas.Bool.{cases_eq, false_from_ne_true, ne_eqb, or_cases}
 use Rattle.std.proofs.lemmas.Option.{none-some, same_Some}
 use Rattle.sp_journal.specs.declared.entry.Way.{Way}
-use Rattle.sp_journal.specs.declared.entry.Way.TheVariants as way
 use Rattle.sp_journal.specs.Names.{same_way, Happening, Offered, Occurrence}
 use Rattle.sp_journal.specs.Past.{Judged, met_now}
 use Rattle.sp_meaning.specs.Maps.{at_key}
@@ -22,6 +21,7 @@ use Rattle.sp_race.specs.Noting.{notes_after}
 use Rattle.sp_race.specs.Linked.{known_label, Pended, Recorded, IsPending, Linked}
 use Rattle.sp_race.proofs.NotesFrames.{event_test, notes_in, events_frame, offers_frame, events_grow, HasCount, counted}
 use Rattle.sp_race.proofs.Rendezvous.{ways_meet}
+use Rattle.sp_race.proofs.Ways.{way_is}
 
 -- an entry that knows the earlier offers by their own indices
 abbrev pub IsKnown : Judged → List Occurrence → Name → Way → Channel → Type 0
@@ -417,12 +417,6 @@ module _ {L : Language} {limits : Totals} (s : State L) (v : Notes) (p : Name) (
       in_past true false false false false false false i a b c d e h = absurd (cc h)
       in_past false true false false false false false i a b c d e h = absurd (cc h)
       in_past false false false false false false false i a b c d e h = absurd (cc h)
-
-      way_is : (a b : Way) → same_way a b ≡ true → a ≡ b
-      way_is way.Send way.Send h = refl
-      way_is way.Send way.Receive h = absurd (cc h)
-      way_is way.Receive way.Send h = absurd (cc h)
-      way_is way.Receive way.Receive h = refl
 
       of_p : (c : Channel) (x : Way) (e : Event) → o.channel ≡ c → way_of o.cargo ≡ x → same_event (mine v p) e ≡ true
           → Recorded grown (suc n) labels c x e

@@ -4,7 +4,7 @@ use Rattle.std.proofs.Common.{lt_of_lt_of_le, lt_of_le_of_lt, Bool, true, false,
 use Rattle.std.proofs.Common.{length, Option, Some, None, eqb-true, eq-eqb, refl, sym, ap, ◌∙◌, subst, arith}
 use Rattle.std.proofs.Math.Path.{fun_ext}
 use Rattle.std.proofs.lemmas.Bool.{and_from, or_cases}
-use Rattle.sp_base.proofs.Facts.{first_true, second_true}
+use Rattle.sp_base.proofs.Facts.{first_true, second_true, or_with_true}
 use Rattle.sp_journal.specs.declared.entry.Way.{Way}
 use Rattle.sp_journal.specs.Names.{same_way}
 use Rattle.sp_meaning.specs.Maps.{IsTest}
@@ -186,9 +186,14 @@ events_grow (Counts q ∷ xs) n r = le_trans (grows (same_name q r) (n.events r)
 events_grow (Learns q k ∷ xs) n r = events_grow xs (noted (Learns q k) n) r
 events_grow (Records c w e ∷ xs) n r = events_grow xs (noted (Records c w e) n) r
 
-both_true : (b : Bool) (f g : Event → Bool) (e : Event) → f e ≡ true → cond b (both f g) f e ≡ true
-both_true true f g e h = rw h refl
-both_true false f g e h = h
+-- what two know together
+pub both_kept : (b : Bool) (f g : Event → Bool) (e : Event) → f e ≡ true → cond b (both f g) f e ≡ true
+both_kept true f g e h = rw h refl
+both_kept false f g e h = h
+
+pub both_right : (b : Bool) (f g : Event → Bool) (e : Event) → b ≡ true → g e ≡ true → cond b (both f g) f e ≡ true
+both_right true f g e k h = rw h (or_with_true (f e))
+both_right false f g e k h = absurd (cc k)
 
 pub offers_grow : (xs : List Note) (n : Notes) (d : Channel) (v : Way) (e : Event) → n.offers d v e ≡ true
     → (all_noted xs n).offers d v e ≡ true
@@ -197,7 +202,7 @@ offers_grow (Counts q ∷ xs) n d v e h = offers_grow xs (noted (Counts q) n) d 
 offers_grow (Learns q k ∷ xs) n d v e h = offers_grow xs (noted (Learns q k) n) d v e h
 offers_grow (Records c w x ∷ xs) n d v e h =
     offers_grow xs (noted (Records c w x) n) d v e
-    (both_true (same_channel c d && same_way w v) (n.offers d v) (same_event x) e h)
+    (both_kept (same_channel c d && same_way w v) (n.offers d v) (same_event x) e h)
 
 abbrev pub HasCount : Name → List Note → Type 0
 HasCount p [] = ⊥

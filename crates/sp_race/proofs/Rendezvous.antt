@@ -1,10 +1,9 @@
 -- Two offers on one channel: who waits and who comes may change places.
-use Rattle.std.proofs.Common.{◌≡◌, ◌≢◌, ◌⊎◌, ⊎_elim, inl, inr, ◌<◌, Bool, true, false, cond, ◌&&◌, ◌==◌, List, []}
-use Rattle.std.proofs.Common.{◌∷◌, Some, None, eqb-true, eq-eqb, refl, sym, ap, ◌∙◌, subst, arith}
+use Rattle.std.proofs.Common.{◌≡◌, ◌≢◌, ◌⊎◌, ⊎_elim, inl, inr, ◌<◌, Bool, true, false, cond, ◌&&◌, ◌==◌, List, [], ◌∷◌}
+use Rattle.std.proofs.Common.{Some, None, eqb-true, eq-eqb, refl, sym, ap, ◌∙◌, subst, arith}
 use Rattle.std.proofs.Math.Path.{fun_ext}
 use Rattle.std.proofs.lemmas.Bool.{and_from}
 use Rattle.sp_base.specs.declared.fault.Fault.TheVariants as fault
-use Rattle.sp_base.proofs.Facts.{or_with_true}
 use Rattle.sp_journal.specs.declared.entry.Way.{Way}
 use Rattle.sp_journal.specs.declared.entry.Way.TheVariants as way
 use Rattle.sp_journal.specs.Names.{same_way}
@@ -17,11 +16,12 @@ use Rattle.sp_meaning.proofs.Maps.{itself}
 use Rattle.sp_meaning.proofs.Keys.{name_test, channel_test}
 use Rattle.sp_meaning.proofs.Status.{Makes, working_stands, far, keeps_working, working_no_parent}
 use Rattle.sp_meaning.proofs.Meeting.{met}
-use Rattle.sp_race.specs.Notes.{Event, same_event, both, Notes, Note, Counts, Learns, Records, noted, all_noted, mine}
-use Rattle.sp_race.specs.Notes.{knows, other_way, meeting_notes, offer_notes, notes_of, IsKnowledge, KnowsBefore}
+use Rattle.sp_race.specs.Notes.{same_event, both, Notes, Note, Counts, Learns, Records, noted, all_noted, mine, knows}
+use Rattle.sp_race.specs.Notes.{other_way, meeting_notes, offer_notes, notes_of, IsKnowledge, KnowsBefore}
 use Rattle.sp_race.specs.Noting.{notes_after}
-use Rattle.sp_race.proofs.NotesFrames.{event_test, or_comm, notes_swap, notes_in, past_frame}
+use Rattle.sp_race.proofs.NotesFrames.{event_test, or_comm, notes_swap, notes_in, past_frame, both_kept, both_right}
 use Rattle.sp_race.proofs.Commuting.{passed_earlier}
+use Rattle.sp_race.proofs.Ways.{way_itself}
 
 -- The state
 
@@ -105,29 +105,17 @@ notes_swapped n p q c w =
     ∷ Learns p (both (knows n p) (knows n q)) ∷ Learns q (both (knows n p) (knows n q)) ∷ []) n)
     (sym (other_other w))
 
-way_itself : (w : Way) → same_way w w ≡ true
-way_itself way.Send = refl
-way_itself way.Receive = refl
-
-stays : (b : Bool) (f g : Event → Bool) (e : Event) → f e ≡ true → cond b (both f g) f e ≡ true
-stays true f g e h = rw h refl
-stays false f g e h = h
-
-adds_to : (b : Bool) (f g : Event → Bool) (e : Event) → b ≡ true → g e ≡ true → cond b (both f g) f e ≡ true
-adds_to true f g e k h = rw h (or_with_true (f e))
-adds_to false f g e k h = absurd (cc k)
-
 recorded_first : (n : Notes) (p : Name) (c : Channel) (w : Way) (z : Name)
     → (all_noted (meeting_notes n p c w z) n).offers c w (mine n p) ≡ true
 recorded_first n p c w z =
-    stays (same_channel c c && same_way (other_way w) w) _ (same_event (mine n z)) (mine n p)
-    (adds_to (same_channel c c && same_way w w) (n.offers c w) (same_event (mine n p)) (mine n p)
+    both_kept (same_channel c c && same_way (other_way w) w) _ (same_event (mine n z)) (mine n p)
+    (both_right (same_channel c c && same_way w w) (n.offers c w) (same_event (mine n p)) (mine n p)
     (and_from _ _ (itself channel_test c) (way_itself _)) (itself event_test (mine n p)))
 
 recorded_second : (n : Notes) (p : Name) (c : Channel) (w : Way) (z : Name)
     → (all_noted (meeting_notes n p c w z) n).offers c (other_way w) (mine n z) ≡ true
 recorded_second n p c w z =
-    adds_to (same_channel c c && same_way (other_way w) (other_way w)) _ (same_event (mine n z)) (mine n z)
+    both_right (same_channel c c && same_way (other_way w) (other_way w)) _ (same_event (mine n z)) (mine n z)
     (and_from _ _ (itself channel_test c) (way_itself _)) (itself event_test (mine n z))
 
 one_of : (v w : Way) → (v ≡ w) ⊎ (v ≡ other_way w)

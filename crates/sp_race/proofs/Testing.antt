@@ -1,28 +1,17 @@
 -- The test of the order condition is right, both ways.
 use Rattle.std.proofs.Common.{◌≡◌, ℕ, suc, zero, ◌+◌, Bool, true, false, if◌then◌else◌, List, [], ◌∷◌, ◌++◌, length}
-use Rattle.std.proofs.Common.{slice_get, Option, Some, None, refl, sym, ap, ◌∙◌, subst}
-use Rattle.std.proofs.Common.{add-zero, zero-add}
+use Rattle.std.proofs.Common.{slice_get, Option, Some, None, refl, sym, ap, ◌∙◌, subst, add-zero, zero-add}
 use Rattle.std.proofs.lemmas.Bool.{and_from}
 use Rattle.std.proofs.lemmas.Option.{none-some, same_Some}
 use Rattle.sp_base.proofs.Facts.{first_true, is_none_plus, is_plus_none, next_goes_left, next_goes_right, second_true}
 use Rattle.sp_journal.specs.declared.entry.Way.{Way}
-use Rattle.sp_journal.specs.declared.entry.Way.TheVariants as way
-use Rattle.sp_journal.specs.Names.{Name, Channel, same_way, Happening, Opened, Forked, Offered, Ended, Faulted, Laid}
-use Rattle.sp_journal.specs.Names.{Paused, Occurrence}
+use Rattle.sp_journal.specs.Names.{Name, Channel, Happening, Opened, Forked, Offered, Ended, Faulted, Laid, Paused}
+use Rattle.sp_journal.specs.Names.{Occurrence}
 use Rattle.sp_journal.specs.Past.{Judged, judged_by, nothing_judged, KnowsCompletions, CompletedFrom, AreOrdered}
 use Rattle.sp_meaning.proofs.Maps.{itself}
 use Rattle.sp_meaning.proofs.Keys.{channel_test}
 use Rattle.sp_race.specs.Tested.{is_offer, is_known, knows_all, is_in_order, order_from, order_test}
-
-way_itself : (w : Way) → same_way w w ≡ true
-way_itself way.Send = refl
-way_itself way.Receive = refl
-
-way_is : (a b : Way) → same_way a b ≡ true → a ≡ b
-way_is way.Send way.Send h = refl
-way_is way.Send way.Receive h = absurd (cc h)
-way_is way.Receive way.Send h = absurd (cc h)
-way_is way.Receive way.Receive h = refl
+use Rattle.sp_race.proofs.Ways.{way_itself, way_is}
 
 known_is : (j : Judged) (p : Name) (o : Option ℕ) → is_known j p o ≡ true → (m : ℕ) × (o ≡ Some m) × (j.past p m ≡ true)
 known_is j p None h = absurd (cc h)
