@@ -1,10 +1,10 @@
 -- The judge's tables after one more entry.
-use Rattle.std.proofs.Common.{◌≡◌, ◌⊎◌, inl, inr, ⊎_elim, ℕ, zero, suc, ◌+◌, ◌<◌, ◌≤◌, true, false, cond, max}
-use Rattle.std.proofs.Common.{◌&&◌, ◌==◌, nat_le, nat_lt, List, [], ◌∷◌, ◌++◌, take, length, length-append, Option}
-use Rattle.std.proofs.Common.{Some, None, slice_get, slice_set, unwrap_or, refl, sym, ap, ◌∙◌, subst, arith, eq-eqb}
+use Rattle.std.proofs.Common.{◌≡◌, ◌⊎◌, inl, inr, ⊎_elim, ℕ, suc, ◌+◌, ◌<◌, ◌≤◌, true, false, cond, max, ◌&&◌, ◌==◌}
+use Rattle.std.proofs.Common.{nat_le, nat_lt, List, [], ◌∷◌, ◌++◌, take, length, length-append, Option, Some, None}
+use Rattle.std.proofs.Common.{slice_get, slice_set, unwrap_or, refl, sym, ap, ◌∙◌, subst, arith, eq-eqb}
 use Rattle.std.proofs.lemmas.Bool.{and_from, and_right}
 use Rattle.std.proofs.lemmas.Option.{same_Some}
-use Rattle.sp_base.proofs.Facts.{below_or_at}
+use Rattle.sp_base.proofs.Facts.{below_or_at, get_before_last, get_last}
 use Rattle.sp_journal.specs.declared.entry.Entry.{Entry}
 use Rattle.sp_journal.specs.declared.entry.Event.TheVariants as event
 use Rattle.sp_journal.specs.declared.entry.Way.{Way}
@@ -29,14 +29,8 @@ use Rattle.sp_judge.proofs.Numbers.{Stays, same_process, shares_is, children_nam
 use Rattle.sp_judge.proofs.Fronts.{judged_last, counts_last, get_within, take_next, named_length}
 use Rattle.sp_judge.proofs.Fronts as front
 
-pub push_low : {X : Type 0} (xs : List X) (y : X) (i : ℕ) → i < length xs → slice_get (xs ++ y ∷ []) i ≡ slice_get xs i
-push_low [] y i l = absurd (omega arith)
-push_low (x ∷ xs) y zero l = refl
-push_low (x ∷ xs) y (suc i) l = push_low xs y i (omega arith)
-
-pub push_last : {X : Type 0} (xs : List X) (y : X) → slice_get (xs ++ y ∷ []) (length xs) ≡ Some y
-push_last [] y = refl
-push_last (x ∷ xs) y = push_last xs y
+pub next_is_suc : (a b : ℕ) → a ≡ b → a + 1 ≡ suc b
+next_is_suc a b e = omega arith
 
 -- what is said of an offer that waits, and of a last offer, still stands
 waits_stay : (s : Births) (os : List Occurrence) (e : Occurrence) (o : Option Offer) (x : Option (Name × ℕ))
@@ -55,11 +49,11 @@ module _ (s : Births) (os : List Occurrence) (e : Occurrence) (w : Way) (d : Cha
   old_or_last : (i : ℕ) (z : Name) → OfferIn (os ++ e ∷ []) i z w d → ((i < length os) × OfferIn os i z w d)
       ⊎ ((i ≡ length os) × (e.what ≡ Offered w d))
   old_or_last i z o = ⊎_elim
-      (λ (l : i < length os). inl (l, sym (push_low os e i l) ∙ o))
+      (λ (l : i < length os). inl (l, sym (get_before_last os e i l) ∙ o))
       (λ (l : i ≡ length os). inr (
         l,
         ap (λ (x : Occurrence). x.what)
-            (same_Some e _ (sym (push_last os e) ∙ subst (λ k. OfferIn (os ++ e ∷ []) k z w d) l o)),
+            (same_Some e _ (sym (get_last os e) ∙ subst (λ k. OfferIn (os ++ e ∷ []) k z w d) l o)),
       ))
       (below_or_at i (length os) (let a = get_within (os ++ e ∷ []) i _ o in let b = length-append os (e ∷ []) in
       omega arith))
@@ -71,7 +65,7 @@ module _ (s : Births) (os : List Occurrence) (e : Occurrence) (w : Way) (d : Cha
       let l = get_within os h.0 _ h.2 in (
         h.0,
         h.1,
-        push_low os e h.0 l ∙ h.2,
+        get_before_last os e h.0 l ∙ h.2,
         h.3 ∙ ap (λ xs. made xs (s.name o.process)) (sym (take_low os e h.0 (omega arith))),
         λ k y a. ⊎_elim (λ (x : (k < length os) × OfferIn os k y w d). h.4 k y x.1)
             (λ (x : (k ≡ length os) × (e.what ≡ Offered w d)). absurd (off x.1)) (old_or_last k y a),
@@ -83,7 +77,7 @@ module _ (s : Births) (os : List Occurrence) (e : Occurrence) (w : Way) (d : Cha
   new_last o there is place = (
     length os,
     there,
-    push_last os e ∙ ap (λ x. Some x) is,
+    get_last os e ∙ ap (λ x. Some x) is,
     place ∙ ap (λ xs. made xs (s.name o.process)) (sym (take_low os e (length os) (omega arith) ∙ take_all os)),
     λ k y a. (let b = get_within (os ++ e ∷ []) k _ a in let c = length-append os (e ∷ []) in omega arith),
   )
@@ -150,7 +144,7 @@ module _ (all : List Entry) (nameable : NameableFrom at_start all) (quiet : IsQu
       counted in
       let m : number_at b.made.items p ≡ made os (s.name r) = its_made ∙ ap (λ x. made os (s.name x)) i in
       ap (λ x. cond x (Some (number_at b.made.items p + 1)) (slice_get b.made.items r)) (eq-eqb p r i)
-      ∙ ap (λ x. Some x) (one_more (number_at b.made.items p) (made os (s.name r)) m)
+      ∙ ap (λ x. Some x) (next_is_suc (number_at b.made.items p) (made os (s.name r)) m)
       ∙ sym (ap (λ x. Some x) (made_now r ∙ ap (λ x. cond x (suc (made os (s.name r))) (made os (s.name r))) t)))
       (λ (i : p == r ≡ false).
       let t : same_name (s.name p) (s.name r)
@@ -160,9 +154,6 @@ module _ (all : List Entry) (nameable : NameableFrom at_start all) (quiet : IsQu
       ∙ h.made_is r l ∙ sym (ap (λ x. Some x)
       (made_now r ∙ ap (λ x. cond x (suc (made os (s.name r))) (made os (s.name r))) t)))
       (index_or_not p r))
-    where
-      one_more : (x y : ℕ) → x ≡ y → x + 1 ≡ suc y
-      one_more x y f = omega arith
 
   pub made_kept : is_counted (happening s e.event) ≡ false → (r : ℕ) → r < s.processes
       → slice_get b.made.items r ≡ Some (made (named s (take (at + 1) all)) (s.name r))
@@ -186,18 +177,18 @@ module _ (all : List Entry) (nameable : NameableFrom at_start all) (quiet : IsQu
       ∙ f in
       ap_made i x (⊎_elim
       (λ (l : i < length (take at all)).
-      push_low b.places.items (number_at b.made.items p) i (let c = h.all_places in omega arith)
-      ∙ h.places i x (sym (push_low (take at all) e i l) ∙ g)
+      get_before_last b.places.items (number_at b.made.items p) i (let c = h.all_places in omega arith)
+      ∙ h.places i x (sym (get_before_last (take at all) e i l) ∙ g)
       ∙ ap (λ ys. Some (made ys (s.name x.process)))
       (sym (take_low os o i (let n = named_length s (take at all) in omega arith))))
       (λ (l : i ≡ length (take at all)).
-      let is : e ≡ x = same_Some e x (sym (push_last (take at all) e)
+      let is : e ≡ x = same_Some e x (sym (get_last (take at all) e)
       ∙ subst (λ k. slice_get (take at all ++ e ∷ []) k ≡ Some x) l g) in
       let n = named_length s (take at all) in
       let k : i ≡ length b.places.items = let c = h.all_places in omega arith in
       let m : i ≡ length os = omega arith in
       subst (λ k. slice_get (b.places.items ++ number_at b.made.items p ∷ []) k ≡ Some (number_at b.made.items p))
-      (sym k) (push_last b.places.items (number_at b.made.items p))
+      (sym k) (get_last b.places.items (number_at b.made.items p))
       ∙ ap (λ y. Some y) (its_made ∙ ap (λ (y : Entry). made os (s.name y.process)) is)
       ∙ ap (λ ys. Some (made ys (s.name x.process)))
       (sym (ap (λ k. take k (os ++ o ∷ [])) m ∙ take_low os o (length os) (omega arith) ∙ take_all os)))

@@ -1,18 +1,16 @@
 -- While the order condition holds, who knows an offer knows each earlier one of its way on its channel.
-use Rattle.std.proofs.Common.{◌≡◌, ◌⊎◌, inl, inr, ⊎_elim, ℕ, ◌<◌, ◌≤◌, Bool, true, false, cond, ◌||◌, ◌==◌, List, []}
-use Rattle.std.proofs.Common.{◌∷◌, ◌++◌, length, Option, Some, None, slice_get, refl, sym, ap, ◌∙◌, subst, arith}
-use Rattle.std.proofs.Common.{eqb-true, eq-eqb}
+use Rattle.std.proofs.Common.{◌≡◌, ◌⊎◌, ⊎_elim, ℕ, ◌<◌, ◌≤◌, Bool, true, false, cond, ◌||◌, ◌==◌, List, [], ◌∷◌, ◌++◌}
+use Rattle.std.proofs.Common.{length, Option, Some, None, slice_get, refl, sym, ap, ◌∙◌, subst, arith, eqb-true, eq-eqb}
 use Rattle.std.proofs.lemmas.Bool.{or_cases, or_left, or_right}
 use Rattle.std.proofs.lemmas.Option.{none-some, same_Some, slice_get_within}
 use Rattle.sp_base.proofs.Facts.{below_or_at}
 use Rattle.sp_journal.specs.declared.entry.Way.{Way}
-use Rattle.sp_journal.specs.Maps.{at_key}
-use Rattle.sp_journal.specs.Names.{Name, Channel, same_name, same_channel, Happening, Opened, Forked, Offered, Ended}
-use Rattle.sp_journal.specs.Names.{Faulted, Laid, Paused, Occurrence}
+use Rattle.sp_journal.specs.Names.{Name, Channel, same_name, Happening, Opened, Forked, Offered, Ended, Faulted, Laid}
+use Rattle.sp_journal.specs.Names.{Paused, Occurrence}
 use Rattle.sp_journal.specs.Past.{Judged, learn, now, met_now, judged_by, nothing_judged}
-use Rattle.sp_past.proofs.Keys.{name_is, channel_is}
+use Rattle.sp_past.proofs.Keys.{name_is}
 use Rattle.sp_past.proofs.Prefixing.{get_low, get_last, learn_all, teach_all, report_all, learn_more, teach_more}
-use Rattle.sp_past.proofs.Prefixing.{report_more}
+use Rattle.sp_past.proofs.Prefixing.{report_more, at_channel}
 use Rattle.sp_race.specs.Known.{KnowsOffers}
 use Rattle.sp_race.proofs.Completion.{Paired}
 
@@ -54,14 +52,6 @@ channel_of d Ended = d
 channel_of d (Faulted f) = d
 channel_of d Laid = d
 channel_of d Paused = d
-
-at_channel : (c d : Channel) (v : Option (Name × ℕ)) (m : Channel → Option (Name × ℕ)) (x : Name × ℕ)
-    → at_key same_channel c v m d ≡ Some x → ((c ≡ d) × (v ≡ Some x)) ⊎ (m d ≡ Some x)
-at_channel c d v m x h = by (same_channel c d) (channel_is c d) h
-  where
-    by : (t : Bool) → (t ≡ true → c ≡ d) → cond t v (m d) ≡ Some x → ((c ≡ d) × (v ≡ Some x)) ⊎ (m d ≡ Some x)
-    by true f g = inl (f refl, g)
-    by false f g = inr g
 
 module _ (j : Judged) (es : List Occurrence) (chains : Chains j es) (paired : Paired j (length es)) (p : Name)
     (h : Happening) (knows : KnowsOffers j es p h) where

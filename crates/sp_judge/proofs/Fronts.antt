@@ -2,7 +2,7 @@
 use Rattle.std.proofs.Common.{◌≡◌, ℕ, zero, suc, ◌+◌, ◌<◌, ◌≤◌, cond, List, [], ◌∷◌, ◌++◌, take, length, length-append}
 use Rattle.std.proofs.Common.{append_assoc, append-nil, Option, Some, None, slice_get, refl, sym, ap, ◌∙◌, subst, arith}
 use Rattle.std.proofs.lemmas.List.{take_more}
-use Rattle.std.proofs.lemmas.Option.{get_or_from_slice_get, slice_get_within, same_Some}
+use Rattle.std.proofs.lemmas.Option.{get_or_from_slice_get, slice_get_within, same_Some, none-some}
 use Rattle.sp_base.proofs.Facts.{is_plus_none}
 use Rattle.sp_journal.specs.declared.entry.Entry.{Entry}
 use Rattle.sp_journal.specs.declared.entry.Event.{Event}
@@ -61,12 +61,9 @@ nameable_front : (s : Births) (xs ys : List Entry) → NameableFrom s (xs ++ ys)
 nameable_front s [] ys f = (tt, f)
 nameable_front s (x ∷ xs) ys f = let r = nameable_front (after_entry s x) xs ys f.1 in ((f.0, r.0), r.1)
 
-none_entry : {A : Type 0} (a : Entry) → ◌≡◌ {A = Option Entry} None (Some a) → A
-none_entry a e = absurd (cc)
-
 rest_of : (all : List Entry) (at : ℕ) (e : Entry) → slice_get all at ≡ Some e → (rest : List Entry)
     × (all ≡ take at all ++ e ∷ rest)
-rest_of [] at e h = none_entry e h
+rest_of [] at e h = absurd (none-some _ h)
 rest_of (x ∷ xs) zero e h = (xs, ap (λ y. y ∷ xs) (same_Some x e h))
 rest_of (x ∷ xs) (suc at) e h = let r = rest_of xs at e h in (r.0, ap (λ ys. x ∷ ys) r.1)
 
@@ -95,13 +92,14 @@ named_length s (x ∷ es) = ap suc (named_length s es)
 
 pub named_get : (s : Births) (es : List Entry) (i : ℕ) (e : Entry) → slice_get es i ≡ Some e
     → slice_get (named s es) i ≡ Some (occurrence s e)
-named_get s [] i e h = none_entry e h
+named_get s [] i e h = absurd (none-some _ h)
 named_get s (x ∷ es) zero e h = ap (λ y. Some (occurrence s y)) (same_Some x e h)
 named_get s (x ∷ es) (suc i) e h = named_get s es i e h
 
 -- how many forks a process has made, by numbers and by names
 module _ (t : Births) (lawful : Lawful t) where
-  forks_by : (j : Judged) (n : ℕ) (s : Births) (e : Entry) → e.process < t.processes
+  -- after one more entry
+  pub forks_by : (j : Judged) (n : ℕ) (s : Births) (e : Entry) → e.process < t.processes
       → ((p : ℕ) → p < t.processes → j.forks (t.name p) ≡ s.forks p)
       → (p : ℕ) → p < t.processes → (judged_by j n (t.name e.process) (happening t e.event)).forks (t.name p)
       ≡ (after_entry s e).forks p

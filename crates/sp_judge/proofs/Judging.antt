@@ -1,11 +1,12 @@
 -- From the tables before the first entry to the verdict.
 use Rattle.std.proofs.Common.{◌≡◌, ℕ, zero, suc, ◌+◌, ◌<◌, ◌≤◌, List, [], ◌∷◌, take, length, Option, Some, None}
 use Rattle.std.proofs.Common.{slice_get, refl, sym, ap, ◌∙◌, subst, arith}
+use Rattle.std.proofs.lemmas.Option.{none-some}
 use Rattle.sp_base.specs.declared.name.ChanName.{ChanName}
 use Rattle.sp_journal.specs.declared.entry.Entry.{Entry}
 use Rattle.sp_journal.specs.declared.entry.Journal.{Journal}
 use Rattle.sp_journal.specs.declared.outcome.Verdict.TheVariants as verdict
-use Rattle.sp_journal.specs.Names.{chan_name, Offered, Occurrence}
+use Rattle.sp_journal.specs.Names.{chan_name, Offered}
 use Rattle.sp_journal.specs.Births.{Births, births, channel, happening, occurrence, occurrences, IsNameable}
 use Rattle.sp_journal.specs.Past.{judged, AreOrdered}
 use Rattle.sp_journal.proofs.BirthLaws.{Lawful, lawful}
@@ -37,9 +38,6 @@ all_ordered j nameable n l known = known_ordered (occurrences j)
     (subst AreKnown (ap (named (births j.entries)) (take_whole j.entries n l) ∙ sym (all_named j.entries nameable))
     known)
 
-nothing_offered : {A : Type 0} (o : Occurrence) → ◌≡◌ {A = Option Occurrence} None (Some o) → A
-nothing_offered o e = absurd (cc)
-
 pub blank_holds : (all : List Entry) (b : Bench) → IsBlank b (births all).processes (births all).channels
     → (until : List ℕ) → Holds (births all) until [] b
 blank_holds all b k until = record {
@@ -52,14 +50,11 @@ blank_holds all b k until = record {
   lines = λ c l. (
     record { waiting = None; sent = None; received = None },
     k.lines c l,
-    record { waiting = tt; sent = λ i z o. nothing_offered _ o; received = λ i z o. nothing_offered _ o },
+    record { waiting = tt; sent = λ i z o. absurd (none-some _ o); received = λ i z o. absurd (none-some _ o) },
   );
-  places = λ i e h. none_entry e h;
+  places = λ i e h. absurd (none-some _ h);
   next = k.next;
 }
-  where
-    none_entry : {A : Type 0} (e : Entry) → ◌≡◌ {A = Option Entry} None (Some e) → A
-    none_entry e h = absurd (cc)
 
 module _ (all : List Entry) (t : IsTame all) (at : ℕ) where
   abbrev s : Births

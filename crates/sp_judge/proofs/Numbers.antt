@@ -1,8 +1,8 @@
 -- From the numbers of a nameable journal to the names that its entries give in the end.
-use Rattle.std.proofs.Common.{◌≡◌, ◌≢◌, ⊎_elim, ℕ, zero, suc, ◌+◌, ◌-◌, ◌<◌, ◌≤◌, Bool, true, false, cond, max, ◌&&◌}
-use Rattle.std.proofs.Common.{◌==◌, nat_le, nat_lt, List, [], ◌∷◌, map, refl, sym, ap, ◌∙◌, subst, arith, eq-eqb}
+use Rattle.std.proofs.Common.{◌≡◌, ◌≢◌, ⊎_elim, ℕ, zero, suc, ◌+◌, ◌-◌, ◌<◌, ◌≤◌, true, false, cond, max, ◌&&◌, ◌==◌}
+use Rattle.std.proofs.Common.{nat_le, nat_lt, List, [], ◌∷◌, map, refl, sym, ap, ◌∙◌, subst, arith, eq-eqb}
 use Rattle.std.proofs.lemmas.Bool.Decides.{nat_tests}
-use Rattle.std.proofs.lemmas.Bool.{eqb-false, ne_eqb}
+use Rattle.std.proofs.lemmas.Bool.{eqb-false, ne_eqb, false_from_ne_true}
 use Rattle.sp_journal.specs.declared.entry.Entry.{Entry}
 use Rattle.sp_journal.specs.declared.entry.Event.{Event}
 use Rattle.sp_journal.specs.declared.entry.Event.TheVariants as event
@@ -139,13 +139,9 @@ module _ (s : Births) (lawful : Lawful s) where
   same_process p q l h = ⊎_elim
       (λ (e : p ≡ q). eq-eqb p q e ∙ sym (subst (λ r. same_name (s.name p) (s.name r) ≡ true) e
       (name_itself (s.name p))))
-      (λ (d : p == q ≡ false). d ∙ sym (no (same_name (s.name p) (s.name q)) refl
+      (λ (d : p == q ≡ false). d ∙ sym (false_from_ne_true (same_name (s.name p) (s.name q))
       (λ e. eqb-false p q d (lawful.one_name p q l h (name_is (s.name p) (s.name q) e)))))
       (index_or_not p q)
-    where
-      no : (b : Bool) {c : Bool} → c ≡ b → (c ≡ true → ⊥) → c ≡ false
-      no true e f = absurd (f e)
-      no false e f = e
 
   pub one_channel : (c d : ℕ) → c < s.channels → d < s.channels → channel s c ≡ channel s d → c ≡ d
   one_channel c d l h e =
@@ -158,13 +154,9 @@ module _ (s : Births) (lawful : Lawful s) where
   same_chan c d l h = ⊎_elim
       (λ (e : c ≡ d). eq-eqb c d e ∙ sym (subst (λ r. same_channel (channel s c) (channel s r) ≡ true) e
       (channel_itself (channel s c))))
-      (λ (n : c == d ≡ false). n ∙ sym (no (same_channel (channel s c) (channel s d)) refl
+      (λ (n : c == d ≡ false). n ∙ sym (false_from_ne_true (same_channel (channel s c) (channel s d))
       (λ e. eqb-false c d n (one_channel c d l h (channel_is (channel s c) (channel s d) e)))))
       (index_or_not c d)
-    where
-      no : (b : Bool) {c : Bool} → c ≡ b → (c ≡ true → ⊥) → c ≡ false
-      no true e f = absurd (f e)
-      no false e f = e
 
   -- the children of a fork learn
   module _ (p fork first k : ℕ) (fits : first + k ≤ s.processes)

@@ -3,7 +3,7 @@ use Rattle.std.proofs.Common.{◌≡◌, ◌≢◌, ⊎_elim, ℕ, suc, ◌+◌,
 use Rattle.std.proofs.Common.{◌∷◌, ◌++◌, take, length, Option, Some, None, slice_get, slice_set, refl, sym, ap, ◌∙◌}
 use Rattle.std.proofs.Common.{subst, arith, eq-eqb}
 use Rattle.std.proofs.Math.Nat.{max-eq_left, max_comm, le-max_left, le-max_right}
-use Rattle.std.proofs.lemmas.Bool.{eqb-false}
+use Rattle.std.proofs.lemmas.Bool.{eqb-false, false_from_ne_true}
 use Rattle.std.proofs.lemmas.Option.{same_Some}
 use Rattle.sp_journal.specs.declared.entry.Entry.{Entry}
 use Rattle.sp_journal.specs.declared.entry.Way.{Way}
@@ -27,6 +27,7 @@ use Rattle.sp_judge.proofs.Chains.{channel_of, way_of}
 use Rattle.sp_judge.proofs.Fronts.{judged_last}
 use Rattle.sp_judge.proofs.Fronts as front
 use Rattle.sp_judge.proofs.BenchLaws.{last_stays, new_last, line_stays, Live, clock_is, own_is, here, grown, its_made}
+use Rattle.sp_judge.proofs.BenchLaws.{next_is_suc}
 
 -- a clock with its own count raised has no smaller count
 with_own_more : (c : ℕ → ℕ → ℕ) (p n q : ℕ) → c p q ≤ with_own c p n q
@@ -169,16 +170,12 @@ module _ (all : List Entry) (nameable : NameableFrom at_start all) (quiet : IsQu
             (λ v y. apart (ap (channel_of d) (sym is ∙ y)))
             (ap (λ y. (judged_by (judged os) (length os) (s.name p) y).pending (channel s k)) is
             ∙ met_same ((judged os).pending d) (channel s k)
-            (unlike (same_channel d (channel s k)) refl (λ y. apart (channel_is d (channel s k) y)))) x.2,
+            (false_from_ne_true (same_channel d (channel s k)) (λ y. apart (channel_is d (channel s k) y)))) x.2,
       ))
       (index_or_not c k)
     where
       c_inside : c < length b.lines.items
       c_inside = let a = h.all_lines in omega arith
-
-      unlike : (x : Bool) {y : Bool} → y ≡ x → (y ≡ true → ⊥) → y ≡ false
-      unlike true y n = absurd (n y)
-      unlike false y n = y
 
   counted_is : counted_by (counts os) (judged os) os (s.name p) (happening s e.event)
       ≡ met_counts (counts os) os (s.name p) ((judged os).pending d)
@@ -270,11 +267,8 @@ module _ (all : List Entry) (nameable : NameableFrom at_start all) (quiet : IsQu
             let u : clock_at b.clocks.items z.process q ≡ counts os y.0 (s.name q) =
             clock_is all nameable quiet lawful at e inside until b h z.process q z_there k
             ∙ ap (λ n. counts os n (s.name q)) its_pending.3 in
-            let v : z.place + 1 ≡ suc (made (take y.1 os) y.0) = one_more z.place _ its_pending.4 in
+            let v : z.place + 1 ≡ suc (made (take y.1 os) y.0) = next_is_suc z.place _ its_pending.4 in
             λ i. cond (t i) (max (u i) (v i)) (u i)
-          where
-            one_more : (a b : ℕ) → a ≡ b → a + 1 ≡ suc b
-            one_more a b f = omega arith
 
         whole : max (with_own (clock_at b.clocks.items) p (number_at b.made.items p + 1) q)
             (with_own (clock_at b.clocks.items) z.process (z.place + 1) q)

@@ -8,6 +8,7 @@ use Rattle.std.proofs.Math.Nat.{max-zero, max-eq_left, max_comm, le-max_right}
 use Rattle.std.proofs.lemmas.Bool.{eqb-false, ne_eqb}
 use Rattle.std.proofs.lemmas.List.{length-set}
 use Rattle.sp_base.proofs.Facts.{get_where_set}
+use Rattle.sp_journal.proofs.Facts.{below}
 use Rattle.sp_judge.specs.declared.clock.Clock.{Clock}
 use Rattle.sp_judge.specs.Clocks.{count_of, count_at, clock_at, with_own, met_at}
 use Rattle.sp_judge.proofs.Tallies.{index_or_not}
@@ -101,9 +102,6 @@ one_more_child first child count parent c0 c1 c2 before was is p q = is p q ∙ 
   where
     not_yet : (first child : ℕ) → nat_le first (first + child) && nat_lt (first + child) (first + child) ≡ false
     not_yet first child = grind (arith, nat_tests)
-
-    below : (a q b : ℕ) → q < a → nat_le a q && nat_lt q b ≡ false
-    below a q b l = grind (arith, nat_tests)
 
     at : (first child p : ℕ) → first + child ≡ p → nat_le first p && nat_lt p (first + (child + 1)) ≡ true
     at first child p e = grind (arith, nat_tests)

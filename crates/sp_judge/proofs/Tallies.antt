@@ -9,11 +9,12 @@ use Rattle.sp_base.proofs.Facts.{below_or_at, or_with_false, true_is_not_false}
 use Rattle.sp_journal.specs.Names.{Name, Channel, same_name, Happening, Opened, Forked, Offered, Ended, Faulted, Laid}
 use Rattle.sp_journal.specs.Names.{Paused, Occurrence}
 use Rattle.sp_journal.specs.Past.{Judged, learn, teach, report, now, met_now, judged_by}
+use Rattle.sp_meaning.proofs.Keys.{name_test}
 use Rattle.sp_past.specs.Prefixes.{is_counted, Counts, WaitsForNone}
 use Rattle.sp_judge.specs.Counts.{made, PlaceOf, becomes, gains, shares, gives_back, mine, theirs, both, met_counts}
 use Rattle.sp_judge.specs.Counts.{counted_by}
 use Rattle.sp_past.proofs.Keys.{name_itself, name_is}
-use Rattle.sp_past.proofs.Prefixing.{Kept, get_low, get_last}
+use Rattle.sp_past.proofs.Prefixing.{Kept, get_low, get_last, pair_second}
 
 -- counts that say which of these entries are known
 pub record Says (es : List Occurrence) (f : ℕ → Bool) (g : Name → ℕ) : Type 0 where
@@ -29,9 +30,6 @@ name_or_not p q = elim (same_name p q) as (λ b. same_name p q ≡ b → (p ≡ 
 pub index_or_not : (a b : ℕ) → (a ≡ b) ⊎ (a == b ≡ false)
 index_or_not a b = elim (a == b) as (λ c. a == b ≡ c → (a ≡ b) ⊎ (a == b ≡ false))
     [ true ↦ λ e. inl (eqb-true a b e) | false ↦ λ e. inr e ] refl
-
-same_here : (p q : Name) → p ≡ q → same_name p q ≡ true
-same_here p q e = subst (λ x. same_name p x ≡ true) e (name_itself p)
 
 pub made_last : (es : List Occurrence) (e : Occurrence) (q : Name)
     → made (es ++ e ∷ []) q ≡ cond (same_name e.who q && is_counted e.what) (suc (made es q)) (made es q)
@@ -177,9 +175,6 @@ module _ (P : (ℕ → Bool) → (Name → ℕ) → Type 0)
   gives_back_all [] past count b = b
   gives_back_all (x ∷ p) past count b = gains_all p past count b
 
-pair_second : (x y : Name × ℕ) → ◌≡◌ {A = Option (Name × ℕ)} (Some x) (Some y) → x.1 ≡ y.1
-pair_second x y e = ap (λ (z : Name × ℕ). z.1) (same_Some x y e)
-
 module _ (j : Judged) (es : List Occurrence) (count : Name → Name → ℕ) (kept : Kept j es)
     (below : (q : Name) (i : ℕ) → j.past q i ≡ true → i < length es)
     (says : (q : Name) → Says es (j.past q) (count q)) where
@@ -228,7 +223,7 @@ module _ (j : Judged) (es : List Occurrence) (count : Name → Name → ℕ) (ke
             here e =
                 let s = same_place q k (subst (λ y. PlaceOf es q y k) (sym e) p) in
                 let g : theirs count es z x q ≡ max (count z q) (suc place) =
-                ap (λ b. cond b (max (count z q) (suc place)) (count z q)) (same_here z q s.0) in
+                ap (λ b. cond b (max (count z q) (suc place)) (count z q)) ((name_test z q).1 s.0) in
                 or_right (j.past z i) (x == i) (eq-eqb x i e)
                 ∙ sym (ap (nat_lt k) g ∙ lt-ltb k (max (count z q) (suc place))
                 (let m = le-max_right (count z q) (suc place) in let y = s.1 in omega arith))
@@ -241,7 +236,7 @@ module _ (j : Judged) (es : List Occurrence) (count : Name → Name → ℕ) (ke
                     let h : j.past z i ≡ true = knows_others i k d (subst (λ r. PlaceOf es r i k) (sym e) p) in
                     let l : k < count z q = ltb-true k (count z q) (sym ((says z).says q i k p) ∙ h) in
                     let g : theirs count es z x q ≡ max (count z q) (suc place) =
-                    ap (λ b. cond b (max (count z q) (suc place)) (count z q)) (same_here z q e) in
+                    ap (λ b. cond b (max (count z q) (suc place)) (count z q)) ((name_test z q).1 e) in
                     h ∙ sym (ap (nat_lt k) g
                     ∙ lt-ltb k (max (count z q) (suc place))
                     (let m = le-max_left (count z q) (suc place) in omega arith))
@@ -256,7 +251,7 @@ module _ (j : Judged) (es : List Occurrence) (count : Name → Name → ℕ) (ke
             let l = place_few es z x place its_place in
             let m : place < made es q = subst (λ r. place < made es r) e l in
             subst (λ y. y ≤ made es q) (sym (ap (λ b. cond b (max (count z q) (suc place)) (count z q))
-            (same_here z q e))) (max-le ((says z).bound q) m))
+            ((name_test z q).1 e))) (max-le ((says z).bound q) m))
             (λ (e : same_name z q ≡ false). subst (λ y. y ≤ made es q)
             (sym (ap (λ b. cond b (max (count z q) (suc place)) (count z q)) e)) ((says z).bound q))
             (name_or_not z q)
@@ -280,7 +275,7 @@ module _ (j : Judged) (es : List Occurrence) (count : Name → Name → ℕ) (ke
           (kept.own p i (counts_of p i k o))
 
       mine_is : (q : Name) → p ≡ q → mine count es p q ≡ max (count p q) (suc (made es q))
-      mine_is q e = ap (λ b. cond b (max (count p q) (suc (made es p))) (count p q)) (same_here p q e)
+      mine_is q e = ap (λ b. cond b (max (count p q) (suc (made es p))) (count p q)) ((name_test p q).1 e)
           ∙ ap (λ r. max (count p q) (suc (made es r))) e
 
       mine_other : (q : Name) → same_name p q ≡ false → mine count es p q ≡ count p q
@@ -325,7 +320,7 @@ module _ (j : Judged) (es : List Occurrence) (count : Name → Name → ℕ) (ke
               (λ (e : p ≡ q).
               let m : made longer q ≡ suc (made es q) = made_last es entry q
               ∙ ap (λ b. cond b (suc (made es q)) (made es q))
-              (and_from (same_name p q) (is_counted h) (same_here p q e) counted) in
+              (and_from (same_name p q) (is_counted h) ((name_test p q).1 e) counted) in
               let b = (says p).bound q in
               subst (λ y. y ≤ made longer q) (sym (mine_is q e)) (max-le (omega arith) (omega arith)))
               (λ (e : same_name p q ≡ false). subst (λ y. y ≤ made longer q) (sym (mine_other q e)) ((still p).bound q))

@@ -1,9 +1,9 @@
 -- From the tables to the verdict.
 use Rattle.std.proofs.Common.{◌≡◌, ◌⊎◌, inl, inr, ⊎_elim, ℕ, zero, suc, ◌<◌, ◌≤◌, ◌↔◌, Bool, true, false, nat_lt, List}
-use Rattle.std.proofs.Common.{[], ◌∷◌, ◌++◌, take, length, append_assoc, append-nil, Option, Some, None, slice_get}
-use Rattle.std.proofs.Common.{refl, sym, ap, ◌∙◌, subst, arith}
+use Rattle.std.proofs.Common.{[], ◌∷◌, ◌++◌, take, length, append_assoc, append-nil, Some, None, slice_get, refl, sym}
+use Rattle.std.proofs.Common.{ap, ◌∙◌, subst, arith}
 use Rattle.std.proofs.lemmas.Bool.{cases_lt, false≢true, lt-ltb, ltb-true}
-use Rattle.std.proofs.lemmas.Option.{same_Some}
+use Rattle.std.proofs.lemmas.Option.{same_Some, none-some}
 use Rattle.sp_journal.specs.declared.entry.Entry.{Entry}
 use Rattle.sp_journal.specs.declared.entry.Event.{Event}
 use Rattle.sp_journal.specs.declared.entry.Event.TheVariants as event
@@ -77,10 +77,7 @@ known_at_from j done (x ∷ es) e rest k =
 
 parts_at : (es : List Occurrence) (i : ℕ) (e : Occurrence) → slice_get es i ≡ Some e → (rest : List Occurrence)
     × (es ≡ take i es ++ e ∷ rest)
-parts_at [] i e h = none_here e h
-  where
-    none_here : {A : Type 0} (a : Occurrence) → ◌≡◌ {A = Option Occurrence} None (Some a) → A
-    none_here a e = absurd (cc)
+parts_at [] i e h = absurd (none-some _ h)
 parts_at (x ∷ xs) zero e h = (xs, ap (λ y. y ∷ xs) (same_Some x e h))
 parts_at (x ∷ xs) (suc i) e h = let r = parts_at xs i e h in (r.0, ap (λ ys. x ∷ ys) r.1)
 
@@ -92,10 +89,7 @@ known_at es i e h k = let r = parts_at es i e h in
 -- an offer among the names is one among the numbers
 pub named_some : (s : Births) (es : List Entry) (i : ℕ) (o : Occurrence) → slice_get (named s es) i ≡ Some o
     → (e : Entry) × (slice_get es i ≡ Some e) × (occurrence s e ≡ o)
-named_some s [] i o h = none_here o h
-  where
-    none_here : {A : Type 0} (a : Occurrence) → ◌≡◌ {A = Option Occurrence} None (Some a) → A
-    none_here a e = absurd (cc)
+named_some s [] i o h = absurd (none-some _ h)
 named_some s (x ∷ es) zero o h = (x, refl, same_Some (occurrence s x) o h)
 named_some s (x ∷ es) (suc i) o h = named_some s es i o h
 
@@ -232,10 +226,7 @@ module _ (all : List Entry) (nameable : NameableFrom at_start all) (quiet : IsQu
         taken : (xs : List Entry) (n i : ℕ) → slice_get (take n xs) i ≡ Some x → slice_get xs i ≡ Some x
         taken [] zero i g = g
         taken [] (suc n) i g = g
-        taken (y ∷ xs) zero i g = none_here x g
-          where
-            none_here : {A : Type 0} (a : Entry) → ◌≡◌ {A = Option Entry} None (Some a) → A
-            none_here a e = absurd (cc)
+        taken (y ∷ xs) zero i g = absurd (none-some _ g)
         taken (y ∷ xs) (suc n) zero g = g
         taken (y ∷ xs) (suc n) (suc i) g = taken xs n i g
 
