@@ -43,7 +43,7 @@ use Rattle.sp_history.proofs.Queues.{number_or}
 use Rattle.sp_history.proofs.Orders.{next_yes, next_not, next_past}
 use Rattle.sp_kernel.proofs.Tables.{table_set}
 use Rattle.sp_kernel.proofs.Giving.{event_quiet, after_quiet, whole_after, there, no_waiter, next_births, parents_after}
-use Rattle.sp_kernel.proofs.Sending.{waiter_there}
+use Rattle.sp_kernel.proofs.Offering.{waiter_there}
 
 -- ---- lists
 
@@ -288,7 +288,7 @@ module _ (x : Kernel) (k : IsKernel x) (p w : ℕ) (here : (control_of x).doing 
           let place : l + (q - l) ≡ q = omega (arith, w.0, processes) in
           (its.0 ∙ place, its.1 ∙ own.1)
       go false e (inl z) = subst (λ j. NumberIn input (cond (p == j) (Some s) (slice_get x.slots j)) j) z
-          (rw (Rattle.sp_history.proofs.Queues.itself p) (f.hands.1 ∙ own.0, f.hands.2 ∙ own.1))
+          (rw (Rattle.sp_base.proofs.Facts.equals_itself p) (f.hands.1 ∙ own.0, f.hands.2 ∙ own.1))
       go false e (inr o) = rw (o.1) (k.numbers q)
 
   parented : HasParents (x.parents ++ repeat n (Some p)) (after_event b p (event.Fork n))

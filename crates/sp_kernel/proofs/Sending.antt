@@ -1,13 +1,10 @@
 -- An offer to send: it waits, it meets, or it is a fault. It leads from `specs/Sends.antt` to `Gave`.
-use Rattle.std.proofs.Common.{◌≡◌, ◌≢◌, ◌⊎◌, ℕ, ◌+◌, ◌-◌, ◌<◌, ◌==◌, inl, inr, Bool, true, false, if◌then◌else◌, nat_lt}
-use Rattle.std.proofs.Common.{List, [], ◌∷◌, ◌++◌, length, Option, Some, None, slice_get, slice_set, refl, sym, ap, ◌∙◌}
-use Rattle.std.proofs.Common.{subst}
-use Rattle.std.specs.Prelude.{slice_index_or}
-use Rattle.std.proofs.lemmas.Option.{slice_get-get_or, slice_get_within}
+use Rattle.std.proofs.Common.{◌≡◌, ℕ, ◌+◌, ◌-◌, ◌==◌, true, false, if◌then◌else◌, nat_lt, List, [], ◌∷◌, ◌++◌, Option}
+use Rattle.std.proofs.Common.{Some, None, slice_get, slice_set, refl, sym, ap, ◌∙◌, subst}
+use Rattle.std.proofs.lemmas.Option.{slice_get_within}
 use Rattle.std.proofs.lemmas.List.{length-set}
 use Rattle.sp_base.specs.declared.limits.Limits.{Limits}
 use Rattle.sp_base.specs.declared.fault.Fault.TheVariants as fault
-use Rattle.sp_base.proofs.Facts.{get_beside_set, get_where_set}
 use Rattle.sp_cell.specs.declared.cell.Cell.{Cell}
 use Rattle.sp_cell.specs.Map.{Plain}
 use Rattle.sp_journal.specs.declared.entry.Way.{Way}
@@ -36,15 +33,12 @@ use Rattle.sp_kernel.specs.Kernels.{doing_in, condition_in, offer_in, process_in
 use Rattle.sp_kernel.specs.Kernels.{WaitsAs, IsOwn, NumberIn, IsKernel, Gave}
 use Rattle.sp_kernel.specs.Sends.{waits_to_send, meets_sending, IsReceiver, Receives as Gets}
 use Rattle.sp_kernel.specs.Fits.{Fits}
-use Rattle.sp_history.proofs.Queues.{number_or}
 use Rattle.sp_kernel.proofs.Tables.{table_set}
-use Rattle.sp_kernel.proofs.Giving.{event_quiet, after_quiet, whole_after, there, no_waiter, next_doing, next_condition}
-use Rattle.sp_kernel.proofs.Giving.{next_births, same_numbers, parents_after}
+use Rattle.sp_kernel.proofs.Giving.{event_quiet, after_quiet, whole_after, next_doing, next_condition, next_births}
+use Rattle.sp_kernel.proofs.Giving.{same_numbers, parents_after}
+use Rattle.sp_kernel.proofs.Offering.{offers_with, both_set, met_offers, met_numbers}
 
 -- ---- no fault, or which
-
-abbrev pub full : Limits → ℕ → Bool
-full lim n = nat_lt lim.entries (n + 1)
 
 module _ (lim : Limits) (s : System Plain) (c k : ℕ) (cs : List Cell) (d : m.Config (Memory Plain)) where
   pub full_fault : nat_lt lim.entries (s.entries + 1) ≡ true
@@ -112,29 +106,6 @@ module _ (x : Kernel) (k : IsKernel x) (p w : ℕ) (here : (control_of x).doing 
         ∙ after_quiet (setting_of x) (system_of x) p (m.Sends c j cs) (config_of h.proc) quiet fine
         ∙ ap (λ t. after plain (setting_of x) p t (system_of x)) (sym turn_is)
 
-    first_offers : (d : ℕ) (o : Pending) → slice_get first.channels d ≡ Some (Some o)
-        → WaitsAs (slice_get first.slots o.process) d o
-    first_offers d o e = go (number_or c d)
-      where
-        some_is : {a b : Pending} → Some (Some a) ≡ Some (Some b) → a ≡ b
-        some_is e = cc
-
-        go : (c ≡ d) ⊎ ((c ≢ d) × (c == d ≡ false)) → WaitsAs (slice_get first.slots o.process) d o
-        go (inl f) =
-            let at : slice_get first.channels d ≡ Some (Some (record { way = way.Send; process = p; message = j })) =
-            subst (λ n. slice_get first.channels n
-            ≡ Some (Some (record { way = way.Send; process = p; message = j }))) f
-            (get_where_set x.channels c _ (slice_get_within x.channels c None free)) in
-            let same : ◌≡◌ {A = Pending} (record { way = way.Send; process = p; message = j }) o =
-            some_is (sym at ∙ e) in
-            subst (λ (q : Pending). WaitsAs (slice_get first.slots q.process) d q) same
-            (subst (λ s. WaitsAs s d (record { way = way.Send; process = p; message = j }))
-            (sym (get_where_set x.slots p (slot.Here r (st.Sending c j cs)) (there x k p w here))) (f, refl, refl))
-        go (inr f) =
-            let old : slice_get x.channels d ≡ Some (Some o) = sym (get_beside_set x.channels c d _ f.0) ∙ e in
-            subst (λ t. WaitsAs t d o) (sym (get_beside_set x.slots p o.process _
-            (λ q. no_waiter x k p w here d o old (sym q)))) (k.offers d o old)
-
     first_gave : Gave x p h first
     first_gave = record {
       control = first_control;
@@ -148,7 +119,9 @@ module _ (x : Kernel) (k : IsKernel x) (p w : ℕ) (here : (control_of x).doing 
           (length-set x.channels c _ ∙ k.channels
           ∙ ap (λ (b : Births). b.channels)
           (sym (next_births x k p w here (event.Send c) (slot.Here r (st.Sending c j cs)))))
-          first_offers (same_numbers x k p w here (slot.Here r (st.Sending c j cs)) its)
+          (offers_with x k p w here c (record { way = way.Send; process = p; message = j })
+          (slot.Here r (st.Sending c j cs)) refl (refl, refl, refl) free)
+          (same_numbers x k p w here (slot.Here r (st.Sending c j cs)) its)
           (parents_after x k p w here x.parents (event.Send c) k.parents);
     }
 
@@ -175,17 +148,6 @@ module _ (x : Kernel) (k : IsKernel x) (p w : ℕ) (here : (control_of x).doing 
       entries = x.entries + 1;
     }
 
-    at_z : WaitsAs (slice_get x.slots z) c (record { way = way.Receive; process = z; message = j })
-    at_z = k.offers c (record { way = way.Receive; process = z; message = j }) pending
-
-    z_there : z < length x.slots
-    z_there = go (slice_get x.slots z) refl at_z
-      where
-        go : (o : Option Slot) → slice_get x.slots z ≡ o
-            → WaitsAs o c (record { way = way.Receive; process = z; message = j }) → z < length x.slots
-        go None e f = absurd f
-        go (Some s) e f = slice_get_within x.slots z s e
-
     received_is : received plain (setting_of x) cs (condition_in (slice_get x.slots z)) ≡ Working (config_of t)
     received_is = go (slice_get x.slots z) gets
       where
@@ -201,18 +163,6 @@ module _ (x : Kernel) (k : IsKernel x) (p w : ℕ) (here : (control_of x).doing 
         go (Some (slot.Here q st.Over)) e = absurd e
         go (Some (slot.Gone q)) e = absurd e
 
-    p_there : p < length (slice_set x.slots z (slot.Here t st.Ready))
-    p_there = subst (λ n. p < n) (sym (length-set x.slots z (slot.Here t st.Ready))) (there x k p w here)
-
-    both_set : {X : Type 0} (f : Option Slot → X)
-        → ◌≡◌ {A = ℕ → X} (λ q. f (slice_get
-        (slice_set (slice_set x.slots z (slot.Here t st.Ready)) p (slot.Here r st.Ready)) q))
-        (at_key ◌==◌ p (f (Some (slot.Here r st.Ready)))
-        (at_key ◌==◌ z (f (Some (slot.Here t st.Ready))) (λ q. f (slice_get x.slots q))))
-    both_set f = table_set f (slice_set x.slots z (slot.Here t st.Ready)) p (slot.Here r st.Ready) p_there
-        ∙ ap (λ n. at_key ◌==◌ p (f (Some (slot.Here r st.Ready))) n)
-        (table_set f x.slots z (slot.Here t st.Ready) z_there)
-
   module _ (z : ℕ) (pending : slice_get x.channels c
       ≡ Some (Some (record { way = way.Receive; process = z; message = j }))) (t : Proc)
       (gets : Gets (slice_get x.slots z) cs t) where
@@ -220,7 +170,7 @@ module _ (x : Kernel) (k : IsKernel x) (p w : ℕ) (here : (control_of x).doing 
         ≡ comes_back p (event_of x.limits (system_of x) (turn_of h)) (control_of x)
     unfolding met
     met_control = (λ i. record (control_of x) {
-      doing = both_set z pending t gets doing_in i;
+      doing = both_set x k p w here c _ pending t r doing_in i;
       ready = (x.ready ++ z ∷ []) ++ p ∷ [];
       out = x.out - 1;
       pending = table_set offer_in x.channels c None (slice_get_within x.channels c _ pending) i;
@@ -233,7 +183,7 @@ module _ (x : Kernel) (k : IsKernel x) (p w : ℕ) (here : (control_of x).doing 
     met_system : system_of (met z pending t gets) ≡ after plain (setting_of x) p (turn_of h) (system_of x)
     unfolding met
     met_system = (λ i. record (system_of x) {
-      condition = (both_set z pending t gets condition_in
+      condition = (both_set x k p w here c _ pending t r condition_in
           ∙ ap (λ d. at_key ◌==◌ p (Working d) (at_key ◌==◌ z (Working (config_of t)) (system_of x).condition)) en.0
           ∙ ap (λ y. at_key ◌==◌ p (Working (entered_now (config_of h.proc))) (at_key ◌==◌ z y (system_of x).condition))
           (sym (received_is z pending t gets))) i;
@@ -246,40 +196,6 @@ module _ (x : Kernel) (k : IsKernel x) (p w : ℕ) (here : (control_of x).doing 
         { births = births x.journal.entries }) (sym (ap process_in pending))
         ∙ after_quiet (setting_of x) (system_of x) p (m.Sends c j cs) (config_of h.proc) quiet fine
         ∙ ap (λ t. after plain (setting_of x) p t (system_of x)) (sym turn_is)
-
-    met_offers : (d : ℕ) (o : Pending) → slice_get (slice_set x.channels c None) d ≡ Some (Some o)
-        → WaitsAs (slice_get (slice_set (slice_set x.slots z (slot.Here t st.Ready)) p (slot.Here r st.Ready))
-        o.process) d o
-    met_offers d o e = go (number_or c d)
-      where
-        one_channel : (s : Option Slot) (a b : Pending) → WaitsAs s c a → WaitsAs s d b → c ≡ d
-        one_channel None a b e f = absurd e
-        one_channel (Some (slot.Here q st.Ready)) a b e f = absurd e
-        one_channel (Some (slot.Out v q)) a b e f = absurd e
-        one_channel (Some (slot.Here q (st.Sending n i bs))) a b e f = sym e.0 ∙ f.0
-        one_channel (Some (slot.Here q (st.Receiving n i))) a b e f = sym e.0 ∙ f.0
-        one_channel (Some (slot.Here q (st.Joining n))) a b e f = absurd e
-        one_channel (Some (slot.Here q st.Laid)) a b e f = absurd e
-        one_channel (Some slot.Ended) a b e f = absurd e
-        one_channel (Some (slot.Here q st.Over)) a b e f = absurd e
-        one_channel (Some (slot.Gone q)) a b e f = absurd e
-
-        go : (c ≡ d) ⊎ ((c ≢ d) × (c == d ≡ false))
-            → WaitsAs (slice_get (slice_set (slice_set x.slots z (slot.Here t st.Ready)) p (slot.Here r st.Ready))
-            o.process) d o
-        go (inl f) =
-            let at : slice_get (slice_set x.channels c None) d ≡ Some None =
-            subst (λ n. slice_get (slice_set x.channels c None) n ≡ Some None) f
-            (get_where_set x.channels c None (slice_get_within x.channels c _ pending)) in
-            absurd (cc (at, e))
-        go (inr f) =
-            let old : slice_get x.channels d ≡ Some (Some o) = sym (get_beside_set x.channels c d None f.0) ∙ e in
-            let not_z : z ≢ o.process = λ q. f.0
-            (one_channel (slice_get x.slots z) _ o (at_z z pending t gets)
-            (subst (λ n. WaitsAs (slice_get x.slots n) d o) (sym q) (k.offers d o old))) in
-            subst (λ s. WaitsAs s d o) (sym (get_beside_set (slice_set x.slots z (slot.Here t st.Ready)) p o.process
-            (slot.Here r st.Ready) (λ q. no_waiter x k p w here d o old (sym q))
-            ∙ get_beside_set x.slots z o.process (slot.Here t st.Ready) not_z)) (k.offers d o old)
 
     got_number : IsOwn (setting_of x).input t z
     got_number = go (slice_get x.slots z) gets (k.numbers z)
@@ -296,27 +212,6 @@ module _ (x : Kernel) (k : IsKernel x) (p w : ℕ) (here : (control_of x).doing 
         go (Some (slot.Here q st.Over)) e n = absurd e
         go (Some (slot.Gone q)) e n = absurd e
 
-    met_numbers : (q : ℕ) → NumberIn (setting_of x).input
-        (slice_get (slice_set (slice_set x.slots z (slot.Here t st.Ready)) p (slot.Here r st.Ready)) q) q
-    met_numbers q = go (number_or p q) (number_or z q)
-      where
-        go : (p ≡ q) ⊎ ((p ≢ q) × (p == q ≡ false)) → (z ≡ q) ⊎ ((z ≢ q) × (z == q ≡ false))
-            → NumberIn (setting_of x).input (slice_get
-            (slice_set (slice_set x.slots z (slot.Here t st.Ready)) p (slot.Here r st.Ready)) q) q
-        go (inl is) o = subst (λ i. NumberIn (setting_of x).input
-            (slice_get (slice_set (slice_set x.slots z (slot.Here t st.Ready)) p (slot.Here r st.Ready)) i) i) is
-            (subst (λ s. NumberIn (setting_of x).input s p)
-            (sym (get_where_set (slice_set x.slots z (slot.Here t st.Ready)) p (slot.Here r st.Ready)
-            (p_there z pending t gets))) its)
-        go (inr n) (inl is) = subst (λ s. NumberIn (setting_of x).input s q)
-            (sym (get_beside_set (slice_set x.slots z (slot.Here t st.Ready)) p q (slot.Here r st.Ready) n.0))
-            (subst (λ i. NumberIn (setting_of x).input (slice_get (slice_set x.slots z (slot.Here t st.Ready)) i) i) is
-            (subst (λ s. NumberIn (setting_of x).input s z)
-            (sym (get_where_set x.slots z (slot.Here t st.Ready) (z_there z pending t gets))) got_number))
-        go (inr n) (inr o) = subst (λ s. NumberIn (setting_of x).input s q)
-            (sym (get_beside_set (slice_set x.slots z (slot.Here t st.Ready)) p q (slot.Here r st.Ready) n.0
-            ∙ get_beside_set x.slots z q (slot.Here t st.Ready) o.0)) (k.numbers q)
-
     met_gave : Gave x p h (met z pending t gets)
     unfolding met
     met_gave = record {
@@ -329,7 +224,9 @@ module _ (x : Kernel) (k : IsKernel x) (p w : ℕ) (here : (control_of x).doing 
           ∙ ap (λ (b : Births). b.processes) (sym (next_births x k p w here (event.Send c) (slot.Here r st.Ready))))
           (length-set x.channels c _ ∙ k.channels
           ∙ ap (λ (b : Births). b.channels) (sym (next_births x k p w here (event.Send c) (slot.Here r st.Ready))))
-          met_offers met_numbers (parents_after x k p w here x.parents (event.Send c) k.parents);
+          (met_offers x k p w here c _ pending t r)
+          (met_numbers x k p w here c _ pending t r got_number its)
+          (parents_after x k p w here x.parents (event.Send c) k.parents);
     }
 
     pub gave_met : Gave x p h (meets_sending r t c z x)
@@ -370,11 +267,6 @@ clash_other (Some (slot.Here r st.Laid)) c k q e f = absurd e
 clash_other (Some slot.Ended) c k q e f = absurd e
 clash_other (Some (slot.Here r st.Over)) c k q e f = absurd e
 clash_other (Some (slot.Gone r)) c k q e f = absurd e
-
--- what is pending, read from the table
-pub table_has : {X : Type 0} (xs : List X) (i : ℕ) (d y : X) → i < length xs → slice_index_or xs i d ≡ y
-    → slice_get xs i ≡ Some y
-table_has xs i d y l e = slice_get-get_or xs i d l ∙ ap (λ z. Some z) e
 
 -- with nothing, with one of its way, with one of the other way pending
 module _ (x : Kernel) (k : IsKernel x) (c j : ℕ) (cs : List Cell) (d : m.Config (Memory Plain))
@@ -428,11 +320,3 @@ receiver_takes x k w h c j cs is quiet fine fits q e f = go (slice_get x.slots q
     go (Some slot.Ended) s e2 = absurd e2
     go (Some (slot.Here r st.Over)) s e2 = absurd e2
     go (Some (slot.Gone r)) s e2 = absurd e2
-
-pub waiter_there : (x : Kernel) (k : IsKernel x) (c : ℕ) (q : Pending) → slice_get x.channels c ≡ Some (Some q)
-    → q.process < length x.slots
-waiter_there x k c q e = go (slice_get x.slots q.process) refl (k.offers c q e)
-  where
-    go : (o : Option Slot) → slice_get x.slots q.process ≡ o → WaitsAs o c q → q.process < length x.slots
-    go None s f = absurd f
-    go (Some t) s f = slice_get_within x.slots q.process t s

@@ -1,7 +1,7 @@
 -- Each call of the kernel that leaves a note is a step of the control and the system of the definitions (`Notes`).
-use Rattle.std.proofs.Common.{◌≡◌, ◌≢◌, ◌⊎◌, ℕ, ◌+◌, ◌-◌, ◌<◌, ◌≤◌, ◌==◌, ◌||◌, nat_lt, inl, inr, Bool, true, false}
-use Rattle.std.proofs.Common.{cond, if◌then◌else◌, List, [], ◌∷◌, ◌++◌, length, length-append, Option, Some, None}
-use Rattle.std.proofs.Common.{slice_set, refl, sym, ap, ◌∙◌, subst, arith}
+use Rattle.std.proofs.Common.{◌≡◌, ◌≢◌, ℕ, ◌+◌, ◌-◌, ◌<◌, ◌≤◌, ◌==◌, ◌||◌, nat_lt, Bool, true, false, if◌then◌else◌}
+use Rattle.std.proofs.Common.{List, [], ◌∷◌, ◌++◌, length, length-append, Option, Some, None, slice_set, refl, sym, ap}
+use Rattle.std.proofs.Common.{◌∙◌, subst, arith}
 use Rattle.std.specs.Option.{option_map}
 use Rattle.sp_cell.specs.Map.{Plain}
 use Rattle.sp_journal.specs.declared.entry.Way.{Way}
@@ -30,11 +30,9 @@ use Rattle.sp_kernel.specs.Kernels.{Takes, Gave, Abandons}
 use Rattle.sp_kernel.specs.Fits.{Fits}
 use Rattle.sp_kernel.specs.Asks.{Notes, Answers, FitsAsk}
 use Rattle.sp_history.specs.Agreement.{IsOrderly, Agrees}
-use Rattle.std.proofs.Math.Path.{fun_ext}
 use Rattle.std.proofs.lemmas.List.{length-set}
 use Rattle.sp_history.proofs.Legal.{orderly_gives_up, agrees_gives_up}
-use Rattle.sp_history.proofs.Queues.{itself, number_or}
-use Rattle.sp_kernel.proofs.Tables.{table_set}
+use Rattle.sp_kernel.proofs.Tables.{table_set, set_as_it_was}
 use Rattle.sp_kernel.proofs.Taking.{over_none}
 use Rattle.sp_kernel.proofs.Giving.{there, same_offers, same_numbers}
 
@@ -170,13 +168,6 @@ module _ (x : Kernel) (k : IsKernel x) (w : ℕ) where
     abbrev lost : Kernel
     lost = record x { slots = slice_set x.slots q s; out = x.out - 1; abandons = x.abandons + 1 }
 
-    itself_at : {X : Type 0} (m : ℕ → X) (v : X) → v ≡ m q → at_key ◌==◌ q v m ≡ m
-    itself_at m v f = fun_ext (λ r. go r (number_or q r))
-      where
-        go : (r : ℕ) → (q ≡ r) ⊎ ((q ≢ r) × (q == r ≡ false)) → cond (q == r) v (m r) ≡ m r
-        go r (inl is) = subst (λ i. cond (q == i) v (m i) ≡ m i) is (rw (itself q) f)
-        go r (inr o) = rw (o.1) refl
-
     lost_control : control_of lost ≡ abandons (Some q) (control_of x)
     lost_control = λ i. record (control_of x) {
       doing = (table_set doing_in x.slots q s (there x k q w out)
@@ -189,7 +180,7 @@ module _ (x : Kernel) (k : IsKernel x) (w : ℕ) where
     lost_system = λ i. record (system_of x) {
       condition =
           (table_set condition_in x.slots q s (there x k q w out)
-          ∙ itself_at (system_of x).condition (condition_in (Some s)) runs) i;
+          ∙ set_as_it_was (system_of x).condition q (condition_in (Some s)) runs) i;
     }
 
     is_mine : (p : ℕ) → Some q ≡ Some p → (control_of x).doing p ≡ Out w

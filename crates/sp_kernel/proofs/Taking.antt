@@ -1,8 +1,7 @@
 -- What is taken is the front of the queue: from the tables after a call of `take` to `Takes`.
-use Rattle.std.proofs.Common.{◌≡◌, ◌≢◌, ◌⊎◌, ℕ, ◌+◌, ◌<◌, ◌==◌, ◌||◌, inl, inr, Bool, true, false, cond, if◌then◌else◌}
-use Rattle.std.proofs.Common.{nat_lt, List, [], ◌∷◌, length, Some, None, slice_get, slice_set, refl, sym, ap}
-use Rattle.std.proofs.Common.{◌∙◌, subst}
-use Rattle.std.proofs.Math.Path.{fun_ext}
+use Rattle.std.proofs.Common.{◌≡◌, ◌≢◌, ◌⊎◌, ℕ, ◌+◌, ◌<◌, ◌==◌, ◌||◌, inl, inr, Bool, true, false, if◌then◌else◌}
+use Rattle.std.proofs.Common.{nat_lt, List, [], ◌∷◌, length, Some, None, slice_get, slice_set, refl, sym, ap, ◌∙◌}
+use Rattle.std.proofs.Common.{subst}
 use Rattle.std.proofs.lemmas.List.{length-set}
 use Rattle.std.proofs.lemmas.Option.{slice_get_within}
 use Rattle.sp_base.proofs.Facts.{get_beside_set, get_where_set}
@@ -20,9 +19,9 @@ use Rattle.sp_kernel.specs.Procs.{config_of}
 use Rattle.sp_kernel.specs.Kernels.{doing_in, condition_in, control_of, system_of, setting_of, WaitsAs, NumberIn, IsOwn}
 use Rattle.sp_kernel.specs.Kernels.{IsKernel, Takes, is_over}
 use Rattle.sp_history.specs.Agreement.{Each, IsGot}
-use Rattle.sp_history.proofs.Queues.{itself, number_or}
+use Rattle.sp_history.proofs.Queues.{number_or}
 use Rattle.sp_history.proofs.Agreeing.{agrees_takes, orderly_takes}
-use Rattle.sp_kernel.proofs.Tables.{table_set}
+use Rattle.sp_kernel.proofs.Tables.{table_set, set_as_it_was}
 
 front_none : (k : Control) (st : Standing) (r : List ℕ) → front_of r ≡ None → front_while st r ≡ None
 front_none k Running r e = e
@@ -84,13 +83,6 @@ module _ (x : Kernel) (k : IsKernel x) (w q : ℕ) (goes : is_over (control_of x
   q_there : q < length x.slots
   q_there = slice_get_within x.slots q (slot.Here p st.Ready) here
 
-  itself_at : {X : Type 0} (m : ℕ → X) (v : X) → v ≡ m q → at_key ◌==◌ q v m ≡ m
-  itself_at m v f = fun_ext (λ r. go r (number_or q r))
-    where
-      go : (r : ℕ) → (q ≡ r) ⊎ ((q ≢ r) × (q == r ≡ false)) → cond (q == r) v (m r) ≡ m r
-      go r (inl is) = subst (λ i. cond (q == i) v (m i) ≡ m i) is (rw (itself q) f)
-      go r (inr o) = rw (o.1) refl
-
   control : control_of taken ≡ takes w (Some q) (control_of x)
   control = λ i. record (control_of x) {
     doing =
@@ -103,7 +95,7 @@ module _ (x : Kernel) (k : IsKernel x) (w q : ℕ) (goes : is_over (control_of x
   system = λ i. record (system_of x) {
     condition =
         (table_set condition_in x.slots q s q_there
-        ∙ itself_at (system_of x).condition (condition_in (Some s)) (runs ∙ sym (ap condition_in here))) i;
+        ∙ set_as_it_was (system_of x).condition q (condition_in (Some s)) (runs ∙ sym (ap condition_in here))) i;
   }
 
   offers : (c : ℕ) (o : Pending) → slice_get x.channels c ≡ Some (Some o)

@@ -67,20 +67,21 @@ pub writes_store : (slots : List Slot) (bs : List ℕ) (w : Writes slots bs)
     → (store_in (condition_in (slice_get slots w.process)) ≡ Some w.proc.store) × (plain.output w.proc.store ≡ Some bs)
 writes_store slots bs w = (ap (λ o. store_in (condition_in o)) w.at ∙ store_here w.proc w.state, w.output)
 
-none_first : (o r : Option (List ℕ)) → or_rest o r ≡ None → (o ≡ None) × (r ≡ None)
-none_first None r e = (refl, e)
-none_first (Some bs) r e = absurd (cc e)
+pub or_rest_none : (o r : Option (List ℕ)) → or_rest o r ≡ None → (o ≡ None) × (r ≡ None)
+or_rest_none None r e = (refl, e)
+or_rest_none (Some bs) r e = absurd (cc e)
 
 -- who is here does not hold it, where none is found
 pub none_writes : (slots : List Slot) → written slots ≡ None → (q : ℕ) (m : Plain) (bs : List ℕ)
     → ((w : ℕ) → doing_in (slice_get slots q) ≡ Out w → ⊥) → (doing_in (slice_get slots q) ≡ Gone → ⊥)
     → store_in (condition_in (slice_get slots q)) ≡ Some m → plain.output m ≡ Some bs → ⊥
 none_writes [] e q m bs o g h x = absurd (cc h)
-none_writes (s ∷ ss) e (suc q) m bs o g h x = none_writes ss (none_first (written_in s) (written ss) e).1 q m bs o g h x
+none_writes (s ∷ ss) e (suc q) m bs o g h x =
+    none_writes ss (or_rest_none (written_in s) (written ss) e).1 q m bs o g h x
 none_writes (slot.Here p s ∷ ss) e zero m bs o g h x =
     let same : p.store ≡ m = same_Some _ _ (sym (store_here p s) ∙ h) in
     let y : written_by p ≡ Some bs = ap (λ (n : Plain). plain.output n) same ∙ x in
-    let n : written_by p ≡ None = (none_first (written_by p) (written ss) e).0 in
+    let n : written_by p ≡ None = (or_rest_none (written_by p) (written ss) e).0 in
     none-some bs (sym n ∙ y)
 none_writes (slot.Out v p ∷ ss) e zero m bs o g h x = o v refl
 none_writes (slot.Ended ∷ ss) e zero m bs o g h x = absurd (cc h)

@@ -14,6 +14,7 @@ use Rattle.sp_code.specs.Control.{entry_of}
 use Rattle.sp_code.specs.System.{System, Working, opening, IsSystem}
 use Rattle.sp_room.specs.History.{LeadsTo as Told, notes_by, StartsWith, either_list}
 use mathlib.Core.List.{append-nil}
+use Rattle.sp_base.proofs.Facts.{equals_itself}
 use Rattle.sp_kernel.specs.declared.handed.Handed.{Handed}
 use Rattle.sp_machine.specs.declared.state.Stop.{Stop}
 use Rattle.sp_machine.specs.declared.state.Stop.TheVariants as stop
@@ -34,7 +35,6 @@ use Rattle.sp_history.specs.Spoken.{IsSpoken}
 use Rattle.sp_history.proofs.Speaking.{system_spoken, turn_spoken}
 use Rattle.sp_history.proofs.Families.{parent_joins, children_all, children_start}
 use Rattle.sp_history.specs.Agreement.{Reaches, NoneBy}
-use Rattle.sp_history.proofs.Queues.{itself}
 use Rattle.sp_history.proofs.Agreeing.{agrees_start, orderly_start}
 use Rattle.sp_history.proofs.Legal.{reaches_keeps, reaches_leads, reaches_same, reaches_front, stays}
 
@@ -141,7 +141,7 @@ none_by w (n ∷ ns) e = go (n.worker == w) refl e (λ h. none_by w ns h)
         → (n.worker ≢ w) × NoneBy w ns
     go true f h on = absurd (cc h)
     go false f h on = (
-      (λ is. let t : n.worker == w ≡ true = subst (λ y. n.worker == y ≡ true) is (itself n.worker) in
+      (λ is. let t : n.worker == w ≡ true = subst (λ y. n.worker == y ≡ true) is (equals_itself n.worker) in
           absurd (cc (f, t))),
       on h,
     )

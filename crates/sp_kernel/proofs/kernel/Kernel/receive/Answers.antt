@@ -14,7 +14,8 @@ use Rattle.sp_kernel.proofs.Giving.{there}
 use Rattle.sp_kernel.proofs.Failing.{failed, is_full, not_full}
 use Rattle.sp_kernel.proofs.Receiving.{full_fault, fault_free, fault_same, fault_other, sender_fits, gave_first}
 use Rattle.sp_kernel.proofs.Receiving.{gave_met}
-use Rattle.sp_kernel.proofs.Sending.{table_has, waiter_there}
+use Rattle.sp_kernel.proofs.Tables.{table_has}
+use Rattle.sp_kernel.proofs.Offering.{waiter_there}
 use Rattle.sp_kernel.proofs.kernel.Kernel.receive.Goals as goal
 
 abbrev receives : Proc → ℕ → ℕ → Handed

@@ -13,8 +13,10 @@ use Rattle.sp_kernel.specs.Kernels.{system_of, Gave}
 use Rattle.sp_kernel.specs.Procs.{config_of}
 use Rattle.sp_kernel.proofs.Giving.{there}
 use Rattle.sp_kernel.proofs.Failing.{failed, is_full, not_full}
-use Rattle.sp_kernel.proofs.Sending.{full_fault, fault_free, fault_same, fault_other, receiver_takes, table_has}
-use Rattle.sp_kernel.proofs.Sending.{gave_first, gave_met, waiter_there}
+use Rattle.sp_kernel.proofs.Sending.{full_fault, fault_free, fault_same, fault_other, receiver_takes}
+use Rattle.sp_kernel.proofs.Sending.{gave_first, gave_met}
+use Rattle.sp_kernel.proofs.Tables.{table_has}
+use Rattle.sp_kernel.proofs.Offering.{waiter_there}
 use Rattle.sp_kernel.proofs.kernel.Kernel.send.Goals as goal
 
 abbrev sends : Proc → ℕ → ℕ → Rattle.std.proofs.Common.List Cell → Handed
