@@ -4,7 +4,7 @@ mod Standing
 mod Chains
 mod TableLaws
 pub mod Numbers
-mod Fronts
+pub mod Fronts
 mod BenchLaws
 mod OfferLaws
 mod VerdictLaws

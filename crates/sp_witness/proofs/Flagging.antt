@@ -3,19 +3,20 @@ use Rattle.std.proofs.Common.{◌≡◌, ℕ, zero, suc, ◌+◌, ◌<◌, ◌�
 use Rattle.std.proofs.Common.{◌∷◌, ◌++◌, map, take, drop, Option, Some, None, slice_get, refl, sym, ap, ◌∙◌, subst}
 use Rattle.std.proofs.Common.{arith}
 use Rattle.std.proofs.lemmas.List.{take-append-drop}
-use Rattle.std.proofs.lemmas.Option.{none-some}
+use Rattle.sp_base.proofs.Facts.{get_of_map}
 use Rattle.sp_journal.specs.declared.entry.Event.{Event}
 use Rattle.sp_journal.specs.declared.entry.Event.TheVariants as event
 use Rattle.sp_journal.specs.declared.entry.Entry.{Entry}
 use Rattle.sp_journal.specs.declared.entry.Birth.{Birth}
 use Rattle.sp_journal.specs.Maps.{at_key}
-use Rattle.sp_journal.specs.Names.{Name, Channel, same_name, Occurrence}
+use Rattle.sp_journal.specs.Names.{Name, same_name, Occurrence}
 use Rattle.sp_journal.specs.Births.{Births, at_start, after_event, after_entry, births_from, births, channel, CanFollow}
 use Rattle.sp_journal.specs.Births.{GivesNumbers, NameableFrom, happening, occurrence, occurrences_from}
 use Rattle.sp_journal.specs.Past.{Judged, judged_by, met_now, nothing_judged}
 use Rattle.sp_journal.proofs.BirthLaws.{Lawful, lawful, parent_older, name_by_birth, name_of_root}
 use Rattle.sp_journal.proofs.Walk.{birth_stays}
 use Rattle.sp_judge.proofs.Numbers.{Stays, stays, same_process, same_chan, children_named, all_named}
+use Rattle.sp_judge.proofs.Fronts.{forks_by}
 use Rattle.sp_witness.specs.Witness.{who_of, who_at}
 use Rattle.sp_witness.specs.Needed.{any_child, parent_is, needed_to_meet, needed_before, needed, taken, needed_marks}
 use Rattle.sp_witness.specs.Flags.{any_flag, parent_flag, flags_to_meet, flags_before, line_by, lines_after, flags}
@@ -116,26 +117,7 @@ module _ (t : Births) (law : Lawful t) where
 
     forks_after : (n p : ℕ) → p < t.processes
         → (judged_by j n (t.name e.process) (happening t e.event)).forks (t.name p) ≡ (after_entry s e).forks p
-    forks_after n p k = by e.event
-      where
-        met : (c : Channel) (o : Option (Name × ℕ)) → (met_now j (t.name e.process) n c o).forks ≡ j.forks
-        met c None = refl
-        met c (Some o) = refl
-
-        by : (v : Event) → (judged_by j n (t.name e.process) (happening t v)).forks (t.name p)
-            ≡ (after_event s e.process v).forks p
-        by (event.Fork m) =
-            let a = same_process t law e.process p there k in
-            let b = forks e.process there in
-            let c = forks p k in
-            λ i. cond (sym a i) (b i + 1) (c i)
-        by event.Open = forks p k
-        by (event.Send c) = ap (λ f. f (t.name p)) (met (channel t c) (j.pending (channel t c))) ∙ forks p k
-        by (event.Receive c) = ap (λ f. f (t.name p)) (met (channel t c) (j.pending (channel t c))) ∙ forks p k
-        by event.End = forks p k
-        by (event.Fault f) = forks p k
-        by event.Laid = forks p k
-        by event.Pause = forks p k
+    forks_after n p k = forks_by t law j n s e there forks p k
 
     waits_after : (n d : ℕ) → d < t.channels
         → Matches t (lines_after lines e.process e.event d)
@@ -227,16 +209,6 @@ take_map f zero xs = refl
 take_map f (suc n) [] = refl
 take_map f (suc n) (x ∷ xs) = ap (λ z. f x ∷ z) (take_map f n xs)
 
-get_map : {A B : Type 0} (f : A → B) (n : ℕ) (xs : List A) (x : A) → slice_get xs n ≡ Some x
-    → slice_get (map f xs) n ≡ Some (f x)
-get_map f n [] x h = absurd (none-some _ h)
-get_map f zero (y ∷ xs) x h = ap (option_of f) h
-  where
-    option_of : {C D : Type 0} → (C → D) → Option C → Option D
-    option_of g None = None
-    option_of g (Some c) = Some (g c)
-get_map f (suc n) (y ∷ xs) x h = get_map f n xs x h
-
 -- a nameable journal's picks are what the pass by names takes
 pub picks_taken : (es : List Entry) → NameableFrom at_start es → (earlier later : ℕ) (two : Entry)
     → slice_get es later ≡ Some two
@@ -248,7 +220,7 @@ picks_taken es f earlier later two got =
     let os = occurrences_from at_start es in
     let named : os ≡ map (occurrence t) es = all_named es f in
     let who : who_at os later ≡ t.name two.process = ap (λ xs. who_of (slice_get xs later)) named
-    ∙ ap who_of (get_map (occurrence t) later es two got) in
+    ∙ ap who_of (get_of_map (occurrence t) es later two got) in
     let split : take later es ++ drop later es ≡ es = take-append-drop later es in
     let room : two.process < t.processes = process_there es later two got f in
     (agree t (lawful es f) os earlier later two.process room (sym who) at_start (λ c. None) nothing_judged 0
@@ -287,7 +259,7 @@ marks_taken es f earlier later two got =
     let os = occurrences_from at_start es in
     let named : os ≡ map (occurrence t) es = all_named es f in
     let who : who_at os later ≡ t.name two.process = ap (λ xs. who_of (slice_get xs later)) named
-    ∙ ap who_of (get_map (occurrence t) later es two got) in
+    ∙ ap who_of (get_of_map (occurrence t) es later two got) in
     let split : take later es ++ drop later es ≡ es = take-append-drop later es in
     let room : two.process < t.processes = process_there es later two got f in
     (agree t (lawful es f) os earlier later two.process room (sym who) at_start (λ c. None) nothing_judged 0

@@ -29,7 +29,7 @@ use Rattle.sp_meaning.proofs.Parallel.{parallel}
 use Rattle.sp_race.specs.Notes.{Event, both, Notes, Note, Counts, Learns, Records, noted, all_noted, mine, knows}
 use Rattle.sp_race.specs.Notes.{same_event, teaches, tells, other_way, offer_notes, notes_of}
 use Rattle.sp_race.specs.Noting.{WithNotes}
-use Rattle.sp_race.proofs.NotesFrames.{event_test}
+use Rattle.sp_race.proofs.NotesFrames.{event_test, both_right, both_kept}
 use Rattle.sp_race.proofs.GoodSteps.{GoodStep, steps, quiet_after, leads_on, happens_later, TakesPart, writer}
 use Rattle.sp_race.proofs.GoodSteps.{part_alone, events_kept, past_kept}
 
@@ -128,15 +128,6 @@ ended_before (c ∷ cs) t r n h = ended_before cs (changed c t) r n h
 abbrev head_child : Name → ℕ
 head_child [] = 0
 head_child (x ∷ p) = x.1
-
--- what a child learns at its birth
-both_right : (b : Bool) (f k : Event → Bool) (e : Event) → b ≡ true → k e ≡ true → cond b (both f k) f e ≡ true
-both_right true f k e is h = or_right (f e) (k e) h
-both_right false f k e is h = absurd (cc is)
-
-both_kept : (b : Bool) (f k : Event → Bool) (e : Event) → f e ≡ true → cond b (both f k) f e ≡ true
-both_kept true f k e h = rw h refl
-both_kept false f k e h = h
 
 pub past_grows : (xs : List Note) (n : Notes) (q : Name) (e : Event) → n.past q e ≡ true
     → (all_noted xs n).past q e ≡ true

@@ -10,18 +10,13 @@ use Rattle.sp_journal.specs.Past.{Judged, judged_by, judged, nothing_judged, Kno
 use Rattle.sp_race.specs.Known.{AreKnown}
 use Rattle.sp_race.proofs.Completion.{ordered_known}
 use Rattle.sp_judge.specs.Races.{KnowsCompletion, IsLeastRace}
-use Rattle.sp_witness.proofs.Pasts.{Stage, next_stage}
+use Rattle.sp_witness.proofs.Pasts.{Stage, next_stage, get_at}
 
 pub get_front : (xs ys : List Occurrence) (i : ℕ) (e : Occurrence) → slice_get xs i ≡ Some e
     → slice_get (xs ++ ys) i ≡ Some e
 get_front [] ys i e h = absurd (none-some _ h)
 get_front (x ∷ xs) ys zero e h = h
 get_front (x ∷ xs) ys (suc i) e h = get_front xs ys i e h
-
-pub get_at : (xs : List Occurrence) (e : Occurrence) (ys : List Occurrence) (n : ℕ) → length xs ≡ n
-    → slice_get (xs ++ e ∷ ys) n ≡ Some e
-get_at [] e ys n h = subst (λ z. slice_get (e ∷ ys) z ≡ Some e) h refl
-get_at (x ∷ xs) e ys n h = subst (λ z. slice_get (x ∷ (xs ++ e ∷ ys)) z ≡ Some e) h (get_at xs e ys (length xs) refl)
 
 module _ (es : List Occurrence) (w : Way) (c : Channel) (earlier later : ℕ)
     (least : IsLeastRace es w c earlier later) where

@@ -4,6 +4,7 @@ use Rattle.std.proofs.Common.{◌≡◌, ◌≢◌, ℕ, suc, ◌<◌, Bool, tru
 use Rattle.std.proofs.Common.{take, take_at, Option, Some, None, slice_get, eqb-true, refl, sym, ap, ◌∙◌, subst, arith}
 use Rattle.std.proofs.lemmas.Bool.{false_from_ne_true, false≢true}
 use Rattle.sp_base.specs.declared.fault.Fault.TheVariants as fault
+use Rattle.sp_base.proofs.Facts.{get_of_map}
 use Rattle.sp_journal.specs.declared.entry.Event.TheVariants as event
 use Rattle.sp_journal.specs.declared.entry.Entry.{Entry}
 use Rattle.sp_journal.specs.declared.entry.Journal.{Journal}
@@ -33,7 +34,7 @@ use Rattle.sp_witness.proofs.PassLaw.{below_at}
 use Rattle.sp_witness.proofs.Flagging.{marks_taken, take_map}
 use Rattle.sp_witness.proofs.Finding.{picked_part}
 use Rattle.sp_witness.proofs.Moved.{AreMarks}
-use Rattle.sp_witness.proofs.Tables.{tables_number, get_map}
+use Rattle.sp_witness.proofs.Tables.{tables_number}
 
 -- the marks are one for each entry, and select what is picked
 module _ (earlier last : ℕ) where
@@ -120,7 +121,7 @@ numbers_by_tables j named quiet clean earlier later lt one two got_one got_two p
     let front = take later es in
     let all : os ≡ map (occurrence t) es = all_named es named in
     let got : slice_get os later ≡ Some (occurrence t two) = ap (λ xs. slice_get xs later) all
-    ∙ get_map (occurrence t) later es two got_two in
+    ∙ get_of_map (occurrence t) es later two got_two in
     let b = cut_at os later (occurrence t two) got in
     let size = b.size in
     let front_is : b.before ≡ map (occurrence t) front =

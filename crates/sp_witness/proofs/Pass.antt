@@ -14,8 +14,7 @@ use Rattle.sp_past.proofs.Keys.{name_is, name_itself}
 use Rattle.sp_witness.specs.Witness.{who_of, who_at, past_before, is_pause, is_known, offers_after, is_member, is_among}
 use Rattle.sp_witness.specs.Witness.{members}
 use Rattle.sp_witness.specs.Needed.{needed_before, needed, taken, needed_marks}
-use Rattle.sp_witness.proofs.Pasts.{Stage, next_stage, past_here}
-use Rattle.sp_witness.proofs.Order.{get_at}
+use Rattle.sp_witness.proofs.Pasts.{Stage, next_stage, past_here, get_at}
 use Rattle.sp_witness.proofs.Standing.{Stands, stands_next}
 use Rattle.sp_witness.proofs.Passing.{Has, Someone, IsCounted, more, passed, newly, pends_after, none_yet}
 

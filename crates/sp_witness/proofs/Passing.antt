@@ -12,7 +12,7 @@ use Rattle.sp_journal.specs.Names.{Faulted, Laid, Paused}
 use Rattle.sp_journal.specs.Past.{Judged, learn, teach, report, now, met_now, judged_by}
 use Rattle.sp_past.specs.Prefixes.{WaitsForNone}
 use Rattle.sp_past.proofs.Keys.{name_is, name_itself, channel_is, channel_itself}
-use Rattle.sp_past.proofs.Prefixing.{learn_more, teach_more, report_more}
+use Rattle.sp_past.proofs.Prefixing.{learn_more, teach_more, report_more, learn_here}
 use Rattle.sp_witness.specs.Needed.{any_child, parent_is, needed_to_meet, needed_before}
 
 -- what is learned, and by whom
@@ -26,11 +26,6 @@ learn_is p known past q i h = by (same_name p q) (name_is p q) h
     by true f h = ⊎_elim (λ (x : past q i ≡ true). inl x) (λ (x : known i ≡ true). inr (f refl, x))
         (or_cases (past q i) (known i) h)
     by false f h = inl h
-
-learn_here : (p : Name) (known : ℕ → Bool) (past : Name → ℕ → Bool) (i : ℕ) → known i ≡ true
-    → learn p known past p i ≡ true
-learn_here p known past i h = ap (λ t. cond t (past p i || known i) (past p i)) (name_itself p)
-    ∙ or_right (past p i) (known i) h
 
 -- child k of the fork
 abbrev IsChildAt : Name → ℕ → ℕ → ℕ → Name → Type 0

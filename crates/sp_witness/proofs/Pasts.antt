@@ -57,7 +57,7 @@ pub judged_append : (xs ys : List Occurrence) → judged (xs ++ ys) ≡ judged_f
 judged_append xs ys = let e : 0 + length xs ≡ length xs = omega arith in from_append nothing_judged 0 xs ys
     ∙ ap (λ z. judged_from (judged xs) z ys) e
 
-get_at : (xs : List Occurrence) (e : Occurrence) (ys : List Occurrence) (n : ℕ) → length xs ≡ n
+pub get_at : (xs : List Occurrence) (e : Occurrence) (ys : List Occurrence) (n : ℕ) → length xs ≡ n
     → slice_get (xs ++ e ∷ ys) n ≡ Some e
 get_at [] e ys n h = subst (λ z. slice_get (e ∷ ys) z ≡ Some e) h refl
 get_at (x ∷ xs) e ys n h = subst (λ z. slice_get (x ∷ (xs ++ e ∷ ys)) z ≡ Some e) h (get_at xs e ys (length xs) refl)

@@ -31,7 +31,7 @@ use Rattle.sp_witness.specs.Witness.{is_among, members, first_part, witness}
 use Rattle.sp_witness.specs.Contention.{IsContention, Shows}
 use Rattle.sp_witness.proofs.Moving.{Head, Free, MarkedFree, Cuts, Tag, Block, heads, kept, left, Ready, Runs}
 use Rattle.sp_witness.proofs.Moving.{BlockRuns, EachFree, parted, in_front, ready_of, ready_back, ready_before}
-use Rattle.sp_witness.proofs.Pasts.{heads_from, Stage, past_here, MarksAre, cuts_from}
+use Rattle.sp_witness.proofs.Pasts.{heads_from, Stage, past_here, MarksAre, cuts_from, get_at}
 use Rattle.sp_witness.proofs.Ticks.{said_same}
 use Rattle.sp_witness.proofs.Blocks.{AllQuiet, Valid, since_all, AllValid}
 use Rattle.sp_witness.proofs.Walking.{beside, tag_of, knows_so, Turned, turned, Walked, walked}
@@ -40,7 +40,6 @@ use Rattle.sp_witness.proofs.Parts.{UnmarkedFree, mark_in, marks_are, marks_afte
 use Rattle.sp_witness.proofs.Parts.{left_append, kept_append, kept_valid, since_kept, since_stays, since_append}
 use Rattle.sp_witness.proofs.Parts.{valid_second, cuts_second, Split, split, heads_append}
 use Rattle.sp_witness.proofs.Contending.{Offers, offers_of, waits_here, blocks_fit, contends}
-use Rattle.sp_witness.proofs.Order.{get_at}
 use Rattle.sp_witness.proofs.Standing.{Stands, nothing_stands, stands_from}
 use Rattle.sp_witness.proofs.Witnessing.{quiet_front, clean_front, runs_split, runs_join, entries_join, valid_join}
 use Rattle.sp_witness.proofs.Witnessing.{LastStep, last_step, quiet_pending, quiet_condition, Pends, quiet_pends}

@@ -2,8 +2,8 @@
 use Rattle.std.proofs.Common.{◌≡◌, ℕ, zero, suc, ◌<◌, ◌≤◌, Bool, false, List, [], ◌∷◌, ◌++◌, append_assoc, map, take}
 use Rattle.std.proofs.Common.{drop, Option, Some, None, slice_get, refl, sym, ap, ◌∙◌, subst, arith}
 use Rattle.std.proofs.lemmas.List.{take-append-drop}
-use Rattle.std.proofs.lemmas.Option.{none-some, same_Some}
 use Rattle.sp_base.specs.declared.fault.Fault.TheVariants as fault
+use Rattle.sp_base.proofs.Facts.{get_of_map}
 use Rattle.sp_journal.specs.declared.entry.Event.{Event}
 use Rattle.sp_journal.specs.declared.entry.Event.TheVariants as event
 use Rattle.sp_journal.specs.declared.entry.Entry.{Entry}
@@ -59,15 +59,6 @@ can_later s (x ∷ es) zero n e le h f = (s, subst (CanFollow s) (same h) f.0, s
 can_later s (x ∷ es) (suc i) zero e le h f = absurd (omega (arith, le))
 can_later s (x ∷ es) (suc i) (suc n) e le h f = can_later (after_entry s x) es i n e (omega (arith, le)) h f.1
 
-pub get_map : {A B : Type 0} (f : A → B) (n : ℕ) (xs : List A) (x : A) → slice_get xs n ≡ Some x
-    → slice_get (map f xs) n ≡ Some (f x)
-get_map f n [] x h = absurd (none-some _ h)
-get_map f zero (y ∷ xs) x h = some_of (same_Some _ _ h)
-  where
-    some_of : y ≡ x → Some (f y) ≡ Some (f x)
-    some_of e = ap (λ z. Some (f z)) e
-get_map f (suc n) (y ∷ xs) x h = get_map f n xs x h
-
 -- the marked entries, the earlier offer and the fault, by the tables
 pub tables_number : (j : Journal) → IsNameable j → (earlier later : ℕ) → earlier < later → (one two : Entry)
     → slice_get j.entries earlier ≡ Some one → slice_get j.entries later ≡ Some two → IsPlain one.event
@@ -89,9 +80,9 @@ tables_number j named earlier later lt one two got_one got_two plain marks ok ow
     let last : Entry = record { process = two.process; event = event.Fault fault.F6 } in
     let all : os ≡ map (occurrence t) es = all_named es named in
     let first_is : slice_get os earlier ≡ Some (occurrence t one) = ap (λ xs. slice_get xs earlier) all
-    ∙ get_map (occurrence t) earlier es one got_one in
+    ∙ get_of_map (occurrence t) es earlier one got_one in
     let who_is : who_at os later ≡ t.name two.process = ap (λ xs. who_of (slice_get xs later)) all
-    ∙ ap who_of (get_map (occurrence t) later es two got_two) in
+    ∙ ap who_of (get_of_map (occurrence t) es later two got_two) in
     let extra : List Occurrence = map (occurrence t) (one ∷ last ∷ []) in
     let are : occurrences (witness_journal j earlier later)
     ≡ map (occurrence t) (selected (take later es) marks) ++ extra =

@@ -2,8 +2,8 @@
 use Rattle.std.proofs.Common.{◌≡◌, ◌≢◌, ℕ, suc, cond, List, [], ◌∷◌, length, Some, None, refl, sym, ap, ◌∙◌, subst}
 use Rattle.std.proofs.Common.{arith}
 use Rattle.sp_meaning.specs.Model.{Name, same_name, Language, Moves, Opens, Forks, Offering, Ends, Fails, Works, Waits}
-use Rattle.sp_meaning.specs.Model.{Joins, Ended, State, Change, Becomes, Forked, Writes, Adds, changed, after}
-use Rattle.sp_meaning.specs.Steps.{ActOf, ConditionOf, Outcome, Advances, Faulty, puts, births, acts, Sound}
+use Rattle.sp_meaning.specs.Model.{Joins, Ended, State, Change, Becomes, Forked, Adds, changed, after}
+use Rattle.sp_meaning.specs.Steps.{ActOf, ConditionOf, Outcome, Advances, Faulty, births, acts, Sound}
 use Rattle.sp_meaning.specs.Own.{Setting}
 use Rattle.sp_meaning.specs.SuperPascal.{superpascal}
 use Rattle.sp_meaning.specs.Runs.{StateOf, most, said_of}
@@ -11,12 +11,8 @@ use Rattle.sp_meaning.specs.Along.{ticks_in, ticks_of}
 use Rattle.sp_meaning.proofs.Maps.{itself, differs, at_other}
 use Rattle.sp_meaning.proofs.Keys.{name_test}
 use Rattle.sp_meaning.proofs.Status.{Makes, Stands, waits_stands, working_stands}
-use Rattle.sp_meaning.proofs.Meeting.{met, waited}
-
-puts_condition : (L : Language) (ws : List (L.Loc × L.Value)) (t : State L)
-    → (after (puts {L = L} ws) t).condition ≡ t.condition
-puts_condition L [] t = refl
-puts_condition L (w ∷ ws) t = puts_condition L ws (changed (Writes w.0 w.1) t)
+use Rattle.sp_meaning.proofs.Meeting.{met, waited, same_changes}
+use Rattle.sp_meaning.proofs.Owned.{puts_condition}
 
 births_condition : (L : Language) (p : Name) (k i : ℕ) (os : List L.Own) (t : State L)
     → (after (births {L = L} p k i os) t).condition p ≡ t.condition p
@@ -50,9 +46,6 @@ module _ (g : Setting) where
   ticks_by Ends = 0
   ticks_by (Fails f) = 0
 
-  does_is : (x y : List (Change L)) → ◌≡◌ {A = Outcome L} (Advances x) (Advances y) → y ≡ x
-  does_is x y h = cc
-
   at_self : (m : Name → ConditionOf L) (p : Name) (c : ConditionOf L) → cond (same_name p p) c (m p) ≡ c
   at_self m p c = ap (λ b. cond b c (m p)) (itself name_test p)
 
@@ -62,19 +55,19 @@ module _ (g : Setting) where
     where
       by : (a : ActOf L) → acts s p a ≡ Advances cs → ticks_in ((after cs s).condition p) ≡ ticks_by a
       by (Moves o ws) e =
-          let list = does_is _ cs e in
+          let list = same_changes _ cs e in
           ap (λ x. ticks_in ((after x s).condition p)) list
           ∙ ap (λ m. ticks_in (m p)) (puts_condition L ws (changed (Becomes p (Works o)) s))
           ∙ ap ticks_in (at_self s.condition p (Works o))
       by (Opens o ws) e =
-          let list = does_is _ cs e in
+          let list = same_changes _ cs e in
           ap (λ x. ticks_in ((after x s).condition p)) list
           ∙ ap (λ m. ticks_in (m p))
           (puts_condition L ws
           (changed (Adds (record { processes = 0; channels = 1; entries = 1 })) (changed (Becomes p (Works o)) s)))
           ∙ ap ticks_in (at_self s.condition p (Works o))
       by (Forks o os) e =
-          let list = does_is _ cs e in
+          let list = same_changes _ cs e in
           ap (λ x. ticks_in ((after x s).condition p)) list
           ∙ ap ticks_in (births_condition L p (s.forks p) 0 os
           (changed (Adds (record { processes = length os; channels = 0; entries = 1 }))
@@ -95,7 +88,7 @@ module _ (g : Setting) where
                 ∙ ap ticks_in (at_self s.condition p (Works o.next))
           ] refl
       by Ends e =
-          let list = does_is _ cs e in
+          let list = same_changes _ cs e in
           ap (λ x. ticks_in ((after x s).condition p)) list ∙ ap ticks_in (at_self s.condition p Ended)
       by (Fails f) e = absurd (faulty e)
         where
