@@ -165,7 +165,8 @@ module _ (g : Setting) (moves shares : Stmt → List ℕ) (pause : ℕ) (tree : 
         (newborn plain (code_run g code pause) (At pc stack n) value number k
         (child_table g.program moves shares z.entry None z.statement))
     child_begins_so ss q k b pl formed z known = (
-      is_life js js sc z.statement h1 (let a = stands.above_base in let c = live.based in omega (arith, a, c)) known,
+      is_life js js sc z.statement h1
+          (let a = stands.frames.above_base in let c = live.based in omega (arith, a, c)) known,
       λ l. go l,
     )
       where

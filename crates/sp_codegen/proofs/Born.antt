@@ -34,6 +34,7 @@ use Rattle.sp_code.specs.Stands.{Stands, HasFork, HasWords, StandsAt, ChildrenAt
 use Rattle.sp_codegen.specs.Joints.{Joint, sources, machines, from, up_at, HomeIs, Chain}
 use Rattle.sp_tree.specs.Formed.{IsFormed, IsFormedUse, is_parameter, is_answer, among}
 use Rattle.sp_codegen.specs.Executions.{Execution}
+use Rattle.sp_codegen.proofs.Joints.{from_short}
 pub use Rattle.sp_codegen.specs.Lives.{Seen}
 pub use Rattle.sp_codegen.specs.Parents.{ChildIs}
 use Rattle.sp_codegen.specs.Relation.{Placed}
@@ -239,14 +240,6 @@ module _ (p : Program) (formed : IsFormed p) (ls : List Layout) (laid : Laid p l
       outer_is = ap (λ z. spot_from ls n (last_frames z (machines js)) x) (sym pa.1)
           ∙ ap (λ z. spot_from ls n z x) (last_machines k.source.link js pa.2)
 
-      shorter : (a : ℕ) (is : List Joint) → length (from a is) ≤ length is
-      shorter a [] = omega arith
-      shorter a (i ∷ is) = go (length (i ∷ is) == a) (shorter a is)
-        where
-          go : (b : Bool) → length (from a is) ≤ length is → length (if b then i ∷ is else from a is) ≤ length (i ∷ is)
-          go true h = omega arith
-          go false h = omega (arith, h)
-
       here : (t : Scope) (a : Home) (c : m.Home) → HomeIs t a → HomesAre p a c → is_index x t ≡ true
           → spot_in ls k.machine c x ≡ Some (spot_at k.machine.number 0)
       here (s.OfBlock b) a c hi ho t = absurd (cc t)
@@ -289,6 +282,6 @@ module _ (p : Program) (formed : IsFormed p) (ls : List Layout) (laid : Laid p l
           further None f d = absurd (cc d)
           further (Some a) f d =
               let above : suc a ≡ up = cc d in
-              let sh = shorter k.source.link js in
+              let sh = from_short k.source.link js in
               ih (from k.source.link js) outward (paired_from p Called k.source.link js pa.6) (omega (arith, l, sh)) a f
               (ap (λ z. up_at z (k ∷ js)) above ∙ u)

@@ -1,5 +1,6 @@
 -- Owners of frames: no process has a frame of one with a longer name.
-use Rattle.std.proofs.Common.{◌≡◌, ⊎_elim, ℕ, suc, ◌≤◌, List, [], ◌∷◌, length, subst, arith}
+use Rattle.std.proofs.Common.{◌≡◌, ⊎_elim, ℕ, suc, ◌≤◌, List, [], ◌∷◌, length, subst, arith, ap}
+use Rattle.sp_meaning.specs.Model.{Name}
 use Rattle.sp_codegen.specs.Joints.{Joint, from}
 use Rattle.sp_codegen.specs.Standing.{OwnersWithin}
 use Rattle.sp_codegen.proofs.Joints.{from_cases}
@@ -16,3 +17,10 @@ within_at a n (j ∷ js) k rest h e = ⊎_elim
     (let d : j ≡ k = cc c.1 in subst (λ (z : Joint). length z.source.owner ≤ a) d h.0))
     (λ (c : from n js ≡ k ∷ rest). within_at a n js k rest h.1 c)
     (from_cases n j js k rest e)
+
+-- so no frame is one of a process with a longer name
+pub no_longer_owner : (a : ℕ) (js : List Joint) (q : Name) → OwnersWithin a js → suc a ≤ length q → (h : ℕ)
+    (j : Joint) (rest : List Joint) → from (suc h) js ≡ j ∷ rest → j.source.owner ≡ q → ⊥
+no_longer_owner a js q within longer h j rest e is =
+    let b = within_at a (suc h) js j rest within e in
+    let c = ap (λ (z : Name). length z) is in omega (arith, b, c, longer)

@@ -33,14 +33,12 @@ use Rattle.sp_meaning.specs.Deeds.{if_true, is_range, in_width, shown, taken_by,
 use Rattle.sp_meaning.specs.Deeds.{write, advance, take_in, width, turn_of, fork, chosen, start, references}
 use Rattle.sp_meaning.specs.Run.{Store, run}
 use Rattle.sp_meaning.proofs.Run.{then_run, run_bind}
-use Rattle.sp_meaning.proofs.Static.{sought}
+use Rattle.sp_meaning.proofs.Static.{sought, home_is}
 use Rattle.sp_meaning.proofs.Entered.{fresh, fresh_linked, fresh_sound}
 use Rattle.sp_code.specs.declared.code.Layout.{Layout}
-use Rattle.sp_code.specs.declared.instr.Instr.{Instr}
 use Rattle.sp_code.specs.declared.instr.Instr.TheVariants as i
-use Rattle.sp_code.specs.Machine.{Entry, Did, Done, Failed, Sends, Receives, Forks, Config, One, Goes}
-use Rattle.sp_code.specs.Machine.{Stops, Fails, outside, when, there, paced, then_go, values_in, fit_formals}
-use Rattle.sp_code.specs.Machine.{instruction, one}
+use Rattle.sp_code.specs.Machine.{Entry, Did, Done, Failed, Sends, Receives, Forks, Config, One, Goes, Stops, Fails}
+use Rattle.sp_code.specs.Machine.{outside, when, there, paced, then_go, values_in, fit_formals, one}
 use Rattle.sp_code.specs.Machine as m
 use Rattle.sp_code.specs.Turns.{Comes}
 use Rattle.sp_code.specs.Scopes.{Sort, Ordinals, Channels, Many, NoSort, Scope, sort, sort_by, size, slot, kind_of}
@@ -57,11 +55,12 @@ use Rattle.sp_codegen.specs.Executions.{Execution}
 use Rattle.sp_codegen.specs.Following.{StandsFor}
 use Rattle.sp_codegen.specs.Relation.{Stood, OneCell, cell_of, Entered, GivensAre, Owns, frame_for}
 use Rattle.sp_codegen.proofs.Runs.{Realizes, Known, stays, goes, breaks, comes_on, known_bind, gives_fail, gives_alike}
+use Rattle.sp_codegen.proofs.Runs.{holds_when, run_assoc}
 use Rattle.sp_codegen.proofs.Joints.{sources_length, up_from}
 use Rattle.sp_codegen.proofs.Chains.{block_agrees, found, seek_all, find_in}
 use Rattle.sp_codegen.proofs.Values.{P, pushed, within, may_see, at_console, CallsMeet, at_one, value_gives, form_gives}
 use Rattle.sp_codegen.proofs.Values.{place_gives, address_gives, ordinal_gives, actuals_gives, rest_of, left_known}
-use Rattle.sp_codegen.proofs.Values.{kind_known, or_known, fetch_known, visible_known, block_home, PlaceIs, IsMany}
+use Rattle.sp_codegen.proofs.Values.{kind_known, or_known, fetch_known, visible_known, PlaceIs, IsMany}
 use Rattle.sp_codegen.proofs.Follows.{slides, jumps, Follows, slide_follows, push_follows, push_all_follows, cells_in}
 use Rattle.sp_codegen.proofs.Follows.{CargoIs, ForkIs, Makes, Made, makes_after, makes_bind, makes_known, makes_by}
 use Rattle.sp_codegen.proofs.Follows.{makes_went, makes_fail, makes_tick}
@@ -139,13 +138,6 @@ module _ {M : Type 0} (ex : Execution M) where
   abbrev pub Oks : Calls → Type 0
   Oks call = CallsMeet ex call
 
-  pub one_at : (q : ℕ) {instr : Instr} (stack : List Entry) (n : M) → slice_get code.instrs q ≡ Some instr
-      → one ops code (m.At q stack n) ≡ instruction ops code (Some instr) q stack n
-  one_at q stack n h = at_one ex q stack n h
-
-  holds_when : (b : Bool) (c : One M) → b ≡ true → when b c ≡ c
-  holds_when b c e = ap (λ z. when z c) e
-
   pub went_if : (b : Bool) (x y : List Item)
       → give (Stepped (if b then x else y)) ≡ (if b then give (Stepped x) else give (Stepped y))
   went_if true x y = refl
@@ -156,7 +148,7 @@ module _ {M : Type 0} (ex : Execution M) where
       (s : Store) (n : M) (x y : Work Deed) → slice_get code.instrs t ≡ Some (i.Jumpf to) → K (m.At to stack n) o s Q x
       → K (m.At (t + 1) stack n) o s Q y
       → K (m.At t (m.Number v ∷ stack) n) o s Q (if int_le v (pos 0) then x else y)
-  branch Q v t to stack o s n x y h kx ky = go (int_le v (pos 0)) (one_at t (m.Number v ∷ stack) n h)
+  branch Q v t to stack o s n x y h kx ky = go (int_le v (pos 0)) (at_one ex t (m.Number v ∷ stack) n h)
     where
       go : (b : Bool) → one ops code (m.At t (m.Number v ∷ stack) n)
           ≡ (if not b then Goes (m.At (t + 1) stack n) else Goes (m.At to stack n))
@@ -171,11 +163,11 @@ module _ {M : Type 0} (ex : Execution M) where
   store_one q Ordinals k v e a stack n x y ha h =
       subst (λ u. one ops code (m.At q (u ∷ m.Pointer a ∷ stack) n)
       ≡ Goes (m.At (q + 1) stack (ops.put a (cell_of u) n))) (sym x.2)
-      (one_at q _ n h ∙ holds_when (ops.has a 1 n) _ ha)
+      (at_one ex q _ n h ∙ holds_when (ops.has a 1 n) _ ha)
   store_one q Channels k v e a stack n x y ha h =
       subst (λ u. one ops code (m.At q (u ∷ m.Pointer a ∷ stack) n)
       ≡ Goes (m.At (q + 1) stack (ops.put a (cell_of u) n))) (sym x.3)
-      (one_at q _ n h ∙ holds_when (ops.has a 1 n) _ ha)
+      (at_one ex q _ n h ∙ holds_when (ops.has a 1 n) _ ha)
   store_one q Many k v e a stack n x y ha h = absurd y
   store_one q NoSort k v e a stack n x y ha h = absurd y
 
@@ -193,15 +185,9 @@ module _ {M : Type 0} (ex : Execution M) where
       → K c o s Q (bind h (λ a. bind (gg a) k)) → K c o s Q (bind (bind h gg) k)
   makes_assoc {A} {B} {c} {o} {s} {Q} h gg k x =
       record {
-        by = subst (Made ex c Q) (run_bind h (λ a. bind (gg a) k) w o s ∙ go (run h w o s)
+        by = subst (Made ex c Q) (run_bind h (λ a. bind (gg a) k) w o s ∙ run_assoc gg k w (run h w o s)
             ∙ ap (then_run k w) (sym (run_bind h gg w o s)) ∙ sym (run_bind (bind h gg) k w o s)) x.by;
       }
-    where
-      go : (r : Came A × Store) → then_run (λ a. bind (gg a) k) w r ≡ then_run k w (then_run gg w r)
-      go (Got a o1, s1) = run_bind (gg a) k w o1 s1
-      go (Bad f, s1) = refl
-      go (Lost, s1) = refl
-      go (Long, s1) = refl
 
   pub address_known : {o : Own} {s : Store} (a : Address) → Known ops rel w code o s (address_of g (At a)) a
   address_known a = record { by = refl }
@@ -275,7 +261,7 @@ module _ {M : Type 0} (ex : Execution M) where
               stack,
               ops.copy u b (size p k) n1,
               fs,
-              goes ops rel w code (one_at (after_var q v) _ n1 h.1
+              goes ops rel w code (at_one ex (after_var q v) _ n1 h.1
                   ∙ holds_when (ops.has b (size p k) n1 && ops.has u (size p k) n1) _ (and_from _ _ has_from has_to)),
               subst (λ y. rel.Stand fs o1 (at_key same_loc a.spot
                   (assigned a (s1 a.spot) (Tree (get_at c.path (value_in (s1 c.spot))))) s1)
@@ -310,7 +296,7 @@ module _ {M : Type 0} (ex : Execution M) where
   for_place {fs = fs} {o = o} {s = s} {n = n} sc x t pl ai h =
       let v = h.0 in
       let r = found (is_block v.block) (places.is_block v.block) (block_agrees v.block) sc fs 0 pl.chain h.3 in
-      let a = law.addr t 0 x r.frame r.rest r.at v h.1 (block_home ex v.block r.frame.source.home r.fit)
+      let a = law.addr t 0 x r.frame r.rest r.at v h.1 (home_is v.block r.frame.source.home r.fit)
       (subst Owns (sym h.2) tt) in
       let at : stands p (sources fs) x ≡ Some (in_frame g x v r.frame.source).spot = ap (stands_at (sources fs) x) h.1
       ∙ ap (stands_by (sources fs) x v) h.2
@@ -351,7 +337,7 @@ module _ {M : Type 0} (ex : Execution M) where
       (subst (λ y. Stood rel p y z.address.kind (Ordinal v) (m.Number v)) (sym z.sorted) (v, refl, refl)) ge)
       (λ x1 x2 o2 s2 n2 t2 x3.
       makes_tick ex (push d (Again x limit down d ∷ todo)) fs (q + 1 + 1) (m.Number limit ∷ st) (ops.beat n2) (_, _, t2)
-      (law.beat t2) (one_at (q + 1) (m.Number limit ∷ st) n2 h.2)
+      (law.beat t2) (at_one ex (q + 1) (m.Number limit ∷ st) n2 h.2)
       (push_follows ex d end base below sc (q + 1 + 1) (m.Number limit ∷ st) fs (Again x limit down d ∷ todo)
       (within (λ u. inr) pl) h.3 (q, sc, st, slides ex _ _, refl, pl, h, fo)))))
 
@@ -397,7 +383,7 @@ module _ {M : Type 0} (ex : Execution M) where
       → TestAt p moves shares (Stands code) (HasFork code) (HasWords code) hush q ms to
       → Tested (has v ms) v q to (after_test q ms) stack n
   test_comes v [] q to stack n h = stays ops rel w code _
-  test_comes v (x ∷ ms) q to stack n h = go (same_ordinal v x) (has v ms) (one_at q (m.Number v ∷ stack) n h.0)
+  test_comes v (x ∷ ms) q to stack n h = go (same_ordinal v x) (has v ms) (at_one ex q (m.Number v ∷ stack) n h.0)
       (test_comes v ms (q + 1) to stack n h.1)
     where
       go : (b y : Bool) → one ops code (m.At q (m.Number v ∷ stack) n)
@@ -416,7 +402,7 @@ module _ {M : Type 0} (ex : Execution M) where
       → After end base below todo fs past stack
       → K (m.At q (m.Number v ∷ stack) n) o s (After end base below) (chosen g (arm_for v arms) todo)
   case_makes end base below v NoArm sc q b past stack todo fs o s n t pl h hn ha fo =
-      makes_fail ex fault.F9 (fs, o, t) (one_at q (m.Number v ∷ stack) n hn)
+      makes_fail ex fault.F9 (fs, o, t) (at_one ex q (m.Number v ∷ stack) n hn)
   case_makes end base below v (Or (On ms d) rest) sc q b past stack todo fs o s n t pl h hn ha fo =
       go (has v ms) (test_comes v ms q b stack n h.0)
       (case_makes end base below v rest sc (after_test q ms) (after p b d + 1) past stack todo fs o s n t
@@ -495,13 +481,13 @@ module _ {M : Type 0} (ex : Execution M) where
       (bind (width g call x) (λ mm. bind (in_width true t mm) (λ bs. bind (write g bs) (λ u. give (Stepped todo)))))
   width_text call ok end base below t j None sc q stack todo fs o s n st pl ro et h ge fo =
       plain_makes (After end base below) fs (q + 1) t stack todo (m.At q stack n) o s n st (fs, o, st) ro
-      (one_at q stack n ge ∙ ap (λ y. there y (λ z. m.prints ops code z (q + 1) stack n)) et) fo
+      (at_one ex q stack n ge ∙ ap (λ y. there y (λ z. m.prints ops code z (q + 1) stack n)) et) fo
   width_text call ok end base below t j (Some e) sc q stack todo fs o s n st pl ro et h ge fo =
       makes_assoc (ordinal_of g call e) (λ y. give (Some y)) _
       (makes_bind ex _ (ordinal_gives ex call ok e sc q stack fs o s n st pl h) (λ v u o1 s1 n1 t1 x1.
       wide_makes (After end base below) fs (after_value q e + 1) true t v stack todo
       (m.At (after_value q e) (m.Number v ∷ stack) n1) o1 s1 n1 t1 (fs, o1, t1) ro
-      (one_at (after_value q e) (m.Number v ∷ stack) n1 ge
+      (at_one ex (after_value q e) (m.Number v ∷ stack) n1 ge
       ∙ ap (λ y. there y (λ z. m.wide ops code true z v (after_value q e + 1) stack n1)) et) fo))
 
   -- an item without and with a width
@@ -512,13 +498,13 @@ module _ {M : Type 0} (ex : Execution M) where
       (bind (in_width (shown ty v).0 (shown ty v).1 None) (λ bs. bind (write g bs) (λ u. give (Stepped todo))))
   item_plain Q kind.Integer v fs q stack todo o s n t ro e h k =
       plain_makes Q fs (q + 1) (signed_decimal v) stack todo (m.At q (m.Number v ∷ stack) n) o s n t (fs, o, t) ro
-      (one_at q (m.Number v ∷ stack) n e) k
+      (at_one ex q (m.Number v ∷ stack) n e) k
   item_plain Q kind.Boolean v fs q stack todo o s n t ro e h k =
       plain_makes Q fs (q + 1) (truth_text v) stack todo (m.At q (m.Number v ∷ stack) n) o s n t (fs, o, t) ro
-      (one_at q (m.Number v ∷ stack) n e) k
+      (at_one ex q (m.Number v ∷ stack) n e) k
   item_plain Q kind.Char v fs q stack todo o s n t ro e h k =
       plain_makes Q fs (q + 1) (nat_abs v % 256 ∷ []) stack todo (m.At q (m.Number v ∷ stack) n) o s n t (fs, o, t) ro
-      (one_at q (m.Number v ∷ stack) n e) k
+      (at_one ex q (m.Number v ∷ stack) n e) k
   item_plain Q (kind.Enumeration x) v fs q stack todo o s n t ro e h k = absurd h
   item_plain Q (kind.Array a b c d) v fs q stack todo o s n t ro e h k = absurd h
   item_plain Q (kind.Fields a) v fs q stack todo o s n t ro e h k = absurd h
@@ -531,13 +517,13 @@ module _ {M : Type 0} (ex : Execution M) where
       (bind (in_width (shown ty v).0 (shown ty v).1 (Some mm)) (λ bs. bind (write g bs) (λ u. give (Stepped todo))))
   item_wide Q kind.Integer v mm fs q stack todo o s n t ro e h k =
       wide_makes Q fs (q + 1) false (signed_decimal v) mm stack todo (m.At q (m.Number mm ∷ m.Number v ∷ stack) n) o s n
-      t (fs, o, t) ro (one_at q _ n e) k
+      t (fs, o, t) ro (at_one ex q _ n e) k
   item_wide Q kind.Boolean v mm fs q stack todo o s n t ro e h k =
       wide_makes Q fs (q + 1) true (truth_text v) mm stack todo (m.At q (m.Number mm ∷ m.Number v ∷ stack) n) o s n t
-      (fs, o, t) ro (one_at q _ n e) k
+      (fs, o, t) ro (at_one ex q _ n e) k
   item_wide Q kind.Char v mm fs q stack todo o s n t ro e h k =
       wide_makes Q fs (q + 1) false (nat_abs v % 256 ∷ []) mm stack todo (m.At q (m.Number mm ∷ m.Number v ∷ stack) n) o
-      s n t (fs, o, t) ro (one_at q _ n e) k
+      s n t (fs, o, t) ro (at_one ex q _ n e) k
   item_wide Q (kind.Enumeration x) v mm fs q stack todo o s n t ro e h k = absurd h
   item_wide Q (kind.Array a b c d) v mm fs q stack todo o s n t ro e h k = absurd h
   item_wide Q (kind.Fields a) v mm fs q stack todo o s n t ro e h k = absurd h
@@ -647,7 +633,7 @@ module _ {M : Type 0} (ex : Execution M) where
             did = ops.open_frame z.layout h.0 es n;
             around = r.frame ∷ r.rest;
             entered = op.2;
-            goes = one_at q (pushed es stack) n h.3
+            goes = at_one ex q (pushed es stack) n h.3
                 ∙ ap (λ y. there y (λ l. m.called ops code l h.0 (q + 1) (pushed es stack) n)) (finds f z.layout z.at)
                 ∙ pop_pushed es (length z.layout.formals) 0 stack []
                 (λ es st. when (fit_formals z.layout.formals es)
@@ -759,11 +745,11 @@ module _ {M : Type 0} (ex : Execution M) where
       → one ops code (m.At q (m.Number hi ∷ m.Number lo ∷ stack) n)
       ≡ (if is_range down lo hi then Goes (m.At (q + 1) (m.Number hi ∷ stack) (ops.put u (cell.Ordinal lo) n)) else
       Goes (m.At to stack n))
-  first_one true q to x stack n lo hi h u e ha = one_at q _ n h
+  first_one true q to x stack n lo hi h u e ha = at_one ex q _ n h
       ∙ ap (λ z. there z (λ a. when (ops.has a 1 n)
       (if is_range true lo hi then Goes (m.At (q + 1) (m.Number hi ∷ stack) (ops.put a (cell.Ordinal lo) n)) else
       Goes (m.At to stack n)))) e ∙ holds_when (ops.has u 1 n) _ ha
-  first_one false q to x stack n lo hi h u e ha = one_at q _ n h
+  first_one false q to x stack n lo hi h u e ha = at_one ex q _ n h
       ∙ ap (λ z. there z (λ a. when (ops.has a 1 n)
       (if is_range false lo hi then Goes (m.At (q + 1) (m.Number hi ∷ stack) (ops.put a (cell.Ordinal lo) n)) else
       Goes (m.At to stack n)))) e ∙ holds_when (ops.has u 1 n) _ ha
@@ -808,7 +794,7 @@ module _ {M : Type 0} (ex : Execution M) where
       (if int_lt hi lo then give (Stepped todo) else
       fork g (indexed_children x d lo (nat_abs ((hi -ℤ lo) +ℤ pos 1))) todo)
   forall_makes Q fs q tb x d lo hi stack todo o s n t h k fr fi =
-      go (int_lt hi lo) refl (one_at q (m.Number hi ∷ m.Number lo ∷ stack) n h)
+      go (int_lt hi lo) refl (at_one ex q (m.Number hi ∷ m.Number lo ∷ stack) n h)
     where
       go : (b : Bool) → int_lt hi lo ≡ b → one ops code (m.At q (m.Number hi ∷ m.Number lo ∷ stack) n)
           ≡ (if b then Goes (m.At (q + 1) stack n) else m.forked ops code tb lo (values_in lo hi) (q + 1) stack n)
@@ -823,7 +809,7 @@ module _ {M : Type 0} (ex : Execution M) where
       (stack : List Entry) (todo : List Item) (o : Own) (s : Store) (n : M) → rel.Stand fs o s n
       → slice_get code.instrs q ≡ Some i.Assume → Q todo fs (q + 1) stack
       → K (m.At q (m.Number v ∷ stack) n) o s Q (if_true v (give (Stepped todo)) (fail fault.F8))
-  assume_makes Q fs v q stack todo o s n t h k = go (int_le v (pos 0)) (one_at q (m.Number v ∷ stack) n h)
+  assume_makes Q fs v q stack todo o s n t h k = go (int_le v (pos 0)) (at_one ex q (m.Number v ∷ stack) n h)
     where
       go : (b : Bool) → one ops code (m.At q (m.Number v ∷ stack) n)
           ≡ (if not b then Goes (m.At (q + 1) stack n) else Fails fault.F8)
@@ -842,7 +828,7 @@ module _ {M : Type 0} (ex : Execution M) where
       makes_known ex (λ x. bind (take_in g a x) (λ y. give (Stepped todo))) (number_in bs)
       (or_known ex (Some (number_in bs)) (number_in bs) refl)
       (makes_bind ex _ (took_gives (q + 1) (number_in bs) a u stack t (fs, o, t) ri pt ra (ap sort_by ek)
-      (one_at q _ n h ∙ holds_when (ops.has u 1 n) _ (law.has_one t a u pt ra)
+      (at_one ex q _ n h ∙ holds_when (ops.has u 1 n) _ (law.has_one t a u pt ra)
       ∙ ap (λ z. there z (λ bs. m.taken ops code (number_in bs) u (q + 1) stack n)) (law.left t ri)))
       (λ x1 x2 o2 s2 n2 t2 x3. makes_went ex todo fs (q + 1) stack n2 (stays ops rel w code _) t2 k))
   reads_makes Q fs kind.Char q a u stack todo o s n t ri pt ra ek h k =
@@ -850,7 +836,7 @@ module _ {M : Type 0} (ex : Execution M) where
       makes_known ex (λ x. bind (take_in g a x) (λ y. give (Stepped todo))) (char_in bs)
       (or_known ex (Some (char_in bs)) (char_in bs) refl)
       (makes_bind ex _ (took_gives (q + 1) (char_in bs) a u stack t (fs, o, t) ri pt ra (ap sort_by ek)
-      (one_at q _ n h ∙ holds_when (ops.has u 1 n) _ (law.has_one t a u pt ra)
+      (at_one ex q _ n h ∙ holds_when (ops.has u 1 n) _ (law.has_one t a u pt ra)
       ∙ ap (λ z. there z (λ bs. m.taken ops code (char_in bs) u (q + 1) stack n)) (law.left t ri)))
       (λ x1 x2 o2 s2 n2 t2 x3. makes_went ex todo fs (q + 1) stack n2 (stays ops rel w code _) t2 k))
   reads_makes Q fs kind.Boolean q a u stack todo o s n t ri pt ra ek h k = absurd h
@@ -874,13 +860,13 @@ module _ {M : Type 0} (ex : Execution M) where
       → one ops code (m.At q (e ∷ m.Chan j ∷ stack) n) ≡ Stops (Sends j k (cells_in e)) (m.At (q + 1) stack n)
   send_one q k Ordinals v e j stack n x h = subst
       (λ u. one ops code (m.At q (u ∷ m.Chan j ∷ stack) n) ≡ Stops (Sends j k (cells_in u)) (m.At (q + 1) stack n))
-      (sym x.2) (one_at q _ n h)
+      (sym x.2) (at_one ex q _ n h)
   send_one q k Channels v e j stack n x h = subst
       (λ u. one ops code (m.At q (u ∷ m.Chan j ∷ stack) n) ≡ Stops (Sends j k (cells_in u)) (m.At (q + 1) stack n))
-      (sym x.3) (one_at q _ n h)
+      (sym x.3) (at_one ex q _ n h)
   send_one q k Many v e j stack n x h = subst
       (λ u. one ops code (m.At q (u ∷ m.Chan j ∷ stack) n) ≡ Stops (Sends j k (cells_in u)) (m.At (q + 1) stack n))
-      (sym x.1) (one_at q _ n h)
+      (sym x.1) (at_one ex q _ n h)
   send_one q k NoSort v e j stack n x h = absurd x
 
   receive_is : (fs : List Joint) (c : Channel) (k : ℕ) (a : Address) (u : Ptr) (j : ℕ) → (ek : a.kind ≡ k)
@@ -940,12 +926,12 @@ module _ {M : Type 0} (ex : Execution M) where
       branch (After end base below) v (after_value q e) (after p (after_value q e + 1 + 1) d + 1) stack o1 s1 n1 _ _ h.1
       (makes_went ex todo fs _ stack n1 (stays ops rel w code _) t1 k)
       (makes_tick ex (push d (Do (While e d) ∷ todo)) fs (after_value q e + 1 + 1) stack (ops.beat n1) (_, _, t1)
-      (law.beat t1) (one_at (after_value q e + 1) stack n1 h.2)
+      (law.beat t1) (at_one ex (after_value q e + 1) stack n1 h.2)
       (push_follows ex d end base below sc _ stack fs (Do (While e d) ∷ todo) (within (λ u. inr) pl) h.3
       (q, sc, jumps ex _ q stack h.4, pl, h, k))))
   start_makes call ok bl end base below (Repeat d e) sc q stack todo fs o s n t pl h k =
       makes_tick ex (push d (Test d e ∷ todo)) fs (q + 1) stack (ops.beat n) (_, _, t) (law.beat t)
-      (one_at q stack n h.0)
+      (at_one ex q stack n h.0)
       (push_follows ex d end base below sc (q + 1) stack fs (Test d e ∷ todo) (within (λ u. inr) pl) h.1
       (q, sc, slides ex _ _, pl, h, k))
   start_makes call ok bl end base below (For x from down to d) sc q stack todo fs o s n t pl h k =
@@ -968,7 +954,7 @@ module _ {M : Type 0} (ex : Execution M) where
   start_makes call ok bl end base below (Parallel ss) sc q stack todo fs o s n t pl h k =
       fork_makes (After end base below) fs (q + 1) h.0 (pos 0)
       (length (emitted.children_tables p moves shares (q + 1 + 1) ss)) stack (children ss) todo (m.At q stack n) o s
-      n t (fs, o, t) (one_at q stack n h.2
+      n t (fs, o, t) (at_one ex q stack n h.2
       ∙ ap (λ y. there y (λ table. m.forked ops code h.0 (pos 0) (length table.children) (q + 1) stack n)) h.1)
       (slide_follows ex end base below (q + 1) _ stack fs todo (jumps ex (q + 1) _ stack h.3) k) h.5
       (inl (ss, h.0, q + 1 + 1, sc, refl, h.1, refl, h.4, pl))
@@ -1020,7 +1006,7 @@ module _ {M : Type 0} (ex : Execution M) where
           stack,
           ops.advance (line_length bs) n,
           fs,
-          goes ops rel w code (one_at q stack n h
+          goes ops rel w code (at_one ex q stack n h
               ∙ ap (λ z. there z (λ bs. Goes (m.At (q + 1) stack (ops.advance (line_length bs) n)))) (law.left t ri)),
           law.advance t ri (line_length bs),
           k,
@@ -1039,7 +1025,7 @@ module _ {M : Type 0} (ex : Execution M) where
   start_makes call ok bl end base below WriteLine sc q stack todo fs o s n t pl h k =
       let ro = aims_output sc fs pl (inl refl) in
       plain_makes (After end base below) fs (q + 1) (10 ∷ []) stack todo (m.At q stack n) o s n t (fs, o, t) ro
-      (one_at q stack n h) k
+      (at_one ex q stack n h) k
   start_makes call ok bl end base below (Open v) sc q stack todo fs o s n t pl h k =
       makes_bind ex (λ a. bind who (λ z. bind (assign a (Chan (record { owner = z.name; nth = z.opens })))
       (λ u. give (Opened todo)))) (address_gives ex call ok v h.0 sc q stack fs o s n t (within (λ u. inl) pl) h.1
@@ -1055,7 +1041,7 @@ module _ {M : Type 0} (ex : Execution M) where
           u,
           s1,
           stays ops rel w code _,
-          one_at (after_var q v) _ n1 h.4
+          at_one ex (after_var q v) _ n1 h.4
               ∙ holds_when (ops.has u 1 n1) _ (law.has_one t1 a u x1.1 x1.2),
           law.own t1 a u x1.1 x1.2,
           x1.1,
@@ -1108,7 +1094,7 @@ module _ {M : Type 0} (ex : Execution M) where
           m.At (after_var (after_value q c) v) (m.Pointer u ∷ m.Chan j ∷ stack) n2,
           Receives j h.0 u,
           stays ops rel w code _,
-          one_at (after_var (after_value q c) v) _ n2 h.5
+          at_one ex (after_var (after_value q c) v) _ n2 h.5
               ∙ holds_when (ops.has u 0 n2) _ (law.has_none t2 a u x2.1 x2.2),
           law.own t2 a u x2.1 x2.2,
           receive_is fs ch1 h.0 a u j x2.0 nm x2.1 x2.2,

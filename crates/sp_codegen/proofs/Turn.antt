@@ -43,14 +43,14 @@ use Rattle.sp_codegen.specs.Following.{StandsFor}
 use Rattle.sp_codegen.specs.Following as following
 use Rattle.sp_codegen.specs.Relation.{Stood, OneCell, Entered, GivensAre, frame_for}
 use Rattle.sp_codegen.proofs.Runs.{Known, Ends, ends_after, stays, goes, comes_on, breaks, breaks_after, gives_after}
-use Rattle.sp_codegen.proofs.Runs.{gives_bind, gives_known, known_bind, gives_give, gives_by}
+use Rattle.sp_codegen.proofs.Runs.{gives_bind, gives_known, known_bind, gives_give, gives_by, holds_when, run_assoc}
 use Rattle.sp_codegen.proofs.Chains.{block_agrees, found, seek_all}
 use Rattle.sp_codegen.proofs.Values.{pushed, within, ordinal_gives, kind_known, or_known, fetch_known, visible_known}
-use Rattle.sp_codegen.proofs.Values.{Top, checked_as, read_as}
+use Rattle.sp_codegen.proofs.Values.{Top, checked_as, read_as, at_one}
 use Rattle.sp_codegen.proofs.Follows.{slides, Follows, push_follows, outside_follows, Made, made_after, makes_after}
 use Rattle.sp_codegen.proofs.Follows.{makes_bind, makes_known, makes_by, makes_went}
-use Rattle.sp_codegen.proofs.Steps.{C, G, K, S, Pl, Oks, After, one_at, went_if, branch, makes_assoc, ForPlace}
-use Rattle.sp_codegen.proofs.Steps.{for_place, turn_makes, first_one, start_makes, BlockIs, Blocks, calls_to, CallFinds}
+use Rattle.sp_codegen.proofs.Steps.{C, G, K, S, Pl, Oks, After, went_if, branch, makes_assoc, ForPlace, for_place}
+use Rattle.sp_codegen.proofs.Steps.{turn_makes, first_one, start_makes, BlockIs, Blocks, calls_to, CallFinds}
 use Rattle.sp_codegen.proofs.Steps.{call_finds, return_at, address_known}
 
 abbrev IsTrue : Bool → Type 0
@@ -101,9 +101,6 @@ module _ {M : Type 0} (ex : Execution M) where
   abbrev held : {fs : List Joint} {x : ℕ} {n : M} {o : Own} {s : Store} → FP fs x n o s → Value
   held {s = s} z = get_at z.address.path (value_in (s z.address.spot))
 
-  holds_when : (b : Bool) (c : One M) → b ≡ true → when b c ≡ c
-  holds_when b c e = ap (λ z. when z c) e
-
   -- the last instruction of a turn of a for loop
   next_one : (down : Bool) (q to x : ℕ) (st : List Entry) (n : M) (hi : ℤ)
       → slice_get code.instrs q ≡ Some (if down then i.Nextdown (slot p x) to else i.Nextup (slot p x) to) → (u : Ptr)
@@ -112,12 +109,12 @@ module _ {M : Type 0} (ex : Execution M) where
       ≡ ordinal_in (ops.look u n) (λ v. if is_before down v hi then
       Goes (m.At to (m.Number hi ∷ st) (ops.put u (cell.Ordinal (next_value down v)) n)) else
       Goes (m.At (q + 1) st n))
-  next_one true q to x st n hi h u e ha = one_at ex q _ n h
+  next_one true q to x st n hi h u e ha = at_one ex q _ n h
       ∙ ap (λ z. there z (λ a. when (ops.has a 1 n)
       (ordinal_in (ops.look a n) (λ v. if is_before true v hi then
       Goes (m.At to (m.Number hi ∷ st) (ops.put a (cell.Ordinal (next_value true v)) n)) else
       Goes (m.At (q + 1) st n))))) e ∙ holds_when (ops.has u 1 n) _ ha
-  next_one false q to x st n hi h u e ha = one_at ex q _ n h
+  next_one false q to x st n hi h u e ha = at_one ex q _ n h
       ∙ ap (λ z. there z (λ a. when (ops.has a 1 n)
       (ordinal_in (ops.look a n) (λ v. if is_before false v hi then
       Goes (m.At to (m.Number hi ∷ st) (ops.put a (cell.Ordinal (next_value false v)) n)) else
@@ -353,7 +350,7 @@ module _ {M : Type 0} (ex : Execution M) where
           ops.close_frame n,
           h.4,
           comes_on ops rel w code (h.5.by n)
-              (goes ops rel w code (one_at ex h.0 stack n h.7 ∙ ap (λ y. m.returned ops code y n) h.6
+              (goes ops rel w code (at_one ex h.0 stack n h.7 ∙ ap (λ y. m.returned ops code y n) h.6
               ∙ holds_when (ops.may_close n) _ c.0)),
           c.1,
           h.9,
@@ -374,7 +371,7 @@ module _ {M : Type 0} (ex : Execution M) where
           n,
           fs,
           h.0.by n,
-          one_at ex end stack n e,
+          at_one ex end stack n e,
           t,
           (slides ex end stack, h.1, h.2),
           ap outside h.1 ∙ ob,
@@ -448,15 +445,9 @@ module _ {M : Type 0} (ex : Execution M) where
   gives_assoc {A} {B} {D} {E} {fs} {c} {o} {s} {pc} {st} {T} h gg k x =
       record {
         by = subst (Ends ops rel w code fs c pc st T)
-            (run_bind h (λ a. bind (gg a) k) w o s ∙ go (run h w o s) ∙ ap (then_run k w) (sym (run_bind h gg w o s))
-            ∙ sym (run_bind (bind h gg) k w o s)) x.by;
+            (run_bind h (λ a. bind (gg a) k) w o s ∙ run_assoc gg k w (run h w o s)
+            ∙ ap (then_run k w) (sym (run_bind h gg w o s)) ∙ sym (run_bind (bind h gg) k w o s)) x.by;
       }
-    where
-      go : (r : Came A × Store) → then_run (λ a. bind (gg a) k) w r ≡ then_run k w (then_run gg w r)
-      go (Got a o1, s1) = run_bind (gg a) k w o1 s1
-      go (Bad f, s1) = refl
-      go (Lost, s1) = refl
-      go (Long, s1) = refl
 
   abbrev StK : ℕ → Value → Entry → Type 0
   StK k v e = Stood rel p (sort p k) k v e
@@ -602,7 +593,7 @@ module _ {M : Type 0} (ex : Execution M) where
               (checked_as ex ty.0 val ∙ ap (λ y. read_as ex y val) (sym (ap sort_by ty.1) ∙ so)))
               (answer_gives (q + 1) k stack fs fr (m.At end st n2) o2 s2 n2 (_, _, t2) cl.1 ek val (ops.look a1 n2)
               (law.load t2 a a1 pt may (subst OneCell (sym so) tt))
-              (one_at ex end st n2 ends ∙ holds_when (ops.may_close n2) _ cl.0
+              (at_one ex end st n2 ends ∙ holds_when (ops.may_close n2) _ cl.0
               ∙ ap (λ y. there y (λ a. when (ops.has a 1 n2)
               (ordinal_in (ops.look a n2) (λ v. Goes (m.At (q + 1) (m.Number v ∷ stack) (ops.close_frame n2)))))) ea
               ∙ holds_when (ops.has a1 1 n2) _ (law.has_one t2 a a1 pt may)))))))

@@ -37,10 +37,11 @@ use Rattle.sp_meaning.specs.Eval.{in_frame, index_in, place_by, place_of, left_o
 use Rattle.sp_meaning.specs.Eval.{actuals, address, ordinal_of}
 use Rattle.sp_meaning.specs.Run.{Store, run}
 use Rattle.sp_meaning.proofs.Within.{part}
+use Rattle.sp_meaning.proofs.Static.{home_is}
 use Rattle.sp_code.specs.declared.instr.Instr.{Instr}
 use Rattle.sp_code.specs.declared.instr.Instr.TheVariants as i
-use Rattle.sp_code.specs.Machine.{further, Entry, Config, One, Goes, Fails, when, there, worked}
-use Rattle.sp_code.specs.Machine.{ordinal_in, channel_in, instruction, one}
+use Rattle.sp_code.specs.Machine.{further, Entry, Config, Goes, Fails, there, worked, ordinal_in, channel_in}
+use Rattle.sp_code.specs.Machine.{instruction, one}
 use Rattle.sp_code.specs.Machine as m
 use Rattle.sp_code.specs.Turns.{Comes}
 use Rattle.sp_code.specs.Scopes.{Sort, Ordinals, Channels, Many, NoSort, Scope, sort, sort_by, size, slot, kind_of}
@@ -58,7 +59,7 @@ use Rattle.sp_codegen.specs.Executions.{Execution}
 use Rattle.sp_codegen.specs.Following.{StandsFor}
 use Rattle.sp_codegen.specs.Relation.{Placed, Stood, GivensAre, Owns, OneCell}
 use Rattle.sp_codegen.proofs.Runs.{Realizes, Known, stays, goes, gives_bind, gives_known, gives_give, gives_fail}
-use Rattle.sp_codegen.proofs.Runs.{gives_by}
+use Rattle.sp_codegen.proofs.Runs.{gives_by, holds_when}
 use Rattle.sp_codegen.proofs.Chains.{block_agrees, index_agrees, found, seek_all, find_in}
 
 -- entries on the stack, the last one on top
@@ -366,10 +367,6 @@ module _ {M : Type 0} (ex : Execution M) where
         absurd (subst NoIndex (ap (λ (y : Variable). y.role) d ∙ er) ta.2);
   }
 
-  pub block_home : (b : ℕ) (h : Home) → is_block b h ≡ true → h ≡ OfBlock b
-  block_home b (OfBlock c) e = let z : c ≡ b = Prim.grind (arith, nat_tests, e) in ap OfBlock z
-  block_home b (OfIndex x v) e = absurd (subst IsTrue e tt)
-
   pub visible_known : {js : List Joint} {o : Own} {s : Store} {n : M} → rel.Stand js o s n
       → (test : Home → Bool) (j : Joint) (rest : List Joint)
       → seek test (length (sources js)) (sources js) ≡ sources (j ∷ rest)
@@ -394,7 +391,7 @@ module _ {M : Type 0} (ex : Execution M) where
       (bind (visible (is_block v.block)) (λ f. give (At (in_frame g x v f))))
   own_gives {js} {o} {s} sc q x k stack n t ch may v e ek ow by up lv h =
       let r = found (is_block v.block) (places.is_block v.block) (block_agrees v.block) sc js up ch lv in
-      let a = law.addr t up x r.frame r.rest r.at v e (block_home v.block r.frame.source.home r.fit) ow in
+      let a = law.addr t up x r.frame r.rest r.at v e (home_is v.block r.frame.source.home r.fit) ow in
       let at : stands p (sources js) x ≡ Some (in_frame g x v r.frame.source).spot = ap (stands_at (sources js) x) e
       ∙ by None ∙ ap (cell_of x) (find_in (is_block v.block) js r.frame r.rest r.sought) in
       gives_known ops rel w code _ r.frame.source
@@ -434,7 +431,7 @@ module _ {M : Type 0} (ex : Execution M) where
           (λ f. ap (stands_by (sources js) x v) er) z.0 z.1 z.2
       by_role role.Reference er z =
           let r = found (is_block v.block) (places.is_block v.block) (block_agrees v.block) sc js z.0 ch z.1 in
-          let a = law.deref t z.0 x r.frame r.rest r.at v h.1 (block_home v.block r.frame.source.home r.fit) er in
+          let a = law.deref t z.0 x r.frame r.rest r.at v h.1 (home_is v.block r.frame.source.home r.fit) er in
           let at : stands p (sources js) x ≡ Some a.0.spot = ap (stands_at (sources js) x) h.1
           ∙ ap (stands_by (sources js) x v) er
           ∙ ap (reference_of x) (find_in (is_block v.block) js r.frame r.rest r.sought) ∙ ap spot_of a.1 in
@@ -464,10 +461,6 @@ module _ {M : Type 0} (ex : Execution M) where
   not_many : (ty : Option KindOf) (z : KindOf) → ty ≡ Some z → sort_by (Some z) ≡ Many → sort_by ty ≡ Ordinals → ⊥
   not_many ty z e f h = subst IsMany (sym f ∙ ap sort_by (sym e) ∙ h) tt
 
-  -- what must hold does
-  selects : (b : Bool) (c : One M) → b ≡ true → when b c ≡ c
-  selects b c e = ap (λ z. when z c) e
-
   indexed_gives : {js : List Joint} {o : Own} {s : Store} (q x k : ℕ) (low high : ℤ) (ix el : ℕ) (stack : List Entry)
       (pl : Place) (a : Ptr) (v : ℤ) (n : M) → rel.Stand js o s n → PlaceIs js x k pl a
       → slice_get p.kinds k ≡ Some (kind.Array low high ix el)
@@ -495,7 +488,7 @@ module _ {M : Type 0} (ex : Execution M) where
       by_test true e gg =
           let pt = law.element b a pi.1 low high ix el (ap (λ y. slice_get p.kinds y) pi.0 ∙ hk) v e in
           gives_give ops rel w code (At b1) a1
-          (goes ops rel w code (gg ∙ selects (nat_le a1.offset 4294967295)
+          (goes ops rel w code (gg ∙ holds_when (nat_le a1.offset 4294967295)
           (Goes (m.At (q + 1) (m.Pointer a1 ∷ stack) n)) (law.within t b1 a1 pt pi.2))) t (refl, pt, pi.2, pi.3)
       by_test false e gg = gives_fail ops rel w code fault.F1 (js, o, t) gg
 
@@ -514,7 +507,7 @@ module _ {M : Type 0} (ex : Execution M) where
       (or_known (field_kind f (kind.Fields gs)) j (rw hf refl))
       (gives_give ops rel w code (At b1) a1 (goes ops rel w code
       (at_one q (m.Pointer a ∷ stack) n h
-      ∙ selects (nat_le a1.offset 4294967295) (Goes (m.At (q + 1) (m.Pointer a1 ∷ stack) n))
+      ∙ holds_when (nat_le a1.offset 4294967295) (Goes (m.At (q + 1) (m.Pointer a1 ∷ stack) n))
       (law.within t b1 a1 pt pi.2))) t (refl, pt, pi.2, pi.3)))
     where
       b1 : Address
@@ -599,7 +592,7 @@ module _ {M : Type 0} (ex : Execution M) where
       gives_give ops rel w code (Ordinal z) (m.Number z)
       (goes ops rel w code (at_one q (m.Pointer a ∷ stack) n
       (subst (ReadAt p moves shares (Stands code) (HasFork code) (HasWords code) hush q k) pi.0 h)
-      ∙ selects (ops.has a 1 n) _ l.0 ∙ ap (λ y. ordinal_in y (λ u. Goes (m.At (q + 1) (m.Number u ∷ stack) n)))
+      ∙ holds_when (ops.has a 1 n) _ l.0 ∙ ap (λ y. ordinal_in y (λ u. Goes (m.At (q + 1) (m.Number u ∷ stack) n)))
       l.1))
       t (subst (λ y. Stood rel p y k (Ordinal z) (m.Number z)) (sym pi.0) (z, refl, refl))
   read_gives {js} {o} {s} q x k stack (At b) a n t pi h = by_sort (sort p k) refl h
@@ -629,15 +622,15 @@ module _ {M : Type 0} (ex : Execution M) where
       by_sort Ordinals e h = from_kind Ordinals e tt
           (ordinal_cell (q + 1) k stack c n t (js, o, t) e v (ops.look a n)
           (law.load t b a pi.1 pi.2 (one_cell Ordinals e tt))
-          (at_one q (m.Pointer a ∷ stack) n h ∙ selects (ops.has a 1 n) _ (law.has_one t b a pi.1 pi.2)))
+          (at_one q (m.Pointer a ∷ stack) n h ∙ holds_when (ops.has a 1 n) _ (law.has_one t b a pi.1 pi.2)))
       by_sort Channels e h = from_kind Channels e tt
           (channel_cell (q + 1) k stack c n t (js, o, t) e v (ops.look a n)
           (law.load t b a pi.1 pi.2 (one_cell Channels e tt))
-          (at_one q (m.Pointer a ∷ stack) n h ∙ selects (ops.has a 1 n) _ (law.has_one t b a pi.1 pi.2)))
+          (at_one q (m.Pointer a ∷ stack) n h ∙ holds_when (ops.has a 1 n) _ (law.has_one t b a pi.1 pi.2)))
       by_sort Many e h =
           from_kind Many e tt (gives_give ops rel w code v (m.Cells (ops.cells a (size p k) n))
           (goes ops rel w code (at_one q (m.Pointer a ∷ stack) n h
-          ∙ selects (ops.has a (size p k) n) _
+          ∙ holds_when (ops.has a (size p k) n) _
           (subst (λ y. ops.has a (size p y) n ≡ true) pi.0 (law.has t b a pi.1 pi.2)))) t
           (subst (λ y. Stood rel p y k v (m.Cells (ops.cells a (size p k) n))) (sym e) (
             ops.cells a (size p k) n,
