@@ -12,13 +12,15 @@ use Rattle.sp_history.specs.Agreement.{Each, IsOut, phase, phase_in, Running, Ha
 use Rattle.sp_history.specs.Holding.{IsOutputOf}
 use Rattle.sp_history.proofs.Holders.{one_holder}
 use Rattle.sp_history.proofs.Outs.{nobody_runs}
+use Rattle.sp_history.proofs.Phases.{live_phase}
 use Rattle.sp_machine.specs.declared.state.State.{State as Proc}
 use Rattle.sp_kernel.specs.declared.kernel.Kernel.{Kernel}
 use Rattle.sp_kernel.specs.Kernels.{control_of, system_of, setting_of}
 use Rattle.sp_kernel.specs.Closes.{HeldHere, EndsSo as KernelEndsSo}
 use Rattle.sp_kernel.specs.Outputs.{written_by, or_rest}
 use Rattle.sp_kernel.specs.Keeping.{from_start}
-use Rattle.sp_runner.proofs.Closing.{ends_at, live_phase}
+use Rattle.sp_kernel.proofs.Writing.{or_rest_none}
+use Rattle.sp_runner.proofs.Closing.{ends_at}
 use Rattle.sp_replay.specs.Held.{held_at, output_in, outputs}
 use Rattle.sp_replay.specs.Following.{IsAway, HasCome, AreOut}
 use Rattle.sp_replay.specs.Replays.{GoesOn, EndsSo}
@@ -147,16 +149,12 @@ module _ (x : Kernel) (c : HasCome x) (who : ℕ → Option Proc) (o : AreOut x 
 
 -- ---- the outputs of those that are held
 
-none_first : (a b : Option (List ℕ)) → or_rest a b ≡ None → (a ≡ None) × (b ≡ None)
-none_first None b e = (refl, e)
-none_first (Some bs) b e = absurd (cc e)
-
 pub no_outputs : (held : List (Option Proc)) → outputs held ≡ None → (q : ℕ) (p : Proc) → held_at held q ≡ Some p
     → written_by p ≡ None
 no_outputs [] e q p is = absurd (cc is)
 no_outputs (o ∷ os) e zero p is = subst (λ (r : Option Proc). output_in r ≡ None) is
-    (none_first (output_in o) (outputs os) e).0
-no_outputs (o ∷ os) e (suc q) p is = no_outputs os (none_first (output_in o) (outputs os) e).1 q p is
+    (or_rest_none (output_in o) (outputs os) e).0
+no_outputs (o ∷ os) e (suc q) p is = no_outputs os (or_rest_none (output_in o) (outputs os) e).1 q p is
 
 pub some_output : (held : List (Option Proc)) (bs : List ℕ) → outputs held ≡ Some bs → (q : ℕ) × (p : Proc)
     × (held_at held q ≡ Some p) × (written_by p ≡ Some bs)

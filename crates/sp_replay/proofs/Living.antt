@@ -1,12 +1,13 @@
 -- The root lives while any process does, since parents wait for their children; and how many processes can be out.
 use Rattle.std.proofs.Common.{◌≡◌, ◌≢◌, ◌⊎◌, ℕ, zero, suc, ◌+◌, ◌<◌, ◌≤◌, ◌==◌, inl, inr, cond, Bool, true, false, List}
 use Rattle.std.proofs.Common.{[], ◌∷◌, length, refl, sym, subst, arith}
+use Rattle.sp_base.proofs.Facts.{equals_itself}
 use Rattle.sp_journal.proofs.BirthLaws.{Lawful, Born}
 use Rattle.sp_code.specs.Control.{Control, Doing, Unborn, Ready, Out, Sending, Receiving, Joining, Laid, Ended, Gone}
 use Rattle.sp_code.specs.Control.{has_ended}
 use Rattle.sp_history.specs.Agreement.{Each, Differ, Among, IsOrderly, HasOuts, IsOut}
 use Rattle.sp_history.specs.Lines.{left_of, IsLive, HasChildren}
-use Rattle.sp_history.proofs.Queues.{each_of, number_or, itself}
+use Rattle.sp_history.proofs.Queues.{each_of, number_or}
 use Rattle.sp_history.proofs.Orders.{out_there}
 use Rattle.sp_history.proofs.Outs.{without}
 
@@ -93,7 +94,7 @@ less p (x ∷ xs) d e = go (number_or p x) (less p xs d.1 e.1)
   where
     go : (p ≡ x) ⊎ ((p ≢ x) × (p == x ≡ false)) → Each (λ q. q < p) (without p xs)
         → Each (λ q. q < p) (cond (p == x) xs (x ∷ without p xs))
-    go (inl is) h = rw (subst (λ y. p == y ≡ true) is (itself p)) (smaller xs d.0 e.1)
+    go (inl is) h = rw (subst (λ y. p == y ≡ true) is (equals_itself p)) (smaller xs d.0 e.1)
       where
         smaller : (ys : List ℕ) → Each (λ y. y ≢ x) ys → Each (λ q. q < suc p) ys → Each (λ q. q < p) ys
         smaller [] a b = tt {0}

@@ -13,15 +13,15 @@ use Rattle.sp_journal.specs.declared.outcome.Waiter.{Waiter}
 use Rattle.sp_journal.specs.Births.{births, at_start}
 use Rattle.sp_journal.specs.Queue.{numbers, InTurnFrom, line_at_start}
 use Rattle.sp_code.specs.PlainStore.{plain}
-use Rattle.sp_code.specs.Control.{Doing, Unborn, Ready, Out, Sending, Receiving, Joining, Laid, Ended, Gone}
 use Rattle.sp_code.specs.Control.{control_at_start, entries_of, standing, Running as Going, IsDone as Done}
 use Rattle.sp_code.specs.Control.{IsDeadlock as Deadlock, IsFault as Fault, IsMemory as Memory, has_ended}
 use Rattle.sp_code.specs.System.{IsSystem, opening}
-use Rattle.sp_history.specs.Agreement.{phase, phase_in, Running, Finished}
+use Rattle.sp_history.specs.Agreement.{phase_in, Running}
 use Rattle.sp_history.specs.Holding.{IsOutputOf}
 use Rattle.sp_history.specs.Lines.{OneByOne}
 use Rattle.sp_history.proofs.InTurn.{first_in_first_out}
 use Rattle.sp_history.proofs.Legal.{reaches_legal}
+use Rattle.sp_history.proofs.Phases.{ended_phase, live_phase}
 use Rattle.sp_room.specs.History.{either_list}
 use Rattle.sp_kernel.specs.declared.closed.Closed.{Closed}
 use Rattle.sp_kernel.specs.declared.kernel.Kernel.{Kernel}
@@ -63,28 +63,6 @@ by_memory false true d r e = absurd (cc e)
 by_memory false false true r e = absurd (cc e)
 by_memory false false false true e = absurd (cc e)
 by_memory false false false false e = absurd (cc e)
-
-ended_phase : (d : Doing) → has_ended d ≡ true → phase d ≡ Finished
-ended_phase Ended e = refl
-ended_phase Unborn e = absurd (cc e)
-ended_phase Ready e = absurd (cc e)
-ended_phase (Out w) e = absurd (cc e)
-ended_phase (Sending c) e = absurd (cc e)
-ended_phase (Receiving c) e = absurd (cc e)
-ended_phase (Joining n) e = absurd (cc e)
-ended_phase Laid e = absurd (cc e)
-ended_phase Gone e = absurd (cc e)
-
-pub live_phase : (d : Doing) → has_ended d ≡ false → phase d ≢ Finished
-live_phase Ended e f = absurd (cc e)
-live_phase Unborn e f = absurd (cc f)
-live_phase Ready e f = absurd (cc f)
-live_phase (Out w) e f = absurd (cc f)
-live_phase (Sending c) e f = absurd (cc f)
-live_phase (Receiving c) e f = absurd (cc f)
-live_phase (Joining n) e f = absurd (cc f)
-live_phase Laid e f = absurd (cc f)
-live_phase Gone e f = absurd (cc f)
 
 some_up : (n : ℕ) → nat_lt 0 n ≡ true → n ≢ 0
 some_up n e z = grind (arith, e, z)
