@@ -1,6 +1,8 @@
 pub mod One
 pub mod Run
 pub mod From
+pub mod Behind
+pub mod Looks
 pub mod To
 pub mod Completes
 pub mod Wider
