@@ -18,8 +18,7 @@ use Rattle.sp_tree.specs.NamedTree.{named_statement, indices}
 use Rattle.sp_tree.specs.PlainSyntax.{Statement}
 use Rattle.sp_facts.proofs.Numbering.{statement_adds}
 use Rattle.sp_tree.specs.Scopes.{next_block}
-use Rattle.sp_tree.specs.NameWalk.{formals_local, title_local, heading_local}
-use Rattle.sp_tree.specs.NameWalk.{parts_local, part_local}
+use Rattle.sp_tree.specs.NameWalk.{formals_local, title_local, heading_local, parts_local, part_local}
 use Rattle.sp_tree.specs.NamedTree.{formals_named, answer_named, parts_named, part_named}
 use Rattle.sp_tree.specs.PlainSyntax.{Part, Const, Kind, Var, Proc, Parts, NoPart, Declare}
 use Rattle.sp_facts.proofs.Numbering.{answer_adds, parts_move, part_moves}
@@ -29,7 +28,7 @@ use Rattle.sp_facts.proofs.Blocks.{calm_pieces, title_moves, formals_move, head_
 use Rattle.sp_tree.specs.PlainSyntax as syntax
 use Rattle.sp_tree.specs.NameFirst.{names_broken}
 use Rattle.sp_tree.specs.Scopes.{empty, standard}
-use Rattle.sp_types.specs.Tables.{env_of, types_of, numbers_of}
+use Rattle.sp_types.specs.Tables.{env_of, numbers_of}
 use Rattle.sp_types.specs.TypeWalk.{starts_of, blocks_after}
 use Rattle.sp_types.specs.CheckedTree.{checked_variables, or_zero}
 use Rattle.sp_facts.specs.Numbered.{ends, IsNumbered}
@@ -39,6 +38,7 @@ use Rattle.sp_facts.proofs.Variables.{indices_each}
 use Rattle.sp_facts.proofs.IndexNumbers.{statement_numbered}
 use Rattle.sp_facts.proofs.IndexTypes.{AreSpans, blocks_typed}
 use Rattle.sp_facts.proofs.Program.{named, tree, held}
+use Rattle.sp_facts.proofs.Tree.{types_length}
 
 -- all are indices of this block
 abbrev AllOf : ℕ → List checked.Variable → Type 0
@@ -208,10 +208,6 @@ module _ (s : syntax.Program) (calm : names_broken s ≡ []) where
   room_ [] (u ∷ us) x v e = absurd (cc e)
   room_ (k ∷ ks) (u ∷ us) zero v e = omega arith
   room_ (k ∷ ks) (u ∷ us) (suc x) v e = let l = room_ ks us x v e in omega (arith, l)
-
-  pub types_length : (ns : List ℕ) (us : List checked.Variable) → length (types_of ns us) ≡ length us
-  types_length ns [] = refl
-  types_length ns (u ∷ us) = ap suc (types_length ns us)
 
   -- each index has in the tree the type of its forall's first limit
   pub indices_typed : AreBlocksTyped p_ (env_of n_) (starts_of n_.blocks) n_.blocks

@@ -34,7 +34,8 @@ use Rattle.sp_facts.proofs.IndexTypes.{others_stay}
 use Rattle.sp_facts.proofs.TypesFormed.{formed_at, program_formed, number_there}
 use Rattle.sp_facts.proofs.Declared.{program_behind, program_typed}
 use Rattle.sp_facts.proofs.Program.{named, tree, formals, results}
-use Rattle.sp_facts.proofs.BlockIndices.{spans, has_, room_, types_length}
+use Rattle.sp_facts.proofs.BlockIndices.{spans, has_, room_}
+use Rattle.sp_facts.proofs.Tree.{types_length}
 
 roles_at : (ks : List (Option ℕ)) (us : List checked.Variable) (x : ℕ) (v : plain.Variable)
     → slice_get (map variable_of (checked_variables ks us)) x ≡ Some v → slice_get (roles_of us) x ≡ Some v.role
@@ -217,7 +218,7 @@ module _ (s : syntax.Program) (calm : names_broken s ≡ []) (no_types : types_b
     given = λ k l. known.0 k (subst (λ z. suc k ≤ z) few l);
     variables = variable_is;
     room = λ x v at. (let l = room_ s calm last n_.variables x v at in
-        let z = types_length s calm (numbers_of n_) n_.variables in omega (arith, l, z));
+        let z = types_length (numbers_of n_) n_.variables in omega (arith, l, z));
     roles = λ x v at. roles_at last n_.variables x v at;
     blocks = λ f b at. signatures_at (env_of n_) (starts_of n_.blocks) n_.blocks f b at;
     formals = λ f b at. subst (AreFormals p_) (sym (formals s calm f b at))

@@ -76,7 +76,7 @@ starts_length bs = go (bodies bs) bs
     go all [] = refl
     go all (b ∷ bs) = ap suc (go all bs)
 
-types_length : (ns : List ℕ) (us : List checked.Variable) → length (types_of ns us) ≡ length us
+pub types_length : (ns : List ℕ) (us : List checked.Variable) → length (types_of ns us) ≡ length us
 types_length ns [] = refl
 types_length ns (u ∷ us) = ap suc (types_length ns us)
 

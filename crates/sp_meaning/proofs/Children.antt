@@ -16,7 +16,7 @@ use Rattle.sp_meaning.specs.Owning.{find, Linked, cell_of, reference_of, stands_
 use Rattle.sp_meaning.specs.Owning.{Sound, Fit, Aimed, Used, IsClearOf, Born}
 use Rattle.sp_meaning.proofs.Keys.{name_test}
 use Rattle.sp_meaning.proofs.Rights.{All, IsAbove, Fair_rights}
-use Rattle.sp_meaning.proofs.Deeding.{push_good}
+use Rattle.sp_meaning.proofs.SoundParts.{push_good}
 
 abbrev pub Pick : Bool → Type 0 → Type 0 → Type 0
 Pick true A B = A

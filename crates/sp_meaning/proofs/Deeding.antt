@@ -1,14 +1,12 @@
 -- What a step of statements, calls and items reads and writes is the process's to read and write, and what it comes
 -- to is fair.
-use Rattle.std.proofs.Common.{◌≡◌, ◌≢◌, ◌⊎◌, inl, inr, ⊎_elim, sym, ap, ◌∙◌, subst, arith, eq-eqb, ℕ, zero, suc, ◌+◌}
-use Rattle.std.proofs.Common.{◌≤◌, Bool, true, false, List, [], ◌∷◌, ◌++◌, length, Option, Some, None, refl}
-use Rattle.std.proofs.Common.{if◌then◌else◌}
+use Rattle.std.proofs.Common.{◌≡◌, inl, inr, sym, ap, ◌∙◌, subst, arith, eq-eqb, ℕ, zero, suc, ◌+◌, ◌≤◌, Bool, true}
+use Rattle.std.proofs.Common.{false, List, [], ◌∷◌, ◌++◌, length, Option, Some, None, refl, if◌then◌else◌}
 use Rattle.std.specs.Prelude.{◌+ℤ◌, ◌-ℤ◌, ℤ, pos, nat_abs, slice_get, nat_lt, int_le, int_lt, take}
 use Rattle.std.proofs.lemmas.Option.{same_Some}
-use Rattle.sp_tree.specs.Plain.{Expr, Typed, Actuals, Var, Program, Variable, Block, Stmt, Empty, Assign, Call}
-use Rattle.sp_tree.specs.Plain.{Sequence, If, IfElse, While, Repeat, For, Case, Parallel, Forall, Assume, ReadValue}
-use Rattle.sp_tree.specs.Plain.{ReadLine, WriteValue, WriteText, WriteLine, Open, Send, Receive, Stmts, No, And, On}
-use Rattle.sp_tree.specs.Plain.{Arms, NoArm, Or}
+use Rattle.sp_tree.specs.Plain.{Expr, Typed, Actuals, Var, Variable, Block, Stmt, Empty, Assign, Call, Sequence, If}
+use Rattle.sp_tree.specs.Plain.{IfElse, While, Repeat, For, Case, Parallel, Forall, Assume, ReadValue, ReadLine}
+use Rattle.sp_tree.specs.Plain.{WriteValue, WriteText, WriteLine, Open, Send, Receive}
 use Rattle.sp_base.specs.declared.fault.Fault.{Fault}
 use Rattle.sp_base.specs.declared.fault.Fault.TheVariants as fault
 use Rattle.sp_meaning.specs.Values.{Value, Ordinal, Chan, initials}
@@ -19,29 +17,28 @@ use Rattle.sp_meaning.specs.Texts.{Taken, Takes as Took, Fails as Refuses_it, pa
 use Rattle.sp_meaning.specs.Eval.{value, ordinal_of, address, Place, At, Fixed, Given, ValueOf, PlaceOf, Calls}
 use Rattle.sp_tree.specs.Cells.{variables_of}
 use Rattle.sp_meaning.specs.Deeds.{Birth, Deed, Stepped, Ticked, Opened, Forked, Offered, push, push_all, children}
-use Rattle.sp_meaning.specs.Deeds.{indexed_children, has, arm_for, is_range, goes_on, next_value, in_width, begins}
-use Rattle.sp_meaning.specs.Deeds.{lay_one, lay, copy_in, pushed_frame, enclosing, enter, without_frame, leave, write}
-use Rattle.sp_meaning.specs.Deeds.{advance, take_in, width, peek, turn_of, fork, chosen, start, act, settle, left_by}
-use Rattle.sp_meaning.specs.Deeds.{answer_of, call_by, rest_by, all, deed_by, deed, size_of_frame, references, taken_by}
-use Rattle.sp_meaning.specs.Deeds.{shown}
+use Rattle.sp_meaning.specs.Deeds.{indexed_children, arm_for, is_range, goes_on, next_value, in_width, begins, lay_one}
+use Rattle.sp_meaning.specs.Deeds.{lay, copy_in, pushed_frame, enclosing, enter, without_frame, leave, write, advance}
+use Rattle.sp_meaning.specs.Deeds.{take_in, width, peek, turn_of, fork, chosen, start, act, settle, left_by, answer_of}
+use Rattle.sp_meaning.specs.Deeds.{call_by, rest_by, all, deed_by, deed, size_of_frame, references, taken_by, shown}
 use Rattle.sp_meaning.specs.Deeds as deeds
 use Rattle.sp_tree.specs.declared.checked.Role.TheVariants as role
 use Rattle.sp_meaning.specs.Model.{Name, Message, Takes}
-use Rattle.sp_tree.specs.Uses.{Use, Target, Seen, CallOf, ParallelOf, ForallOf, Stop, In_expr, In_target, In_call}
-use Rattle.sp_tree.specs.Uses.{In_width, In_stmt, In_stmts, In_arms, In_loop, IsOther}
-use Rattle.sp_tree.specs.Sets.{Reach, IsTarget, IsUsed}
-use Rattle.sp_tree.specs.Interference.{IsFreeOfInterference, KeepsI1, KeepsRules}
-use Rattle.sp_meaning.specs.Owning.{find, Linked, below, last_of, stands_by, stands_at, stands, cell_of, Touches, Gave}
-use Rattle.sp_meaning.specs.Owning.{Sound, Ready, Fit, AreClear, IsClearOf, Born, Fair}
+use Rattle.sp_tree.specs.Uses.{Use, Target, ParallelOf, ForallOf, In_expr, In_target, In_call, In_width, In_stmt}
+use Rattle.sp_tree.specs.Uses.{In_loop}
+use Rattle.sp_tree.specs.Interference.{IsFreeOfInterference}
+use Rattle.sp_meaning.specs.Owning.{find, Linked, below, last_of, stands_by, stands_at, stands, cell_of, Gave, Sound}
+use Rattle.sp_meaning.specs.Owning.{Ready, Fit, Born, Fair}
 use Rattle.sp_meaning.proofs.Static.{sought}
-use Rattle.sp_meaning.proofs.Within.{reach_part, address_of_keeps, MayRead, Within, within_then, Keeps, Any, part}
-use Rattle.sp_meaning.proofs.Within.{then_keeps, then_stays, give_keeps, give_stays, fail_stays, lost_stays, lost_keeps}
+use Rattle.sp_meaning.proofs.Within.{address_of_keeps, MayRead, Within, within_then, Keeps, Any, part, then_keeps}
+use Rattle.sp_meaning.proofs.Within.{then_stays, give_keeps, give_stays, fail_stays, lost_stays, lost_keeps}
 use Rattle.sp_meaning.proofs.Within.{or_lost_keeps, or_lost_stays, fetch_stays, assign_stays, ordinal_stays}
 use Rattle.sp_meaning.proofs.Within.{channel_stays, kind_stays, read_stays, Of, place_of_keeps, CallsKeep}
 use Rattle.sp_meaning.proofs.Within.{input_written, output_written, left_stays, value_stays, actuals_keeps, Writable}
 use Rattle.sp_meaning.proofs.Within.{address_keeps, ordinal_of_stays}
 use Rattle.sp_meaning.proofs.Entered.{fresh, fresh_linked, fresh_sound}
-use Rattle.sp_meaning.proofs.Keys.{number_or}
+use Rattle.sp_meaning.proofs.SoundParts.{InArm, add_do, born_copies, born_of, copies, element_sound, in_arm}
+use Rattle.sp_meaning.proofs.SoundParts.{last_shorter, linked_below, list_of, push_good, push_all_good}
 
 -- begun by q with these frames it keeps within W and R, and its value and the frames then have this fact
 pub record From {A : Type 0} (q : Name) (W R : Loc → Type 0) (fs : List Frame) (G : A → List Frame → Type 0)
@@ -71,188 +68,6 @@ module _ (q : Name) (W R : Loc → Type 0) where
 
   pub fails : {A : Type 0} {G : A → List Frame → Type 0} {fs : List Frame} (f : Fault) → From q W R fs G (fail f)
   fails f = record { by = λ w o n e. tt }
-
-used_part : (p : Program) {Here Above : Use → Type 0} → ((u : Use) → Here u → Above u) → (x : ℕ) → IsUsed p Here x
-    → IsUsed p Above x
-used_part p i x (inl h) = inl (h.0, reach_part p i h.0 (Target x) h.1)
-used_part p i x (inr h) = inr (h.0, reach_part p i h.0 (Seen x) h.1)
-
-target_part : (p : Program) {Here Above : Use → Type 0} → ((u : Use) → Here u → Above u) → (x : ℕ) → IsTarget p Here x
-    → IsTarget p Above x
-target_part p i x h = (h.0, reach_part p i h.0 (Target x) h.1)
-
--- two variables in use are two locations
-uses_apart : {p : Program} {W R : Loc → Type 0} {fs : List Frame} {Here : Use → Type 0} → Sound p W R fs Here
-    → (x y : ℕ) (l : Loc) → x ≢ y → stands p fs x ≡ Some l → stands p fs y ≡ Some l → IsUsed p Here x → IsUsed p Here y
-    → ⊥
-uses_apart s x y l n e d (inl a) (inl b) = s.apart a.0 b.0 (Target x) (Target y) a.1 b.1 x y l n (refl, e) (refl, d)
-uses_apart s x y l n e d (inl a) (inr b) = s.apart a.0 b.0 (Target x) (Seen y) a.1 b.1 x y l n (refl, e) (refl, d)
-uses_apart s x y l n e d (inr a) (inl b) = s.apart a.0 b.0 (Seen x) (Target y) a.1 b.1 x y l n (refl, e) (refl, d)
-uses_apart s x y l n e d (inr a) (inr b) = s.apart a.0 b.0 (Seen x) (Seen y) a.1 b.1 x y l n (refl, e) (refl, d)
-
--- two statements of one whole whose variables are different use different locations
-clear : {p : Program} {W R : Loc → Type 0} {fs : List Frame} {Here : Use → Type 0} → Sound p W R fs Here → (s t : Stmt)
-    → ((u : Use) → In_stmt s u → Here u) → ((u : Use) → In_stmt t u → Here u)
-    → ((x : ℕ) → IsTarget p (In_stmt s) x → IsUsed p (In_stmt t) x → ⊥)
-    → ((x : ℕ) → IsUsed p (In_stmt s) x → IsTarget p (In_stmt t) x → ⊥) → AreClear p fs s t
-clear {p} {fs = fs} so s t i j a b l = (
-  λ h k. ⊎_elim (λ (e : h.0 ≡ k.0). a k.0 (subst (λ z. IsTarget p (In_stmt s) z) e h.1) k.1)
-      (λ (n : h.0 ≢ k.0). uses_apart so h.0 k.0 l n h.2 k.2 (inl (target_part p i h.0 h.1)) (used_part p j k.0 k.1))
-      (number_or h.0 k.0),
-  λ h k. ⊎_elim (λ (e : h.0 ≡ k.0). b k.0 (subst (λ z. IsUsed p (In_stmt s) z) e h.1) k.1)
-      (λ (n : h.0 ≢ k.0). uses_apart so h.0 k.0 l n h.2 k.2 (used_part p i h.0 h.1) (inl (target_part p j k.0 k.1)))
-      (number_or h.0 k.0),
-)
-
-abbrev pub list_of : Stmts → List Stmt
-list_of No = []
-list_of (And s rest) = s ∷ list_of rest
-
-clear_of : {p : Program} {W R : Loc → Type 0} {fs : List Frame} {Here : Use → Type 0} → Sound p W R fs Here → (s : Stmt)
-    → ((u : Use) → In_stmt s u → Here u) → (ts : Stmts) → ((u : Use) → In_stmts ts u → Here u)
-    → ((x : ℕ) → IsTarget p (In_stmt s) x → IsUsed p (In_stmts ts) x → ⊥)
-    → ((x : ℕ) → IsUsed p (In_stmt s) x → IsTarget p (In_stmts ts) x → ⊥) → IsClearOf p fs s (list_of ts)
-clear_of so s i No j a b = tt
-clear_of {p} so s i (And t ts) j a b = (
-  clear so s t i (λ u h. j u (inl h)) (λ x h k. a x h (used_part p (λ u. inl) x k))
-      (λ x h k. b x h (target_part p (λ u. inl) x k)),
-  clear_of so s i ts (λ u h. j u (inr h)) (λ x h k. a x h (used_part p (λ u. inr) x k))
-      (λ x h k. b x h (target_part p (λ u. inr) x k)),
-)
-
--- by rule I1
-pub born_of : {p : Program} {W R : Loc → Type 0} {fs : List Frame} → (ss : Stmts) → Sound p W R fs (In_stmts ss)
-    → KeepsI1 p ss → Born p W R fs (list_of ss) (children ss)
-born_of No so i = tt
-born_of (And s rest) so i = (
-  refl,
-  part (λ u. inl) so,
-  clear_of so s (λ u. inl) rest (λ u. inr) i.0 i.1,
-  born_of rest (part (λ u. inr) so) i.2,
-)
-
-abbrev pub copies : ℕ → Stmt → List Stmt
-copies zero s = []
-copies (suc n) s = s ∷ copies n s
-
--- by rule I2
-clear_copies : (p : Program) (fs : List Frame) (s : Stmt) → ((x : ℕ) → IsTarget p (In_stmt s) x → ⊥) → (n : ℕ)
-    → IsClearOf p fs s (copies n s)
-clear_copies p fs s i zero = tt
-clear_copies p fs s i (suc n) = (λ l. (λ h k. i h.0 h.1, λ h k. i k.0 k.1), clear_copies p fs s i n)
-
-pub born_copies : {p : Program} {W R : Loc → Type 0} {fs : List Frame} (x : ℕ) (s : Stmt) → Sound p W R fs (In_stmt s)
-    → ((x : ℕ) → IsTarget p (In_stmt s) x → ⊥) → (m : ℤ) (n : ℕ) → Born p W R fs (copies n s) (indexed_children x s m n)
-born_copies x s so i m zero = tt
-born_copies {p} {W} {R} {fs} x s so i m (suc n) =
-    (refl, so, clear_copies p fs s i n, born_copies x s so i (m +ℤ pos 1) n)
-
--- the element statement of a forall: its index is no location
-module _ {p : Program} {W R : Loc → Type 0} {fs : List Frame} (x : ℕ) (from to : Expr) (s : Stmt)
-    (so : Sound p W R fs (In_stmt (Forall x from to s))) where
-  no_spot : (l : Loc) → stands p fs x ≡ Some l → ⊥
-  no_spot l e =
-      let i = (so.kept (ForallOf x s) (inl refl)).0 in
-      let none : stands p fs x ≡ None = ap (stands_at fs x) i.1 ∙ ap (stands_by fs x i.0) i.2 in
-      let h : None ≡ Some l = sym none ∙ e in absurd (cc h)
-
-  other_or : (u : Use) → ((y : ℕ) (l : Loc) → Touches p fs u y l → ⊥) ⊎ IsOther x u
-  other_or (Target y) = ⊎_elim (λ (e : x ≡ y). inl (λ z l t. no_spot l (ap (stands p fs) (e ∙ t.0) ∙ t.1)))
-      (λ (n : x ≢ y). inr n) (number_or x y)
-  other_or (Seen y) = ⊎_elim (λ (e : x ≡ y). inl (λ z l t. no_spot l (ap (stands p fs) (e ∙ t.0) ∙ t.1)))
-      (λ (n : x ≢ y). inr n) (number_or x y)
-  other_or (CallOf f args) = inr tt
-  other_or (ParallelOf ss) = inr tt
-  other_or (ForallOf y t) = inr tt
-  other_or Stop = inr tt
-
-  lifted : (bs : List ℕ) (u : Use) → Reach p (In_stmt s) bs u → (y : ℕ) (l : Loc) → Touches p fs u y l
-      → Reach p (In_stmt (Forall x from to s)) bs u
-  lifted [] u r y l t = ⊎_elim (λ (h : (y : ℕ) (l : Loc) → Touches p fs u y l → ⊥). absurd (h y l t))
-      (λ (o : IsOther x u). inr (inr (inr (inl (r, o))))) (other_or u)
-  lifted (b ∷ bs) u r y l t = (r.0, inr (inr (inr (inl (r.1, tt)))), r.2, r.3, r.4, r.5)
-
-  rules : (u : Use) → In_stmt s u → KeepsRules p u
-  rules (Target y) h = tt
-  rules (Seen y) h = tt
-  rules (CallOf f args) h = so.kept (CallOf f args) (inr (inr (inr (inl (h, tt)))))
-  rules (ParallelOf ss) h = so.kept (ParallelOf ss) (inr (inr (inr (inl (h, tt)))))
-  rules (ForallOf y t) h = so.kept (ForallOf y t) (inr (inr (inr (inl (h, tt)))))
-  rules Stop h = tt
-
-  pub element_sound : Sound p W R fs (In_stmt s)
-  element_sound = record {
-    allowed = λ bs u r y l t. so.allowed bs u (lifted bs u r y l t) y l t;
-    apart = λ bs cs u v r k y z l n a b. so.apart bs cs u v (lifted bs u r y l a) (lifted cs v k z l b) y z l n a b;
-    kept = rules;
-  }
-
-module _ (p : Program) (W R : Loc → Type 0) (z fs : List Frame) where
-  add_do : (s : Stmt) (todo : List Item) → Sound p W R fs (In_stmt s) → Fit p W R z fs todo
-      → Fit p W R z fs (Do s ∷ todo)
-  add_do s todo so f = record { linked = f.linked; ready = (so, f.ready); ends = f.ends }
-
-  mutual
-    pub push_good : (s : Stmt) (todo : List Item) → Sound p W R fs (In_stmt s) → Fit p W R z fs todo
-        → Fit p W R z fs (push s todo)
-    push_good Empty todo so f = f
-    push_good (Assign v e) todo so f = add_do (Assign v e) todo so f
-    push_good (Call g args) todo so f = add_do (Call g args) todo so f
-    push_good (Sequence ss) todo so f = push_all_good ss todo so f
-    push_good (If e a) todo so f = add_do (If e a) todo so f
-    push_good (IfElse e a b) todo so f = add_do (IfElse e a b) todo so f
-    push_good (While e s) todo so f = add_do (While e s) todo so f
-    push_good (Repeat s e) todo so f = add_do (Repeat s e) todo so f
-    push_good (For x from down to s) todo so f = add_do (For x from down to s) todo so f
-    push_good (Case e arms) todo so f = add_do (Case e arms) todo so f
-    push_good (Parallel ss) todo so f = add_do (Parallel ss) todo so f
-    push_good (Forall x from to s) todo so f = add_do (Forall x from to s) todo so f
-    push_good (Assume e) todo so f = add_do (Assume e) todo so f
-    push_good (ReadValue v) todo so f = add_do (ReadValue v) todo so f
-    push_good ReadLine todo so f = add_do ReadLine todo so f
-    push_good (WriteValue e w) todo so f = add_do (WriteValue e w) todo so f
-    push_good (WriteText t w) todo so f = add_do (WriteText t w) todo so f
-    push_good WriteLine todo so f = add_do WriteLine todo so f
-    push_good (Open v) todo so f = add_do (Open v) todo so f
-    push_good (Send c e) todo so f = add_do (Send c e) todo so f
-    push_good (Receive c v) todo so f = add_do (Receive c v) todo so f
-
-    pub push_all_good : (ss : Stmts) (todo : List Item) → Sound p W R fs (In_stmts ss) → Fit p W R z fs todo
-        → Fit p W R z fs (push_all ss todo)
-    push_all_good No todo so f = f
-    push_all_good (And s rest) todo so f = push_good s (push_all rest todo) (part (λ u. inl) so)
-        (push_all_good rest todo (part (λ u. inr) so) f)
-
-abbrev pub InArm : Arms → Option Stmt → Type 0
-InArm arms None = Unit {0}
-InArm arms (Some s) = (u : Use) → In_stmt s u → In_arms arms u
-
-in_arm : (n : ℤ) (arms : Arms) → InArm arms (arm_for n arms)
-in_arm n NoArm = tt
-in_arm n (Or (On ms s) rest) = go (has n ms) (arm_for n rest) (in_arm n rest)
-  where
-    go : (b : Bool) (o : Option Stmt) → InArm rest o → InArm (Or (On ms s) rest) (if b then Some s else o)
-    go true o h = λ u i. inl i
-    go false None h = tt
-    go false (Some r) h = λ u i. inr (h u i)
-
-linked_below : (fs : List Frame) → Linked fs → Linked (below fs)
-linked_below [] l = tt
-linked_below (f ∷ fs) l = l.3
-
--- no more frames are left than there were
-last_shorter : (fs : List Frame) (todo : List Item) → length (last_of fs todo) ≤ length fs
-last_shorter fs [] = omega arith
-last_shorter fs (Do s ∷ todo) = last_shorter fs todo
-last_shorter fs (First x m n down s ∷ todo) = last_shorter fs todo
-last_shorter fs (Again x n down s ∷ todo) = last_shorter fs todo
-last_shorter fs (Test s e ∷ todo) = last_shorter fs todo
-last_shorter fs (Leave ∷ todo) = let a = last_shorter (below fs) todo in let b = below_shorter fs in omega (arith, a, b)
-  where
-    below_shorter : (gs : List Frame) → length (below gs) ≤ length gs
-    below_shorter [] = omega arith
-    below_shorter (g ∷ gs) = omega arith
-last_shorter fs (Break f ∷ todo) = last_shorter fs todo
 
 -- low: what stands in the process's frames from this number on is its own to write
 module _ (set : Setting) (q : Name) (W R : Loc → Type 0) (low : ℕ) (own : (n x : ℕ) → low ≤ n → W (Cell q n x))

@@ -8,7 +8,7 @@ use Rattle.sp_base.specs.declared.fault.Fault.{Fault}
 use Rattle.sp_base.specs.declared.fault.Fault.TheVariants as fault
 use Rattle.sp_tree.specs.Plain.{Expr, Typed, Variable, Block, Stmt, Empty, Assign, Call, Sequence, If, IfElse, While}
 use Rattle.sp_tree.specs.Plain.{Repeat, For, Case, Parallel, Forall, Assume, ReadValue, ReadLine, WriteValue, WriteText}
-use Rattle.sp_tree.specs.Plain.{WriteLine, Open, Send, Receive, Stmts, No, And, On, Arms, NoArm, Or}
+use Rattle.sp_tree.specs.Plain.{WriteLine, Open, Send, Receive}
 use Rattle.sp_meaning.specs.Asking.{Asking, Done, Loads, Puts}
 use Rattle.sp_meaning.specs.Values.{Value, Ordinal, Chan, initials}
 use Rattle.sp_meaning.specs.Own.{Setting, Loc, Output, Held, Written, Address, Frame, Own, Who, Item, Do, First, Again}
@@ -17,133 +17,21 @@ use Rattle.sp_meaning.specs.Own.{become, put, assign, or_lost, tick, deepen, wid
 use Rattle.sp_meaning.specs.Texts.{Taken, Takes as Took, Fails as Stops, padded, line_length}
 use Rattle.sp_meaning.specs.Eval.{Given, ValueOf, PlaceOf, Calls}
 use Rattle.sp_tree.specs.Cells.{variables_of}
-use Rattle.sp_meaning.specs.Deeds.{Birth, Deed, Stepped, Opened, Forked, Offered, Ended, push, push_all, has, arm_for}
+use Rattle.sp_meaning.specs.Deeds.{Birth, Deed, Stepped, Opened, Forked, Offered, Ended, push, push_all, arm_for}
 use Rattle.sp_meaning.specs.Deeds.{is_range, goes_on, next_value, in_width, begins, lay_one, lay, copy_in, pushed_frame}
 use Rattle.sp_meaning.specs.Deeds.{enclosing, enter, without_frame, leave, write, advance, take_in, width, peek}
 use Rattle.sp_meaning.specs.Deeds.{turn_of, fork, chosen, start, act, settle, left_by, answer_of, call_by, rest_by, all}
 use Rattle.sp_meaning.specs.Deeds.{deed_by, deed, children, indexed_children, size_of_frame, references, taken_by}
 use Rattle.sp_meaning.specs.Deeds.{shown}
 use Rattle.sp_meaning.specs.Deeds as deeds
-use Rattle.sp_meaning.specs.SuperPascal.{weight, weight_all, weight_arms, weight_blocks, weight_of, enough}
+use Rattle.sp_meaning.specs.SuperPascal.{weight, weight_arms, weight_blocks, weight_of, enough}
 use Rattle.sp_meaning.proofs.Enough.{Ends, ends_then, ends_weaker, Any, Steady, then_steady, give_steady, fail_steady}
 use Rattle.sp_meaning.proofs.Enough.{lost_steady, or_lost_steady, fetch_steady, assign_steady, reach_steady}
 use Rattle.sp_meaning.proofs.Enough.{ordinal_steady, channel_steady, kind_steady, read_steady, address_of_steady}
 use Rattle.sp_meaning.proofs.Enough.{place_of_steady, left_steady, CallsEnd, value_steady, actuals_steady}
 use Rattle.sp_meaning.proofs.Enough.{address_steady, ordinal_of_steady}
-
-abbrev pub weight_item : Item → ℕ
-weight_item (Do s) = weight s
-weight_item (First x m n down s) = 1
-weight_item (Again x n down s) = 1
-weight_item (Test s e) = weight s + 4
-weight_item Leave = 1
-weight_item (Break f) = 1
-
-abbrev pub weights : List Item → ℕ
-weights [] = 0
-weights (i ∷ todo) = weight_item i + weights todo
-
--- what is left to do is light
-abbrev pub Fit : ℕ → Item → Type 0
-Fit k (Do s) = weight s ≤ k
-Fit k (First x m n down s) = weight s + 3 ≤ k
-Fit k (Again x n down s) = weight s + 3 ≤ k
-Fit k (Test s e) = weight s + 3 ≤ k
-Fit k Leave = Unit {0}
-Fit k (Break f) = Unit {0}
-
-abbrev pub AllFit : ℕ → List Item → Type 0
-AllFit k [] = Unit {0}
-AllFit k (i ∷ todo) = Fit k i × AllFit k todo
-
--- and so is what each child is to do
-abbrev pub AllBorn : ℕ → List Birth → Type 0
-AllBorn k [] = Unit {0}
-AllBorn k (b ∷ bs) = AllFit k b.todo × AllBorn k bs
-
-mutual
-  push_weight : (s : Stmt) (todo : List Item) → weights (push s todo) ≤ weight s + weights todo
-  push_weight Empty todo = omega arith
-  push_weight (Assign v e) todo = omega arith
-  push_weight (Call f args) todo = omega arith
-  push_weight (Sequence ss) todo = omega (arith, push_all_weight ss todo)
-  push_weight (If e a) todo = omega arith
-  push_weight (IfElse e a b) todo = omega arith
-  push_weight (While e s) todo = omega arith
-  push_weight (Repeat s e) todo = omega arith
-  push_weight (For x from down to s) todo = omega arith
-  push_weight (Case e arms) todo = omega arith
-  push_weight (Parallel ss) todo = omega arith
-  push_weight (Forall x from to s) todo = omega arith
-  push_weight (Assume e) todo = omega arith
-  push_weight (ReadValue v) todo = omega arith
-  push_weight ReadLine todo = omega arith
-  push_weight (WriteValue e w) todo = omega arith
-  push_weight (WriteText t w) todo = omega arith
-  push_weight WriteLine todo = omega arith
-  push_weight (Open v) todo = omega arith
-  push_weight (Send c e) todo = omega arith
-  push_weight (Receive c v) todo = omega arith
-
-  push_all_weight : (ss : Stmts) (todo : List Item) → weights (push_all ss todo) ≤ weight_all ss + weights todo
-  push_all_weight No todo = omega arith
-  push_all_weight (And s rest) todo = omega (arith, push_weight s (push_all rest todo), push_all_weight rest todo)
-
-mutual
-  pub push_fit : (k : ℕ) (s : Stmt) (todo : List Item) → weight s ≤ k → AllFit k todo → AllFit k (push s todo)
-  push_fit k Empty todo h f = f
-  push_fit k (Assign v e) todo h f = (h, f)
-  push_fit k (Call g args) todo h f = (h, f)
-  push_fit k (Sequence ss) todo h f = push_all_fit k ss todo (omega arith) f
-  push_fit k (If e a) todo h f = (h, f)
-  push_fit k (IfElse e a b) todo h f = (h, f)
-  push_fit k (While e s) todo h f = (h, f)
-  push_fit k (Repeat s e) todo h f = (h, f)
-  push_fit k (For x from down to s) todo h f = (h, f)
-  push_fit k (Case e arms) todo h f = (h, f)
-  push_fit k (Parallel ss) todo h f = (h, f)
-  push_fit k (Forall x from to s) todo h f = (h, f)
-  push_fit k (Assume e) todo h f = (h, f)
-  push_fit k (ReadValue v) todo h f = (h, f)
-  push_fit k ReadLine todo h f = (h, f)
-  push_fit k (WriteValue e w) todo h f = (h, f)
-  push_fit k (WriteText t w) todo h f = (h, f)
-  push_fit k WriteLine todo h f = (h, f)
-  push_fit k (Open v) todo h f = (h, f)
-  push_fit k (Send c e) todo h f = (h, f)
-  push_fit k (Receive c v) todo h f = (h, f)
-
-  push_all_fit : (k : ℕ) (ss : Stmts) (todo : List Item) → weight_all ss ≤ k → AllFit k todo
-      → AllFit k (push_all ss todo)
-  push_all_fit k No todo h f = f
-  push_all_fit k (And s rest) todo h f = push_fit k s (push_all rest todo) (omega arith)
-      (push_all_fit k rest todo (omega arith) f)
-
-children_born : (k : ℕ) (ss : Stmts) → weight_all ss ≤ k → AllBorn k (children ss)
-children_born k No h = tt
-children_born k (And s rest) h = (push_fit k s [] (omega arith) tt, children_born k rest (omega arith))
-
-indexed_born : (k x : ℕ) (s : Stmt) (low : ℤ) (n : ℕ) → weight s ≤ k → AllBorn k (indexed_children x s low n)
-indexed_born k x s low zero h = tt
-indexed_born k x s low (suc n) h = (push_fit k s [] h tt, indexed_born k x s (low +ℤ pos 1) n h)
-
-abbrev pub LightStmt : ℕ → Option Stmt → Type 0
-LightStmt w None = Unit {0}
-LightStmt w (Some s) = weight s ≤ w
-
-arm_light : (n : ℤ) (arms : Arms) → LightStmt (weight_arms arms) (arm_for n arms)
-arm_light n NoArm = tt
-arm_light n (Or (On ms s) rest) = go (has n ms) (arm_for n rest) (arm_light n rest)
-  where
-    go : (b : Bool) (o : Option Stmt) → LightStmt (weight_arms rest) o
-        → LightStmt (weight s + weight_arms rest) (if b then Some s else o)
-    go true o h = omega arith
-    go false None h = tt
-    go false (Some r) h = omega arith
-
-abbrev pub LightBlock : ℕ → Option Block → Type 0
-LightBlock k None = Unit {0}
-LightBlock k (Some b) = weight b.body ≤ k
+use Rattle.sp_meaning.proofs.Weights.{AllBorn, AllFit, LightBlock, LightStmt, arm_light, children_born, indexed_born}
+use Rattle.sp_meaning.proofs.Weights.{push_all_fit, push_all_weight, push_fit, push_weight, weights}
 
 pub ends_strong : {A : Type 0} (u t : ℕ) (F G : A → Own → Type 0) (x : Asking Loc Held (Came A)) → t ≤ u
     → ((a : A) (o : Own) → u ≤ o.ticks → F a o → G a o) → Ends u F x → Ends t G x

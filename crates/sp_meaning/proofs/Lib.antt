@@ -11,6 +11,7 @@ pub mod Parallel
 pub mod Schedules
 pub mod Run
 pub mod Enough
+pub mod Weights
 pub mod EnoughSteps
 pub mod Moved
 pub mod Sound
@@ -27,6 +28,7 @@ pub mod Static
 pub mod Within
 pub mod Entered
 pub mod Rights
+pub mod SoundParts
 pub mod Deeding
 pub mod Children
 pub mod Owned

@@ -29,7 +29,8 @@ use Rattle.sp_meaning.proofs.Keys.{name_test}
 use Rattle.sp_meaning.proofs.Asking.{answer_then}
 use Rattle.sp_meaning.proofs.Instance.{loc_test}
 use Rattle.sp_meaning.proofs.Enough.{Ends as Comes}
-use Rattle.sp_meaning.proofs.EnoughSteps.{AllFit, AllBorn, Deeds, weights, enough_is, push_fit}
+use Rattle.sp_meaning.proofs.EnoughSteps.{Deeds, enough_is}
+use Rattle.sp_meaning.proofs.Weights.{AllFit, AllBorn, weights, push_fit}
 
 -- what an answer is of a tree that comes to its end
 abbrev pub Result : {A : Type 0} → ℕ → (A → Own → Type 0) → Came A → Type 0

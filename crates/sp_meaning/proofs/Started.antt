@@ -18,9 +18,9 @@ use Rattle.sp_tree.specs.Uses.{Use, Target, Seen, CallOf, ParallelOf, ForallOf, 
 use Rattle.sp_tree.specs.Interference.{IsFreeOfInterference}
 use Rattle.sp_meaning.specs.Owning.{cell_of, reference_of, console, stands_by, stands_at, stands, Touches, Right, Sound}
 use Rattle.sp_meaning.specs.Owning.{Fit}
-use Rattle.sp_meaning.proofs.Deeding.{push_good}
 use Rattle.sp_meaning.proofs.Rights.{All, IsAbove, Fair_rights}
 use Rattle.sp_meaning.proofs.Owned.{Holds, Inv, disjoint_from}
+use Rattle.sp_meaning.proofs.SoundParts.{push_good}
 
 -- the root may use the input and the output
 abbrev pub First : Name → Loc → Type 0

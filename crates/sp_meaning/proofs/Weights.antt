@@ -1,0 +1,124 @@
+-- How much stands between two ticks of what is left to do: no more than in the statement that it comes from.
+use Rattle.std.proofs.Common.{ℕ, zero, suc, ◌+◌, ◌≤◌, Bool, true, false, List, [], ◌∷◌, Option, Some, None, arith}
+use Rattle.std.proofs.Common.{if◌then◌else◌}
+use Rattle.std.specs.Prelude.{ℤ, pos, ◌+ℤ◌}
+use Rattle.sp_tree.specs.Plain.{Block, Stmt, Empty, Assign, Call, Sequence, If, IfElse, While, Repeat, For, Case}
+use Rattle.sp_tree.specs.Plain.{Parallel, Forall, Assume, ReadValue, ReadLine, WriteValue, WriteText, WriteLine, Open}
+use Rattle.sp_tree.specs.Plain.{Send, Receive, Stmts, No, And, On, Arms, NoArm, Or}
+use Rattle.sp_meaning.specs.Own.{Item, Do, First, Again, Test, Leave, Break}
+use Rattle.sp_meaning.specs.Deeds.{Birth, push, push_all, has, arm_for, children, indexed_children}
+use Rattle.sp_meaning.specs.SuperPascal.{weight, weight_all, weight_arms}
+
+abbrev pub weight_item : Item → ℕ
+weight_item (Do s) = weight s
+weight_item (First x m n down s) = 1
+weight_item (Again x n down s) = 1
+weight_item (Test s e) = weight s + 4
+weight_item Leave = 1
+weight_item (Break f) = 1
+
+abbrev pub weights : List Item → ℕ
+weights [] = 0
+weights (i ∷ todo) = weight_item i + weights todo
+
+-- what is left to do is light
+abbrev pub Fit : ℕ → Item → Type 0
+Fit k (Do s) = weight s ≤ k
+Fit k (First x m n down s) = weight s + 3 ≤ k
+Fit k (Again x n down s) = weight s + 3 ≤ k
+Fit k (Test s e) = weight s + 3 ≤ k
+Fit k Leave = Unit {0}
+Fit k (Break f) = Unit {0}
+
+abbrev pub AllFit : ℕ → List Item → Type 0
+AllFit k [] = Unit {0}
+AllFit k (i ∷ todo) = Fit k i × AllFit k todo
+
+-- and so is what each child is to do
+abbrev pub AllBorn : ℕ → List Birth → Type 0
+AllBorn k [] = Unit {0}
+AllBorn k (b ∷ bs) = AllFit k b.todo × AllBorn k bs
+
+mutual
+  pub push_weight : (s : Stmt) (todo : List Item) → weights (push s todo) ≤ weight s + weights todo
+  push_weight Empty todo = omega arith
+  push_weight (Assign v e) todo = omega arith
+  push_weight (Call f args) todo = omega arith
+  push_weight (Sequence ss) todo = omega (arith, push_all_weight ss todo)
+  push_weight (If e a) todo = omega arith
+  push_weight (IfElse e a b) todo = omega arith
+  push_weight (While e s) todo = omega arith
+  push_weight (Repeat s e) todo = omega arith
+  push_weight (For x from down to s) todo = omega arith
+  push_weight (Case e arms) todo = omega arith
+  push_weight (Parallel ss) todo = omega arith
+  push_weight (Forall x from to s) todo = omega arith
+  push_weight (Assume e) todo = omega arith
+  push_weight (ReadValue v) todo = omega arith
+  push_weight ReadLine todo = omega arith
+  push_weight (WriteValue e w) todo = omega arith
+  push_weight (WriteText t w) todo = omega arith
+  push_weight WriteLine todo = omega arith
+  push_weight (Open v) todo = omega arith
+  push_weight (Send c e) todo = omega arith
+  push_weight (Receive c v) todo = omega arith
+
+  pub push_all_weight : (ss : Stmts) (todo : List Item) → weights (push_all ss todo) ≤ weight_all ss + weights todo
+  push_all_weight No todo = omega arith
+  push_all_weight (And s rest) todo = omega (arith, push_weight s (push_all rest todo), push_all_weight rest todo)
+
+mutual
+  pub push_fit : (k : ℕ) (s : Stmt) (todo : List Item) → weight s ≤ k → AllFit k todo → AllFit k (push s todo)
+  push_fit k Empty todo h f = f
+  push_fit k (Assign v e) todo h f = (h, f)
+  push_fit k (Call g args) todo h f = (h, f)
+  push_fit k (Sequence ss) todo h f = push_all_fit k ss todo (omega arith) f
+  push_fit k (If e a) todo h f = (h, f)
+  push_fit k (IfElse e a b) todo h f = (h, f)
+  push_fit k (While e s) todo h f = (h, f)
+  push_fit k (Repeat s e) todo h f = (h, f)
+  push_fit k (For x from down to s) todo h f = (h, f)
+  push_fit k (Case e arms) todo h f = (h, f)
+  push_fit k (Parallel ss) todo h f = (h, f)
+  push_fit k (Forall x from to s) todo h f = (h, f)
+  push_fit k (Assume e) todo h f = (h, f)
+  push_fit k (ReadValue v) todo h f = (h, f)
+  push_fit k ReadLine todo h f = (h, f)
+  push_fit k (WriteValue e w) todo h f = (h, f)
+  push_fit k (WriteText t w) todo h f = (h, f)
+  push_fit k WriteLine todo h f = (h, f)
+  push_fit k (Open v) todo h f = (h, f)
+  push_fit k (Send c e) todo h f = (h, f)
+  push_fit k (Receive c v) todo h f = (h, f)
+
+  pub push_all_fit : (k : ℕ) (ss : Stmts) (todo : List Item) → weight_all ss ≤ k → AllFit k todo
+      → AllFit k (push_all ss todo)
+  push_all_fit k No todo h f = f
+  push_all_fit k (And s rest) todo h f = push_fit k s (push_all rest todo) (omega arith)
+      (push_all_fit k rest todo (omega arith) f)
+
+pub children_born : (k : ℕ) (ss : Stmts) → weight_all ss ≤ k → AllBorn k (children ss)
+children_born k No h = tt
+children_born k (And s rest) h = (push_fit k s [] (omega arith) tt, children_born k rest (omega arith))
+
+pub indexed_born : (k x : ℕ) (s : Stmt) (low : ℤ) (n : ℕ) → weight s ≤ k → AllBorn k (indexed_children x s low n)
+indexed_born k x s low zero h = tt
+indexed_born k x s low (suc n) h = (push_fit k s [] h tt, indexed_born k x s (low +ℤ pos 1) n h)
+
+abbrev pub LightStmt : ℕ → Option Stmt → Type 0
+LightStmt w None = Unit {0}
+LightStmt w (Some s) = weight s ≤ w
+
+pub arm_light : (n : ℤ) (arms : Arms) → LightStmt (weight_arms arms) (arm_for n arms)
+arm_light n NoArm = tt
+arm_light n (Or (On ms s) rest) = go (has n ms) (arm_for n rest) (arm_light n rest)
+  where
+    go : (b : Bool) (o : Option Stmt) → LightStmt (weight_arms rest) o
+        → LightStmt (weight s + weight_arms rest) (if b then Some s else o)
+    go true o h = omega arith
+    go false None h = tt
+    go false (Some r) h = omega arith
+
+abbrev pub LightBlock : ℕ → Option Block → Type 0
+LightBlock k None = Unit {0}
+LightBlock k (Some b) = weight b.body ≤ k
