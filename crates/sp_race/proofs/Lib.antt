@@ -4,6 +4,7 @@ pub mod Changes
 pub mod Commuting
 pub mod NotesFrames
 pub mod Rendezvous
+pub mod Partners
 pub mod GoodSteps
 pub mod Linking
 pub mod LinkedSteps

@@ -30,8 +30,8 @@ use Rattle.sp_race.specs.Notes.{Event, both, Notes, Note, Counts, Learns, Record
 use Rattle.sp_race.specs.Notes.{same_event, teaches, tells, other_way, offer_notes, notes_of}
 use Rattle.sp_race.specs.Noting.{WithNotes}
 use Rattle.sp_race.proofs.NotesFrames.{event_test, both_right, both_kept}
-use Rattle.sp_race.proofs.GoodSteps.{GoodStep, steps, quiet_after, leads_on, happens_later, TakesPart, writer}
-use Rattle.sp_race.proofs.GoodSteps.{part_alone, events_kept, past_kept}
+use Rattle.sp_race.proofs.GoodSteps.{GoodStep, steps, quiet_after, leads_on, happens_later, events_kept, past_kept}
+use Rattle.sp_race.proofs.Partners.{TakesPart, writer, part_alone}
 
 -- what a computation asks, it asks with another one after it
 asks_then : {Loc Value A B : Type 0} (same : Loc → Loc → Bool) (t : Asking Loc Value A) (f : A → Asking Loc Value B)

@@ -13,6 +13,7 @@ pub mod Witnessing
 pub mod Shown
 pub mod Real
 pub mod Standing
+pub mod Learning
 pub mod Passing
 pub mod PassLaw
 pub mod Flagging
