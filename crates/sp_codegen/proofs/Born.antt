@@ -19,7 +19,7 @@ use Rattle.sp_meaning.specs.Deeds.{Birth, push, children, indexed_children}
 use Rattle.sp_meaning.specs.Owning.{Linked, Aimed, Used, Sound}
 use Rattle.sp_meaning.proofs.Within.{part}
 use Rattle.sp_meaning.proofs.Children.{child_sound, index_linked}
-use Rattle.sp_meaning.proofs.Deeding.{element_sound}
+use Rattle.sp_meaning.proofs.SoundParts.{element_sound}
 use Rattle.sp_code.specs.declared.code.Layout.{Layout}
 use Rattle.sp_code.specs.declared.code.Parts.{Parts as Code}
 use Rattle.sp_code.specs.Memory.{last_frames}

@@ -26,7 +26,7 @@ pub use Rattle.sp_codegen.specs.Following.{cells_in}
 use Rattle.sp_codegen.specs.Following.{StandsFor}
 use Rattle.sp_codegen.specs.Relation.{Alike}
 use Rattle.sp_codegen.proofs.Runs.{Realizes, Known, Ends, stays, goes, comes_on, breaks, breaks_after}
-use Rattle.sp_codegen.proofs.Values.{P, within}
+use Rattle.sp_codegen.proofs.ValueForms.{P, within}
 
 module _ {M : Type 0} (ex : Execution M) where
   open ex use {

@@ -10,7 +10,8 @@ use Rattle.sp_meaning.specs.Deeds as deeds
 use Rattle.sp_meaning.specs.Run.{Store, run}
 use Rattle.sp_meaning.specs.SuperPascal.{weight_of}
 use Rattle.sp_meaning.specs.Turn as source
-use Rattle.sp_meaning.proofs.EnoughSteps.{AllFit, weights, budget}
+use Rattle.sp_meaning.proofs.EnoughSteps.{budget}
+use Rattle.sp_meaning.proofs.Weights.{AllFit, weights}
 use Rattle.sp_code.specs.declared.code.Layout.{Layout}
 use Rattle.sp_code.specs.Machine.{Entry, At, layout_of}
 use Rattle.sp_code.specs.Turns.{IsSafe}

@@ -7,9 +7,10 @@ use Rattle.sp_meaning.specs.Deeds as deeds
 use Rattle.sp_meaning.specs.SuperPascal.{weight_of}
 use Rattle.sp_meaning.specs.Run.{Store, run}
 use Rattle.sp_meaning.specs.Turn as source
-use Rattle.sp_meaning.proofs.EnoughSteps.{AllFit, Deeds, weights, budget}
+use Rattle.sp_meaning.proofs.EnoughSteps.{Deeds, budget}
 use Rattle.sp_meaning.proofs.Reached.{Result, deed_is}
 use Rattle.sp_meaning.proofs.Run.{then_run, run_bind}
+use Rattle.sp_meaning.proofs.Weights.{AllFit, weights}
 
 module _ (g : Setting) (due : Own → Bool) where
   abbrev K : ℕ

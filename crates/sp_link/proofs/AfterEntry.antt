@@ -132,27 +132,29 @@ module _ (G : Ground) (lf : Life) (kids : ℕ → ℕ → Life) (q : Name) where
       → w1.name ≡ w.name → since1 ≡ n.ticks → St G lf kids q w since js o s n
       → St G lf kids q w1 since1 js o s (record n { since = n.ticks })
   stand_again {js = js} {n = n} e f t = record {
-    frames = t.frames;
-    machine_frames = t.machine_frames;
-    paired = t.paired;
-    process = subst (λ z. Called G z n.process) (sym e) t.process;
+    frames = record {
+      sources_are = t.frames.sources_are;
+      machines_are = t.frames.machines_are;
+      paired = t.frames.paired;
+      process = subst (λ z. Called G z n.process) (sym e) t.frames.process;
+      owners = subst (λ z. OwnersWithin (length z) js) (sym e) t.frames.owners;
+      depth = t.frames.depth;
+      cells = t.frames.cells;
+      fits = t.frames.fits;
+      shallow = t.frames.shallow;
+      own_frames = t.frames.own_frames;
+      above_base = t.frames.above_base;
+      deep = t.frames.deep;
+      counts = t.frames.counts;
+      apart = t.frames.apart;
+      root = t.frames.root;
+      bottom = t.frames.bottom;
+    };
     ticks = t.ticks;
     since_is = sym f;
     moved_is = t.moved_is;
-    owners = subst (λ z. OwnersWithin (length z) js) (sym e) t.owners;
-    depth = t.depth;
-    cells = t.cells;
-    fits = t.fits;
-    shallow = t.shallow;
-    own_frames = t.own_frames;
-    above_base = t.above_base;
-    deep = t.deep;
-    counts = t.counts;
     known = t.known;
     unaway = t.unaway;
-    apart = t.apart;
-    root = t.root;
-    bottom = t.bottom;
     held = λ r h x l m. (let z = t.held r h x l m in
         record { tree = z.tree; is = z.is; cells = z.cells; piece = z.piece; flat = z.flat });
     indexes = t.indexes;

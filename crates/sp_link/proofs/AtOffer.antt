@@ -83,7 +83,7 @@ module _ (G : Ground) (lv : Lives G) (c : Course) (s : StateOf G.g) (u : System 
           {since = c.since v} {since1 = since1} (ap (λ (a : Who). a.name) x.who_is) since_is
           (stand_dead G (lv v) (λ a b. lv ((a, b) ∷ v)) v t.8 x.at.store
           (λ a. subst (λ b. (x.at.store a ≡ m a) ⊎ IsDead b a)
-          (ap (λ b. length b) (t.8).frames ∙ sources_length t.3)
+          (ap (λ b. length b) (t.8).frames.sources_are ∙ sources_length t.3)
           (same_but_dead G lv c s u l i d at_i z (Offered ch kd cg todo) o m x tt a)));
       follows = follows_again G (lv v) (λ a b. lv ((a, b) ∷ v)) v z.fresh z.fresh (p1 G lv c s u l i d at_i).who
           x.left.who z.named x.good.named (c.since v) since1 t.0 t.1 t.3 todo t.10;

@@ -34,7 +34,7 @@ use Rattle.sp_code.specs.Places.{after}
 use Rattle.sp_code.specs.Emitted.{child_table}
 use Rattle.sp_codegen.specs.Joints.{Joint, sources, from}
 use Rattle.sp_codegen.specs.Relation.{Placed}
-use Rattle.sp_codegen.proofs.Owners.{within_at}
+use Rattle.sp_codegen.proofs.Owners.{no_longer_owner}
 use Rattle.sp_codegen.proofs.Begins.{child_begins}
 use Rattle.sp_codegen.proofs.Birth.{low_small}
 use Rattle.sp_codegen.proofs.Born.{ChildIs, Seen, child_follows}
@@ -101,8 +101,7 @@ module _ (G : Ground) (lf : Life) (kids : ℕ → ℕ → Life) (q : Name) where
     sound = part (λ u a. inr (inl (z.inside u a))) pl.sound
 
     pub new_name : (h : ℕ) (j : Joint) (rest : List Joint) → from (suc h) js ≡ j ∷ rest → j.source.owner ≡ child → ⊥
-    new_name h j rest e i = let a = within_at (length w.name) (suc h) js j rest t.owners e in
-        let b = ap (λ z. length z) i in omega (arith, a, b, longer)
+    new_name = no_longer_owner (length w.name) js child t.frames.owners longer
 
     abbrev pub table : ChildTable
     table = child_table G.g.program G.moves G.shares z.entry None z.statement
@@ -148,7 +147,7 @@ module _ (G : Ground) (lf : Life) (kids : ℕ → ℕ → Life) (q : Name) where
 
       pub fresh : Fresh G life more child
       fresh = record {
-        based = (let a = t.above_base in let c = f.based in omega (arith, a, c));
+        based = (let a = t.frames.above_base in let c = f.based in omega (arith, a, c));
         reads = λ l h. ⊎_elim (λ a. inl a) (λ a. inr (a.0, inl a.1, a.2)) h;
         low_small = low_small G.g G.code w (Named G) (Called G) Wr Rd lf.J lf.low (length lf.below) lf.born since
             G.pause lf.moved f.based t may_fork handing all_moved_known own.who (omega (arith, longer)) number called
@@ -254,7 +253,7 @@ module _ (G : Ground) (lf : Life) (kids : ℕ → ℕ → Life) (q : Name) where
           (inr (a.0, inl a.1, a.2), (l, refl, refl)));
       aims = λ r h x l a. in_spots G.code.layouts n.frames (G.moves z.statement) a.0
           (spot_at l.joint.machine.number (slot G.g.program x)) (G.sets.moved z.statement a.0 a.1)
-          (ap (λ y. spot_of G.code.layouts y a.0) t.machine_frames
+          (ap (λ y. spot_of G.code.layouts y a.0) t.frames.machines_are
           ∙ found_at G.g G.code w (Named G) (Called G) Wr Rd lf.J lf.low (length lf.below) lf.born since G.pause
           lf.moved G.formed G.laid G.free f.reads G.moves G.shares G.sets t z.statement sound unread child new_name
           table refl refl value k a.0 r h x a.2 l);

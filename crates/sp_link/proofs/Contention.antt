@@ -12,17 +12,9 @@ use Rattle.sp_cell.specs.Map.{Plain}
 use Rattle.sp_code.specs.Machine.{Stop, Forks, Opens, Sends, Receives, Ends, Pauses, Config}
 use Rattle.sp_code.specs.Memory.{Memory}
 use Rattle.sp_code.specs.Turns.{Stopped}
-use Rattle.sp_code.specs.System.{System, event_of, event_or, event_at, fault_of, first_fault, clash_of, clash_by}
-use Rattle.sp_code.specs.System.{pending_stop}
+use Rattle.sp_code.specs.System.{System, event_of, event_or, fault_of, first_fault, clash_of, clash_by, pending_stop}
+use Rattle.sp_history.proofs.OneFault.{stop_not_fault}
 use Rattle.sp_link.specs.Endings.{MeetsItsWay}
-
-no_event : (stop : Stop) (f : Fault) → event_at stop ≡ event.Fault f → ⊥
-no_event (Forks t v n) f e = cc e
-no_event (Opens a) f e = cc e
-no_event (Sends c k cs) f e = cc e
-no_event (Receives c k a) f e = cc e
-no_event Ends f e = cc e
-no_event Pauses f e = cc e
 
 fault_is : (o : Option Fault) (stop : Stop) (e : Config (Memory Plain)) (f : Fault)
     → event_or o (Stopped stop e) ≡ event.Fault f → o ≡ Some f
@@ -30,7 +22,7 @@ fault_is (Some x) stop e f r = ap (λ y. Some y) (one r)
   where
     one : {x y : Fault} → event.Fault x ≡ event.Fault y → x ≡ y
     one r = cc r
-fault_is None stop e f r = absurd (no_event stop f r)
+fault_is None stop e f r = absurd (stop_not_fault stop f r)
 
 room : (a b : ℕ) → nat_lt a (b + 1) ≡ false → b < a
 room a b e = Prim.grind (arith, e)

@@ -1,7 +1,7 @@
 -- A child of a forall: nothing moves to it, and what it shares its parent holds; it stands as it is born, with its
 -- index in a frame of its own (`each_stands`), and its parent keeps of it what its join will need (`each_handed`).
-use Rattle.std.proofs.Common.{◌≡◌, ◌⊎◌, inl, inr, ⊎_elim, ℕ, suc, ◌+◌, ◌==◌, ◌≤◌, ℤ, List, [], ◌∷◌, length, Option}
-use Rattle.std.proofs.Common.{Some, None, Bool, true, false, if◌then◌else◌, refl, sym, ap, ◌∙◌, arith, eqb-true, eq-eqb}
+use Rattle.std.proofs.Common.{◌≡◌, ◌⊎◌, inl, inr, ⊎_elim, ℕ, suc, ◌+◌, ◌==◌, ◌≤◌, ℤ, List, [], ◌∷◌, length, Some, None}
+use Rattle.std.proofs.Common.{Bool, true, false, refl, sym, ap, ◌∙◌, arith, eqb-true, eq-eqb}
 use Rattle.std.specs.Prelude.{◌≢◌, ◌+ℤ◌, pos, IsSome, slice_get}
 use Rattle.std.specs.FinMap as fin
 use Rattle.sp_tree.specs.declared.checked.Role.TheVariants as role
@@ -22,8 +22,8 @@ use Rattle.sp_meaning.specs.Own.{Loc, Output, OfIndex, Own, Who, Process}
 use Rattle.sp_meaning.specs.Deeds.{push}
 use Rattle.sp_meaning.specs.Owning.{Aimed, Used, Sound}
 use Rattle.sp_meaning.specs.Run.{Store}
-use Rattle.sp_meaning.proofs.Deeding.{element_sound}
 use Rattle.sp_meaning.proofs.Rights.{Mine}
+use Rattle.sp_meaning.proofs.SoundParts.{element_sound}
 use Rattle.sp_code.specs.declared.code.ChildTable.{ChildTable}
 use Rattle.sp_code.specs.declared.instr.Instr.TheVariants as i
 use Rattle.sp_code.specs.Emitted.{child_table}
@@ -32,7 +32,7 @@ use Rattle.sp_code.specs.Memory.{Memory, position_at}
 use Rattle.sp_code.specs.Memory as mem
 use Rattle.sp_code.specs.Places.{after}
 use Rattle.sp_code.specs.PlainStore.{plain}
-use Rattle.sp_code.specs.Scopes.{Scope, level, one_more, is_index, slot}
+use Rattle.sp_code.specs.Scopes.{Scope, level, is_index, slot}
 use Rattle.sp_code.specs.Scopes as places
 use Rattle.sp_code.specs.Stands.{Stands as StandsIn, HasFork, HasWords, StandsAt}
 use Rattle.sp_code.specs.System.{newborn, handing_of}
@@ -44,10 +44,11 @@ use Rattle.sp_codegen.proofs.Begins.{index_child_begins}
 use Rattle.sp_codegen.proofs.Birth.{low_small}
 use Rattle.sp_codegen.proofs.Born.{child_follows}
 use Rattle.sp_codegen.proofs.Handed.{MovedStands, moved_stands, shared_piece, output_unshared}
-use Rattle.sp_codegen.proofs.Owners.{within_at}
+use Rattle.sp_codegen.proofs.Owners.{no_longer_owner}
+use Rattle.sp_codegen.proofs.Slots.{no_index_console}
 use Rattle.sp_link.proofs.ChildrenStand.{memory_in, reached_formed, consoles}
 use Rattle.sp_link.proofs.Relation.{Ground, Life, Called, Named, Fresh, St, Stands, Handed, execution, run_is}
-use Rattle.sp_link.proofs.Scoping.{is_scoped}
+use Rattle.sp_link.proofs.Scoping.{is_scoped, index_further}
 use Rattle.sp_link.proofs.Splits.{piece_known}
 
 module _ (G : Ground) (lf : Life) (kids : ℕ → ℕ → Life) (q : Name) where
@@ -72,13 +73,9 @@ module _ (G : Ground) (lf : Life) (kids : ℕ → ℕ → Life) (q : Name) where
     is_index_of = (pl.sound.kept (ForallOf x st) (inl refl)).0
 
     not_output : x ≢ 1
-    not_output e = no_console is_index_of.0 G.free.output.0
+    not_output e = no_index_console is_index_of.0 G.free.output.0
         (sym is_index_of.1 ∙ ap (λ y. slice_get G.g.program.variables y) e ∙ G.free.output.1) is_index_of.2
         G.free.output.2
-      where
-        no_console : (a b : Variable) → Some a ≡ Some b → a.role ≡ role.Index → b.role ≡ role.Console → ⊥
-        no_console a b h k l = let same : a ≡ b = cc h in
-            let bad : role.Index ≡ role.Console = sym k ∙ ap (λ (y : Variable). y.role) same ∙ l in cc bad
 
     formed_here : (u : Use) → In_stmt st u → IsFormedUse G.g.program u
     formed_here (Target y) a = absurd (no_target y ([], a))
@@ -101,8 +98,7 @@ module _ (G : Ground) (lf : Life) (kids : ℕ → ℕ → Life) (q : Name) where
     sound = element_sound x from1 to st pl.sound
 
     new_name : (h : ℕ) (j : Joint) (rest : List Joint) → from (suc h) js ≡ j ∷ rest → j.source.owner ≡ child → ⊥
-    new_name h j rest e k = let a = within_at (length w.name) (suc h) js j rest t.owners e in
-        let b = ap (λ z. length z) k in omega (arith, a, b, longer)
+    new_name = no_longer_owner (length w.name) js child t.frames.owners longer
 
     abbrev pub table : ChildTable
     table = child_table G.g.program G.moves G.shares entry (Some x) st
@@ -133,17 +129,7 @@ module _ (G : Ground) (lf : Life) (kids : ℕ → ℕ → Life) (q : Name) where
       where
         further : (up : ℕ) × (level (is_index y) (places.OfIndex x ∷ sc) ≡ Some up) → (up : ℕ)
             × (level (is_index y) sc ≡ Some up)
-        further r = go (y == x) refl r.1
-          where
-            inner : (l : Option ℕ) → level (is_index y) sc ≡ l → one_more l ≡ Some r.0 → (up : ℕ)
-                × (level (is_index y) sc ≡ Some up)
-            inner None e h = absurd (cc h)
-            inner (Some up) e h = (up, e)
-
-            go : (b : Bool) → y == x ≡ b → (if b then Some 0 else one_more (level (is_index y) sc)) ≡ Some r.0
-                → (up : ℕ) × (level (is_index y) sc ≡ Some up)
-            go true e h = absurd (other (ap Some (sym (eqb-true y x e))))
-            go false e h = inner (level (is_index y) sc) refl h
+        further r = index_further sc x y r.0 (λ h. other (ap Some h)) r.1
 
     index_held : (y up : ℕ) → (Some x ≡ Some y → ⊥) → In_stmt st (use_of.Seen y) → level (is_index y) sc ≡ Some up
         → (k : Joint) (rest : List Joint) → Rattle.sp_codegen.specs.Joints.up_at up js ≡ k ∷ rest → lf.J (length rest)

@@ -1,9 +1,8 @@
 -- The entry `End` on both sides: of the first process (`root_ends`), and of a child, whose pieces go back to its
 -- parent, which joins on or runs (`child_ends`).
-use Rattle.std.proofs.Common.{◌≡◌, ◌⊎◌, inl, ⊎_elim, ℕ, zero, suc, ◌+◌, ◌-◌, ◌<◌, ◌≤◌, ◌==◌, List, [], ◌∷◌, length}
-use Rattle.std.proofs.Common.{Option, Some, None, Bool, true, false, cond, if◌then◌else◌, eqb-true, eq-eqb, refl, sym}
-use Rattle.std.proofs.Common.{ap, ◌∙◌, subst, arith}
-use Rattle.std.proofs.Common.{one-add}
+use Rattle.std.proofs.Common.{◌≡◌, ◌⊎◌, inl, ⊎_elim, ℕ, zero, suc, ◌-◌, ◌<◌, ◌≤◌, ◌==◌, List, [], ◌∷◌, length, Option}
+use Rattle.std.proofs.Common.{Some, None, Bool, true, false, cond, if◌then◌else◌, eqb-true, eq-eqb, refl, sym, ap, ◌∙◌}
+use Rattle.std.proofs.Common.{subst, arith, one-add}
 use Rattle.std.specs.Prelude.{◌≢◌}
 use Rattle.std.proofs.lemmas.Bool.{ne_eqb}
 use Rattle.std.proofs.lemmas.Option.{none-some, same_Some}
@@ -14,7 +13,6 @@ use Rattle.sp_journal.specs.Maps.{at_key}
 use Rattle.sp_cell.specs.Map.{Plain, output_of}
 use Rattle.sp_meaning.specs.Model.{Name, Condition, Absent, Waits, Joins, Ended, Becomes, changed}
 use Rattle.sp_meaning.specs.Steps.{has_ended, working_in, JoinsAt, Lives as IsLive}
-use Rattle.sp_meaning.specs.Entries.{Happening}
 use Rattle.sp_journal.specs.Names as happenings
 use Rattle.sp_meaning.specs.Own.{Held, Address, Own, Process, Came, Got}
 use Rattle.sp_meaning.specs.Deeds.{Deed}
@@ -22,10 +20,10 @@ use Rattle.sp_meaning.specs.Deeds as deeds
 use Rattle.sp_meaning.specs.SuperPascal.{superpascal}
 use Rattle.sp_meaning.specs.Run.{Store}
 use Rattle.sp_meaning.specs.Runs.{StateOf, most, next, says}
-use Rattle.sp_meaning.specs.Along.{Course, ticks_in, ticks_of, noted, Entered}
+use Rattle.sp_meaning.specs.Along.{Course, ticks_in, ticks_of, noted}
 use Rattle.sp_meaning.specs.Turn as source
-use Rattle.sp_meaning.proofs.Keys.{name_test}
-use Rattle.sp_meaning.proofs.Maps.{at_same, at_other, differs, same_or_not}
+use Rattle.sp_meaning.proofs.Keys.{name_test, number_or}
+use Rattle.sp_meaning.proofs.Maps.{at_same, at_other, same_or_not}
 use Rattle.sp_meaning.proofs.Owned.{Inv}
 use Rattle.sp_meaning.proofs.Parallel.{alone_childless}
 use Rattle.sp_meaning.proofs.Reached.{Known, step_well, raised, lowered}
@@ -38,13 +36,13 @@ use Rattle.sp_code.specs.Memory.{Memory}
 use Rattle.sp_code.specs.PlainStore.{plain}
 use Rattle.sp_code.specs.System.{System, after, event_of, rejoined, reported, becomes}
 use Rattle.sp_code.specs.System as sys
-use Rattle.sp_link.proofs.Journal.{Way_on, IsOpen, now_by}
+use Rattle.sp_link.proofs.Journal.{IsOpen, now_by}
 use Rattle.sp_link.proofs.KernelSteps.{kernel_next, kernel_says, stand_dead}
-use Rattle.sp_link.proofs.OneChanges.{its, here, number_or, inv_local}
-use Rattle.sp_link.proofs.Pauses.{Entry_of, Meant, Machined, kids, turn_is, after_quiet}
+use Rattle.sp_link.proofs.OneChanges.{here, inv_local, since_other}
+use Rattle.sp_link.proofs.Pauses.{Entry_of, Meant, Machined, kids, turn_is, after_quiet, way_of_step}
 use Rattle.sp_link.proofs.Rejoins.{memory_after, joins_on, runs_on, one_fewer, all_over}
-use Rattle.sp_link.proofs.Relation.{Ground, Lives, W_of, R_of, St, Stands, Joined, Performs_all, Linked}
-use Rattle.sp_link.proofs.Relation.{Began, run_is, ops, left_of}
+use Rattle.sp_link.proofs.Relation.{Ground, Lives, W_of, R_of, St, Stands, Joined, Performs_all, Linked, Began, run_is}
+use Rattle.sp_link.proofs.Relation.{ops, left_of}
 use Rattle.sp_link.proofs.OthersStay.{does_stay}
 use Rattle.sp_meaning.proofs.QuietDeeds.{IsDead}
 use Rattle.sp_link.proofs.AtStop.{same_but_dead, w, p1, alone_at, known_at, rights_at, ended_at, other_name, does_at}
@@ -72,9 +70,6 @@ module _ (G : Ground) (lv : Lives G) (c : Course) (s : StateOf G.g) (u : System 
 
   abbrev c1 : Course
   c1 = noted v (ticks_of G.g t1 v) c
-
-  since_other : (a : Name) → a ≢ v → c1.since a ≡ c.since a
-  since_other a e = ap (λ b. cond b (ticks_of G.g t1 v) (c.since a)) (differs name_test v a (λ h. e (sym h)))
 
   gone : t1.condition v ≡ Ended
   gone = at_same name_test x.at.condition v Ended
@@ -111,7 +106,7 @@ module _ (G : Ground) (lv : Lives G) (c : Course) (s : StateOf G.g) (u : System 
       (same (G.births.name j) apart)
       (λ k n. ap (λ a. has_ended a) (same ((k, n) ∷ G.births.name j) (far k n)))
       (λ k n h e. h (sym (same ((k, n) ∷ G.births.name j) (far k n)) ∙ e)) c c1
-      (since_other (G.births.name j) apart) refl (λ h. h) (u.births.opens j) (u.condition j)
+      (since_other c v (ticks_of G.g t1 v) (G.births.name j) apart) refl (λ h. h) (u.births.opens j) (u.condition j)
       (does_at G lv c s u l i d at_i z r x happenings.Ended said j lt e)
 
   -- what it leaves
@@ -140,7 +135,7 @@ module _ (G : Ground) (lv : Lives G) (c : Course) (s : StateOf G.g) (u : System 
       count js = Rattle.sp_codegen.proofs.Joints.sources_length js
 
       lengths : length o.frames ≡ length t.3
-      lengths = ap (λ y. length y) (t.6).frames ∙ count t.3
+      lengths = ap (λ y. length y) (t.6).frames.sources_are ∙ count t.3
 
   moved_here : (t.2).store.moved ≡ (lv v).moved
   moved_here = stood.moved_is
@@ -177,7 +172,8 @@ module _ (G : Ground) (lv : Lives G) (c : Course) (s : StateOf G.g) (u : System 
     faulted = l.faulted ∙ sym ef;
     fresh_since = λ a e. ⊎_elim (λ (y : a ≡ v). absurd
         (no_absent (sym gone ∙ subst (λ b. t1.condition b ≡ Absent) y e)))
-        (λ (y : a ≢ v). since_other a y ∙ l.fresh_since a (sym (x.elsewhere.condition a y) ∙ sym (same a y) ∙ e))
+        (λ (y : a ≢ v). since_other c v (ticks_of G.g t1 v) a y
+        ∙ l.fresh_since a (sym (x.elsewhere.condition a y) ∙ sym (same a y) ∙ e))
         (same_or_not name_test a v);
     quiet = λ e. x.elsewhere.fault ∙ l.quiet (sym ef ∙ e);
     unlaid = λ e. l.unlaid (sym ef ∙ e);
@@ -204,7 +200,7 @@ module _ (G : Ground) (lv : Lives G) (c : Course) (s : StateOf G.g) (u : System 
       (gone, is, λ may. (let y = stood.output may in (y.0, y.1, ap output_of y.2)))))
       (λ (e : i ≢ j). subst (λ y. Performs_all G lv (G.births.name j) c1 t1 (u.births.opens j) y)
       (sym (other_number j e)) (does_other j lt e (λ k n h. no_child k n (h ∙ is))))
-      (number_or G lv c s u l i d at_i i j))
+      (number_or i j))
       (λ j le. other_number j (λ e. let a = here G lv c s u l i d at_i in omega (arith, a, le, e)) ∙ l.unborn j le)
     where
       no_child : {a : Name} (k n : ℕ) → (k, n) ∷ a ≡ [] → ⊥
@@ -302,7 +298,7 @@ module _ (G : Ground) (lv : Lives G) (c : Course) (s : StateOf G.g) (u : System 
                 ∙ ap (λ a. if a then Some pr else None)
                 (all_over G lv P (c.since P) k n left b.child pr x.at dd zj j.1 yet t2.condition n none),
             inl (subst (λ y. Stands G (lv P) (λ a e. lv ((a, e) ∷ P)) P y pr t2.store after_it)
-                (sym (since_other P parent_apart))
+                (sym (since_other c v (ticks_of G.g t1 v) P parent_apart))
                 (runs_on G lv P (c.since P) k n left b.child pr x.at dd zj j.1 yet stood_there moved_there none)),
             opens_are,
             unlaid,
@@ -315,7 +311,7 @@ module _ (G : Ground) (lv : Lives G) (c : Course) (s : StateOf G.g) (u : System 
             there,
             subst (λ y. Joined G (lv P) (λ a e. lv ((a, e) ∷ P)) P (c1.since P) k n y pr t2 after_it) (sym less)
                 (subst (λ y. Joined G (lv P) (λ a e. lv ((a, e) ∷ P)) P y k n left1 pr t2 after_it)
-                (sym (since_other P parent_apart))
+                (sym (since_other c v (ticks_of G.g t1 v) P parent_apart))
                 (joins_on G lv P (c.since P) k n left b.child pr x.at dd zj j.1 yet stood_there moved_there some)),
             opens_are,
             unlaid,
@@ -378,8 +374,8 @@ module _ (G : Ground) (lv : Lives G) (c : Course) (s : StateOf G.g) (u : System 
         (λ (f : i ≢ a). subst (λ y. Performs_all G lv (G.births.name a) c1 t1 (u.births.opens a) y) (sym (at_far a e f))
         (does_other a lt f (λ k n h. e (sym
         (G.one_name a b.parent (few a lt) (few b.parent known_parent) (ends_alike k n a (h ∙ name_is)))))))
-        (number_or G lv c s u l i d at_i i a))
-        (number_or G lv c s u l i d at_i b.parent a))
+        (number_or i a))
+        (number_or b.parent a))
         (λ a le. at_far a (λ h. omega (arith, known_parent, le, h))
         (λ h. let y = here G lv c s u l i d at_i in omega (arith, y, le, h)) ∙ l.unborn a le)
       where
@@ -427,7 +423,8 @@ module _ (G : Ground) (lv : Lives G) (c : Course) (s : StateOf G.g) (u : System 
   finishing = record {
     turn = tn;
     is = tn_is;
-    way = way_by _ (sym told);
+    way = way_of_step G lv c s u l i d at_i x.steps x.at (x.turn happenings.Ended said) happenings.Ended t1
+        (λ left n k. (l.faulted ∙ quiet, refl, t1, n, one-add n, (x.left, x.runs, said, goes_next), k)) _ (sym told);
     speaks = subst (λ a. IsOpen u.births (if a then event.Laid else event.End)) (sym quiet) tt;
     lives = lv;
     linked = λ began. now_by G lv c1 t1 (after plain (run_is G) i tn u)
@@ -436,17 +433,3 @@ module _ (G : Ground) (lv : Lives G) (c : Course) (s : StateOf G.g) (u : System 
     where
       told : happening u.births (event_of G.g.limits u tn) ≡ happenings.Ended
       told = ap (λ a. happening u.births (if a then event.Laid else event.End)) quiet
-
-      way_by : (e : Happening) → happenings.Ended ≡ e → Way_on G c s v e
-      way_by e h = record {
-        unlaid = (its G lv c s u l i d at_i).4;
-        steps = x.steps;
-        at = x.at;
-        paused = false;
-        turn = x.turn happenings.Ended said;
-        cost = 1;
-        course = c1;
-        state = t1;
-        enters = λ left n y. subst (λ f. Entered G.g left c x.at false v f (1 + n)) h
-            (l.faulted ∙ quiet, refl, t1, n, one-add n, (x.left, x.runs, said, goes_next), y);
-      }

@@ -14,11 +14,11 @@ use Rattle.sp_meaning.specs.Owning.{Fit}
 use Rattle.sp_meaning.specs.SuperPascal.{root, main, first_store}
 use Rattle.sp_meaning.specs.Runs.{start}
 use Rattle.sp_meaning.specs.Along.{no_course}
-use Rattle.sp_meaning.proofs.Deeding.{push_good}
 use Rattle.sp_meaning.proofs.Owned.{Inv, Holds}
 use Rattle.sp_meaning.proofs.Reached.{start_well, start_sound}
 use Rattle.sp_meaning.proofs.Rights.{All, IsAbove, Fair_rights}
 use Rattle.sp_meaning.proofs.Started.{First, bottom, body_sound}
+use Rattle.sp_meaning.proofs.SoundParts.{push_good}
 use Rattle.sp_code.specs.Machine.{At}
 use Rattle.sp_code.specs.Memory.{Memory, first, first_memory, entry_of}
 use Rattle.sp_code.specs.Machine.{layout_of}
@@ -150,7 +150,7 @@ module _ (G : Ground) (b : Block) (eb : slice_get G.g.program.blocks 0 ≡ Some 
   )
     where
       small : nat_le n0.cells G.g.limits.cells ≡ false
-      small = let a = roomy_is.cells in by (nat_le n0.cells G.g.limits.cells) refl a
+      small = let a = roomy_is.frames.cells in by (nat_le n0.cells G.g.limits.cells) refl a
         where
           by : (x : Bool) → nat_le n0.cells G.g.limits.cells ≡ x → size_of_frame G.g 0 ≡ n0.cells → x ≡ false
           by false h a = refl

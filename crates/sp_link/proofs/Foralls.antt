@@ -24,8 +24,8 @@ use Rattle.sp_meaning.specs.Runs.{StateOf}
 use Rattle.sp_meaning.specs.Along.{Course}
 use Rattle.sp_meaning.specs.Turn as source
 use Rattle.sp_meaning.proofs.Children.{AimedAt, UsedAt}
-use Rattle.sp_meaning.proofs.Deeding.{copies, born_copies, element_sound}
 use Rattle.sp_meaning.proofs.Rights.{All}
+use Rattle.sp_meaning.proofs.SoundParts.{copies, born_copies, element_sound}
 use Rattle.sp_code.specs.declared.code.ChildTable.{ChildTable}
 use Rattle.sp_code.specs.Emitted.{child_table}
 use Rattle.sp_code.specs.Machine.{Config, At, values_in}
@@ -52,6 +52,7 @@ use Rattle.sp_code.proofs.Plans.{none_distinct, moved_by, shared_by}
 use Rattle.sp_link.proofs.Pauses.{Entry_of, Meant, Machined, Kept_to, kids}
 use Rattle.sp_link.proofs.Relation.{Ground, Life, Lives, W_of, R_of, Called, Fresh, Stands, Handed, St, Linked}
 use Rattle.sp_link.proofs.Relation.{execution, run_is}
+use Rattle.sp_link.proofs.Newborns.{newborns_length}
 
 abbrev cons : ℕ × ℕ → Name → Name
 cons a w = a ∷ w
@@ -134,7 +135,7 @@ module _ (G : Ground) (lv : Lives G) (c : Course) (s : StateOf G.g) (u : System 
   w1 = record (x.left.who) { forks = x.left.who.forks + 1 }
 
   frames_are : o.frames ≡ sources t.3
-  frames_are = (t.8).frames
+  frames_are = (t.8).frames.sources_are
 
   may_fork : o.depth + 1 ≤ G.g.limits.depth
   may_fork = next_is_within o.depth G.g.limits.depth t.12
@@ -376,9 +377,11 @@ module _ (G : Ground) (lv : Lives G) (c : Course) (s : StateOf G.g) (u : System 
     distinct = none_distinct (moved_of hs) unmoved;
     apart = λ a g. absurd (unmoved a g);
     number = λ g.
-        (let a = next_small n1.store (lv v).low (length (lv v).below) t.3 stood.own_frames stood.counts stood.known in
-        let b = stood.deep in let e = stood.shallow in let r = G.limits.depth in let w = z.fresh.low_small in
-        let b0 = stood.above_base in omega (arith, a, b, e, r, w, b0));
+        (let a = next_small n1.store (lv v).low
+        (length (lv v).below) t.3 stood.frames.own_frames stood.frames.counts stood.known in
+        let b = stood.frames.deep in let e = stood.frames.shallow in let r = G.limits.depth in
+        let w = z.fresh.low_small in
+        let b0 = stood.frames.above_base in omega (arith, a, b, e, r, w, b0));
   }
 
   pub forall_entry : Entry_of G c s u i d
@@ -386,7 +389,7 @@ module _ (G : Ground) (lv : Lives G) (c : Course) (s : StateOf G.g) (u : System 
       refl refl
     where
       os_are : length (newborns x.left.who o 0 bs) ≡ range
-      os_are = fk.newborns_length x.left.who o 0 bs ∙ length_is
+      os_are = newborns_length x.left.who o 0 bs ∙ length_is
 
       -- the meaning counts no fewer
       both_many : nat_lt G.g.limits.processes (u.births.processes + n) ≡ true

@@ -1,16 +1,15 @@
 -- The entry `Fork` on both sides, whichever statement forks: the children are born with their lives, and the parent
 -- joins them (`fork_entry`); or the entries or the processes are at their limit: F15, F13. What a parallel and what a
 -- forall statement give for this is in `Parallels` and `Foralls`.
-use Rattle.std.proofs.Common.{◌≡◌, ◌⊎◌, inl, inr, ⊎_elim, ℕ, zero, suc, ◌+◌, ◌<◌, ◌≤◌, ◌==◌, ℤ, List, [], ◌∷◌, length}
-use Rattle.std.proofs.Common.{Option, Some, None, Bool, true, false, ◌&&◌, cond, if◌then◌else◌, eq-eqb, refl}
-use Rattle.std.proofs.Common.{sym, ap, ◌∙◌, subst, arith}
-use Rattle.std.proofs.Common.{add-zero, one-add, zero-add}
+use Rattle.std.proofs.Common.{◌≡◌, ◌⊎◌, inl, inr, ⊎_elim, ℕ, ◌+◌, ◌<◌, ◌≤◌, ◌==◌, ℤ, List, [], ◌∷◌, length, Option}
+use Rattle.std.proofs.Common.{Some, None, Bool, true, false, ◌&&◌, cond, if◌then◌else◌, eq-eqb, refl, sym, ap, ◌∙◌}
+use Rattle.std.proofs.Common.{subst, arith, one-add, zero-add}
 use Rattle.std.specs.Prelude.{◌≢◌, ◌-◌, nat_lt, nat_le, IsSome, slice_get}
 use Rattle.std.specs.FinMap as fin
 use Rattle.std.proofs.lemmas.Bool.{cases_lt, le-leb, lt-ltb, ltb-false, ltb-true, ne_eqb}
 use Rattle.sp_base.specs.declared.fault.Fault.{Fault}
 use Rattle.sp_base.specs.declared.fault.Fault.TheVariants as fault
-use Rattle.sp_base.proofs.Facts.{and_with_false, is_plus_none, next_goes_right}
+use Rattle.sp_base.proofs.Facts.{and_with_false, same_head, same_tail, item_there}
 use Rattle.sp_tree.specs.Plain.{Stmt}
 use Rattle.sp_journal.specs.Births.{Births, channel, happening, after_event, is_next}
 use Rattle.sp_journal.specs.declared.entry.Event.TheVariants as event
@@ -21,21 +20,21 @@ use Rattle.sp_cell.specs.Map.{Plain, output_spot}
 use Rattle.sp_cell.specs.Spots.{In, NotIn}
 use Rattle.sp_meaning.specs.Maps.{at_key as put_at}
 use Rattle.sp_meaning.specs.Model.{Name, same_name, Condition, Absent, Works, Joins, Ended, Becomes}
-use Rattle.sp_meaning.specs.Model.{Forked as Counts_fork, Adds, Forks, changed, after as After, add, Totals}
+use Rattle.sp_meaning.specs.Model.{Forked as Counts_fork, Adds, Forks, changed, add, Totals}
 use Rattle.sp_meaning.specs.Steps.{has_ended, working_in, Lives as IsLive, Faulty, outcome, passed, unless, acts}
 use Rattle.sp_meaning.specs.Steps.{births, result_of}
 use Rattle.sp_meaning.specs.Entries.{Happening}
 use Rattle.sp_journal.specs.Names as happenings
-use Rattle.sp_meaning.specs.Own.{Setting, Loc, Output, Held, Address, Own, Who, Process, Came, Got, Item}
+use Rattle.sp_meaning.specs.Own.{Loc, Output, Held, Address, Own, Who, Process, Came, Got, Item}
 use Rattle.sp_meaning.specs.Deeds.{Deed, Birth, Forked, newborn, newborns}
 use Rattle.sp_meaning.specs.Owning.{Born}
 use Rattle.sp_meaning.specs.SuperPascal.{superpascal, with_todo}
 use Rattle.sp_meaning.specs.Run.{Store}
 use Rattle.sp_meaning.specs.Runs.{StateOf, most, next, says, said_of}
-use Rattle.sp_meaning.specs.Along.{Course, ticks_in, ticks_of, noted, Entered}
+use Rattle.sp_meaning.specs.Along.{Course, ticks_in, ticks_of, noted}
 use Rattle.sp_meaning.specs.Turn as source
 use Rattle.sp_meaning.proofs.Children.{Pick, AimedAt, UsedAt, writes_after, reads_after, it_is}
-use Rattle.sp_meaning.proofs.Keys.{name_test}
+use Rattle.sp_meaning.proofs.Keys.{name_test, number_or}
 use Rattle.sp_meaning.proofs.Maps.{at_same, at_other, differs, itself, same_or_not}
 use Rattle.sp_meaning.proofs.Owned.{Inv, Holds, known_if, forks_keep, after_births}
 use Rattle.sp_meaning.proofs.QuietDeeds.{IsDead}
@@ -52,30 +51,22 @@ use Rattle.sp_code.specs.PlainStore.{plain}
 use Rattle.sp_code.specs.System.{System, after, event_of, event_or, fault_of, unless_fault, on_store, plan_of, child_or}
 use Rattle.sp_code.specs.System.{table_or}
 use Rattle.sp_code.specs.System as sys
+use Rattle.sp_history.proofs.Orders.{next_not}
 use Rattle.sp_codegen.proofs.Joints.{sources_length}
 use Rattle.sp_codegen.specs.Meets.{due_after}
 use Rattle.sp_link.proofs.AfterEntry.{stand_again, again}
 use Rattle.sp_link.proofs.AtStop.{known_at, rights_at, same_but_dead}
 use Rattle.sp_link.proofs.ChildrenStand.{parent_joins}
-use Rattle.sp_link.proofs.Fronts.{old}
 use Rattle.sp_link.proofs.Halts.{failed_entry, forked_halt}
-use Rattle.sp_link.proofs.Journal.{Way_on, IsOpen, now_by}
+use Rattle.sp_link.proofs.Journal.{IsOpen, now_by}
 use Rattle.sp_link.proofs.KernelSteps.{kernel_next, kernel_says, stand_dead}
 use Rattle.sp_link.proofs.NewLives.{does_lives, inv_same}
-use Rattle.sp_link.proofs.OneChanges.{q, pr, its, alone, here, present, not_ended, keeps_to, number_or}
+use Rattle.sp_link.proofs.OneChanges.{q, pr, its, alone, here, present, not_ended, keeps_to, since_other}
 use Rattle.sp_link.proofs.OthersStay.{does_stay}
-use Rattle.sp_link.proofs.Pauses.{Entry_of, Meant, Machined, Kept_to, kids, turn_is, after_quiet}
+use Rattle.sp_link.proofs.Pauses.{Entry_of, Meant, Machined, Kept_to, kids, turn_is, after_quiet, way_of_step}
 use Rattle.sp_link.proofs.Relation.{Ground, Life, Lives, W_of, R_of, Stands, Joined, Handed, St, Rel, law, Performs}
 use Rattle.sp_link.proofs.Relation.{Performs_all, Linked, Began, run_is, ops}
-
-abbrev cons : ℕ × ℕ → Name → Name
-cons a w = a ∷ w
-
-head_same : (a b : ℕ × ℕ) (p q : Name) → a ∷ p ≡ b ∷ q → a ≡ b
-head_same a b p q e = cc e
-
-tail_same : (a b : ℕ × ℕ) (p q : Name) → a ∷ p ≡ b ∷ q → p ≡ q
-tail_same a b p q e = cc e
+use Rattle.sp_link.proofs.Newborns.{Conditions, born_at, born_else, born_is, newborns_at, newborns_length, pick, cons}
 
 pub is_less : (a b : ℕ) → a < b → nat_lt a b ≡ true
 is_less a b h = go (nat_lt a b) refl
@@ -90,69 +81,6 @@ not_less a b h = go (nat_lt a b) refl
     go : (x : Bool) → nat_lt a b ≡ x → x ≡ false
     go false e = refl
     go true e = let k = ltb-true a b e in absurd (omega (arith, k, h))
-
--- ---- the states after births
-
--- births change conditions alone
-born_is : (g : Setting) (p : Name) (k i : ℕ) (os : List Process) (s : StateOf g)
-    → After {L = superpascal g} (births {L = superpascal g} p k i os) s
-    ≡ record s { condition = after_births g.program p k i os s.condition }
-born_is g p k i [] s = refl
-born_is g p k i (o ∷ os) s = born_is g p k (suc i) os (changed {L = superpascal g} (Becomes ((k, i) ∷ p) (Works o)) s)
-
-abbrev Conditions : Type 0
-Conditions = Name → Condition Process Held Address
-
-module _ (g : Setting) (p : Name) (k : ℕ) where
-  -- who is none of the children is as before
-  born_else : (i : ℕ) (os : List Process) (m : Conditions) (r : Name) → ((j : ℕ) → j < length os → r ≢ (k, i + j) ∷ p)
-      → after_births g.program p k i os m r ≡ m r
-  born_else i [] m r ne = refl
-  born_else i (o ∷ os) m r ne =
-      born_else (suc i) os (put_at same_name ((k, i) ∷ p) (Works o) m) r
-      (λ j lt e. ne (suc j) (omega (arith, lt)) (subst (λ a. r ≡ (k, a) ∷ p) (next_goes_right i j) e))
-      ∙ at_other name_test m ((k, i) ∷ p) r (Works o)
-      (λ e. ne 0 (omega arith) (sym e ∙ ap (λ a. cons (k, a) p) (is_plus_none i)))
-
-  -- and each child works
-  born_at : (i : ℕ) (os : List Process) (m : Conditions) (j : ℕ) (o : Process) → slice_get os j ≡ Some o
-      → after_births g.program p k i os m ((k, i + j) ∷ p) ≡ Works o
-  born_at i [] m j o e = absurd (cc e)
-  born_at i (a ∷ os) m zero o e =
-      let same : a ≡ o = cc e in
-      ap (λ b. after_births g.program p k (suc i) os (put_at same_name ((k, i) ∷ p) (Works a) m) ((k, b) ∷ p))
-      (add-zero i)
-      ∙ born_else (suc i) os (put_at same_name ((k, i) ∷ p) (Works a) m) ((k, i) ∷ p)
-      (λ j lt f. (let h : i ≡ suc i + j = ap (λ (z : ℕ × ℕ). z.1) (head_same (k, i) (k, suc i + j) p p f) in
-      omega (arith, h)))
-      ∙ at_same name_test m ((k, i) ∷ p) (Works a) ∙ ap Works same
-  born_at i (a ∷ os) m (suc j) o e = subst (λ b. after_births g.program p k (suc i) os
-      (put_at same_name ((k, i) ∷ p) (Works a) m) ((k, b) ∷ p) ≡ Works o) (next_goes_right i j)
-      (born_at (suc i) os (put_at same_name ((k, i) ∷ p) (Works a) m) j o e)
-
--- each birth has its newborn
-newborns_at : (w : Who) (o : Own) (i : ℕ) (bs : List Birth) (j : ℕ) (b : Birth) → slice_get bs j ≡ Some b
-    → slice_get (newborns w o i bs) j ≡ Some (newborn w o (i + j) b)
-newborns_at w o i [] j b e = absurd (cc e)
-newborns_at w o i (a ∷ bs) zero b e = let same : a ≡ b = cc e in
-    ap (λ z. Some (newborn w o i z)) same ∙ ap (λ z. Some (newborn w o z b)) (is_plus_none i)
-newborns_at w o i (a ∷ bs) (suc j) b e = newborns_at w o (suc i) bs j b e
-    ∙ ap (λ z. Some (newborn w o z b)) (next_goes_right i j)
-
-pub newborns_length : (w : Who) (o : Own) (i : ℕ) (bs : List Birth) → length (newborns w o i bs) ≡ length bs
-newborns_length w o i [] = refl
-newborns_length w o i (b ∷ bs) = ap suc (newborns_length w o (suc i) bs)
-
--- a place in a list that is long enough
-pub has_place : {A : Type 0} (xs : List A) (j : ℕ) → j < length xs → (a : A) × (slice_get xs j ≡ Some a)
-has_place [] j lt = absurd (omega (arith, lt))
-has_place (a ∷ xs) zero lt = (a, refl)
-has_place (a ∷ xs) (suc j) lt = has_place xs j (omega (arith, lt))
-
--- one life or the other
-abbrev pub pick : Bool → Life → Life → Life
-pick true a b = a
-pick false a b = b
 
 next_number : (b : Births) (n j : ℕ) → j < n → is_next b n (b.processes + j) ≡ true
 next_number b n j lt = ap (λ x. x && nat_lt (b.processes + j) (b.processes + n))
@@ -288,7 +216,8 @@ module _ (G : Ground) (lv : Lives G) (c : Course) (s : StateOf G.g) (u : System 
   parent_stand since1 e = stand_again G (lv v) (λ a b. lv ((a, b) ∷ v)) v {w = p1.who} {w1 = goes_on.who}
       {since = c.since v} {since1 = since1} (ap (λ (a : Who). a.name) x.who_is) e
       (stand_dead G (lv v) (λ a b. lv ((a, b) ∷ v)) v t.8 x.at.store
-      (λ a. subst (λ b. (x.at.store a ≡ m a) ⊎ IsDead b a) (ap (λ b. length b) (t.8).frames ∙ sources_length t.3)
+      (λ a. subst (λ b. (x.at.store a ≡ m a) ⊎ IsDead b a)
+      (ap (λ b. length b) (t.8).frames.sources_are ∙ sources_length t.3)
       (same_but_dead G lv c s u l i d at_i z (Forked bs todo) o m x tt a)))
 
   pub counted : x.left.who.forks ≡ k
@@ -378,7 +307,7 @@ module _ (G : Ground) (lv : Lives G) (c : Course) (s : StateOf G.g) (u : System 
     unborn j = l.rights.unborn v k j (let a = ap (λ a. a v) x.elsewhere.forks in omega (arith, a))
 
     at_place : (j : ℕ) → j < n → (b : Birth) × (slice_get bs j ≡ Some b)
-    at_place j lt = has_place bs j (omega (arith, lt, count_is))
+    at_place j lt = item_there bs j (omega (arith, lt, count_is))
 
     -- one of the children, or none of them
     child_or_not : (a : Name) → ((j : ℕ) × (j < n) × (a ≡ (k, j) ∷ v)) ⊎ ((j : ℕ) → j < n → a ≢ (k, j) ∷ v)
@@ -389,15 +318,15 @@ module _ (G : Ground) (lv : Lives G) (c : Course) (s : StateOf G.g) (u : System 
     child_or_not ((a, b) ∷ w) = by (same_name v w && (a == k)) refl (nat_lt b n) refl
       where
         test : (j : ℕ) → (a, b) ∷ w ≡ (k, j) ∷ v → (same_name v w && (a == k)) ≡ true
-        test j e = ap (λ f. f && (a == k)) ((name_test v w).1 (sym (tail_same (a, b) (k, j) w v e)))
-            ∙ eq-eqb a k (ap (λ (z : ℕ × ℕ). z.0) (head_same (a, b) (k, j) w v e))
+        test j e = ap (λ f. f && (a == k)) ((name_test v w).1 (sym (same_tail e)))
+            ∙ eq-eqb a k (ap (λ (z : ℕ × ℕ). z.0) (same_head e))
 
         by : (f : Bool) → (same_name v w && (a == k)) ≡ f → (g : Bool) → nat_lt b n ≡ g
             → ((j : ℕ) × (j < n) × ((a, b) ∷ w ≡ (k, j) ∷ v)) ⊎ ((j : ℕ) → j < n → (a, b) ∷ w ≢ (k, j) ∷ v)
         by true e true h =
             let is = it_is G.g.program (W_of G lv) (R_of G lv) v k o.frames stmts w a e in
             inl (b, ltb-true b n h, ap (λ f. cons (f, b) w) is.1 ∙ ap (λ f. cons (k, b) f) (sym is.0))
-        by true e false h = inr (λ j lt f. (let is : b ≡ j = ap (λ (z : ℕ × ℕ). z.1) (head_same (a, b) (k, j) w v f) in
+        by true e false h = inr (λ j lt f. (let is : b ≡ j = ap (λ (z : ℕ × ℕ). z.1) (same_head f) in
             let ge = ltb-false b n h in omega (arith, lt, is, ge)))
         by false e g h = inr (λ j lt f. (let is : true ≡ false = sym (test j f) ∙ e in absurd (cc is)))
 
@@ -523,9 +452,6 @@ module _ (G : Ground) (lv : Lives G) (c : Course) (s : StateOf G.g) (u : System 
     abbrev c1 : Course
     c1 = noted v (ticks_of G.g t1 v) c
 
-    since_other : (b : Name) → b ≢ v → c1.since b ≡ c.since b
-    since_other b e = ap (λ f. cond f (ticks_of G.g t1 v) (c.since b)) (differs name_test v b (λ h. e (sym h)))
-
     since_here : c1.since v ≡ (t.2).ticks
     since_here = ap (λ b. cond b (ticks_of G.g t1 v) (c.since v)) (itself name_test v) ∙ ap ticks_in cond_v
         ∙ (t.8).ticks
@@ -547,7 +473,8 @@ module _ (G : Ground) (lv : Lives G) (c : Course) (s : StateOf G.g) (u : System 
         (λ a1 b1. lv1_kids (G.births.name a) (λ h. apart (sym h)) a1 b1) c1 t1 (u.births.opens a) (u.condition a)
         (does_stay G lv s t1 l.known.sound l.rights.fair v (alone G lv c s u l i d at_i) x.good.stays (G.births.name a)
         apart (cond_r (G.births.name a) apart far) (λ a1 b1. ended_same ((a1, b1) ∷ G.births.name a))
-        (λ a1 b1. present_same ((a1, b1) ∷ G.births.name a)) c c1 (since_other (G.births.name a) apart) refl
+        (λ a1 b1. present_same ((a1, b1) ∷ G.births.name a)) c c1
+        (since_other c v (ticks_of G.g t1 v) (G.births.name a) apart) refl
         (λ h. h) (u.births.opens a) (u.condition a) (l.does a lt))
 
     -- ---- the parent
@@ -658,7 +585,8 @@ module _ (G : Ground) (lv : Lives G) (c : Course) (s : StateOf G.g) (u : System 
             ap (working_in t1.condition ((k, j) ∷ v)) (cond_child j p.0 p.1),
             inl (subst (λ a. Stands G (lv1 ((k, j) ∷ v)) (λ a b. lv1 ((a, b) ∷ (k, j) ∷ v)) ((k, j) ∷ v) a
                 (newborn x.left.who o j p.0) t1.store (child_of (P + j) j))
-                (sym (since_other ((k, j) ∷ v) (λ e. no_child j (sym e)) ∙ l.fresh_since ((k, j) ∷ v) (unborn j)))
+                (sym (since_other c v (ticks_of G.g t1 v) ((k, j) ∷ v) (λ e. no_child j (sym e))
+                ∙ l.fresh_since ((k, j) ∷ v) (unborn j)))
                 (subst (λ (lf : Life). Stands G lf (λ a b. lv1 ((a, b) ∷ (k, j) ∷ v)) ((k, j) ∷ v) 0
                 (newborn x.left.who o j p.0) t1.store (child_of (P + j) j)) (sym (lv1_child j))
                 (children (λ a b. lv1 ((a, b) ∷ (k, j) ∷ v)) j lt p.0 p.1 (called j lt)))),
@@ -670,7 +598,7 @@ module _ (G : Ground) (lv : Lives G) (c : Course) (s : StateOf G.g) (u : System 
       does_old : (a : ℕ) → a < P → Performs_all G lv1 (G.births.name a) c1 t1 (b1.opens a) (u1.condition a)
       does_old a lt = subst (λ b. Performs_all G lv1 (G.births.name a) c1 t1 (u.births.opens a) b)
           (sym (ap (λ f. cond f (at_number a (a - P)) (cond (i == a) (sys.Joins n left_it) (u.condition a)))
-          (old u.births n a lt)))
+          (next_not u.births n a lt)))
           (⊎_elim
           (λ (e : i ≡ a). subst (λ b. Performs_all G lv1 (G.births.name b) c1 t1 (u.births.opens b)
           (cond (i == b) (sys.Joins n left_it) (u.condition b))) e
@@ -678,7 +606,7 @@ module _ (G : Ground) (lv : Lives G) (c : Course) (s : StateOf G.g) (u : System 
           (sym (ap (λ f. cond f (sys.Joins n left_it) (u.condition i)) (eq-eqb i i refl))) parent_does))
           (λ (e : i ≢ a). subst (λ b. Performs_all G lv1 (G.births.name a) c1 t1 (u.births.opens a) b)
           (sym (ap (λ f. cond f (sys.Joins n left_it) (u.condition a)) (ne_eqb i a e))) (does_other a lt e))
-          (number_or G lv c s u l i d at_i i a))
+          (number_or i a))
 
       does_new : (j : ℕ) → j < n → Performs_all G lv1 (G.births.name (P + j)) c1 t1 (b1.opens (P + j))
           (u1.condition (P + j))
@@ -716,7 +644,7 @@ module _ (G : Ground) (lv : Lives G) (c : Course) (s : StateOf G.g) (u : System 
           (λ h. e (G.one_name i a (few i (here G lv c s u l i d at_i)) (few a lt) h))
           ∙ ap (λ b. b (G.births.name a)) x.elsewhere.forks ∙ l.forks a lt
           ∙ sym (ap (λ f. cond f (u.births.forks i + 1) (u.births.forks a)) (ne_eqb i a e)))
-          (number_or G lv c s u l i d at_i i a)
+          (number_or i a)
 
       forks_new : (j : ℕ) → j < n → t1.forks (G.births.name (P + j)) ≡ b1.forks (P + j)
       forks_new j lt = ap (λ b. t1.forks b) (name_child j lt)
@@ -747,7 +675,7 @@ module _ (G : Ground) (lv : Lives G) (c : Course) (s : StateOf G.g) (u : System 
             (let p = at_place h.0 h.1 in
             no_work (newborn x.left.who o h.0 p.0)
             (sym (cond_child h.0 p.0 p.1) ∙ subst (λ k. t1.condition k ≡ Absent) h.2 e)))
-            (λ h. since_other a b ∙ l.fresh_since a (sym (cond_r a b h) ∙ e)) (child_or_not a))
+            (λ h. since_other c v (ticks_of G.g t1 v) a b ∙ l.fresh_since a (sym (cond_r a b h) ∙ e)) (child_or_not a))
             (same_or_not name_test a v);
         pending = λ a lt. subst (λ b. Rattle.sp_link.proofs.Relation.IsPending G (b (channel G.births a)) (u.pending a))
             (sym x.elsewhere.pending) (l.pending a lt);
@@ -781,7 +709,9 @@ module _ (G : Ground) (lv : Lives G) (c : Course) (s : StateOf G.g) (u : System 
     fork_entry = record {
       turn = tn;
       is = tn_is;
-      way = way_by _ (sym told);
+      way = way_of_step G lv c s u l i d at_i x.steps x.at (x.turn says_now said_now) says_now t1
+          (λ left n k. (l.faulted ∙ quiet, refl, t1, n, one-add n, (x.left, x.runs, said_now, goes_next), k)) _
+          (sym told);
       speaks = subst (λ f. IsOpen u.births f) (sym event_is) tt;
       lives = lv1;
       linked = λ began. now_by G lv1 c1 t1 (after plain (run_is G) i tn u)
@@ -791,17 +721,3 @@ module _ (G : Ground) (lv : Lives G) (c : Course) (s : StateOf G.g) (u : System 
       where
         told : happening u.births (event_of G.g.limits u tn) ≡ says_now
         told = ap (λ f. happening u.births f) event_is ∙ ap (λ a. happenings.Forked a) (sym os_length)
-
-        way_by : (e : Happening) → says_now ≡ e → Way_on G c s v e
-        way_by e h = record {
-          unlaid = (its G lv c s u l i d at_i).4;
-          steps = x.steps;
-          at = x.at;
-          paused = false;
-          turn = x.turn says_now said_now;
-          cost = 1;
-          course = c1;
-          state = t1;
-          enters = λ left n a. subst (λ f. Entered G.g left c x.at false v f (1 + n)) h
-              (l.faulted ∙ quiet, refl, t1, n, one-add n, (x.left, x.runs, said_now, goes_next), a);
-        }

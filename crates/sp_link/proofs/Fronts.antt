@@ -1,14 +1,15 @@
 -- What each front of a journal that can be named has given to processes and channels is a beginning of what the whole
 -- gives (`all_began`). The relation speaks of the whole journal's names; this leads from them to those of a front.
-use Rattle.std.proofs.Common.{◌≡◌, ℕ, ◌+◌, ◌<◌, ◌≤◌, ◌==◌, List, [], ◌∷◌, Bool, true, false, ◌&&◌, cond, eqb-true, refl}
-use Rattle.std.proofs.Common.{sym, ap, ◌∙◌, subst, arith}
-use Rattle.std.specs.Prelude.{nat_le, nat_lt, ◌-◌}
+use Rattle.std.proofs.Common.{◌≡◌, ℕ, ◌<◌, ◌≤◌, ◌==◌, List, [], ◌∷◌, Bool, true, false, cond, eqb-true, refl, sym, ap}
+use Rattle.std.proofs.Common.{◌∙◌, subst, arith}
+use Rattle.std.specs.Prelude.{◌-◌}
 use Rattle.sp_journal.specs.declared.entry.Event.{Event}
 use Rattle.sp_journal.specs.declared.entry.Event.TheVariants as event
 use Rattle.sp_journal.specs.declared.entry.Entry.{Entry}
 use Rattle.sp_journal.specs.declared.entry.Opening.{Opening}
 use Rattle.sp_journal.specs.Births.{Births, channel, is_next, after_event, births_from, NameableFrom}
 use Rattle.sp_journal.proofs.BirthLaws.{Lawful, lawful_after}
+use Rattle.sp_history.proofs.Orders.{next_not}
 use Rattle.sp_link.proofs.Journal.{AllBegan}
 use Rattle.sp_link.proofs.Relation.{Ground, Began}
 
@@ -29,13 +30,6 @@ grows_on b d e h k = record {
   openings = λ j l. h.openings j l ∙ k.openings j (let x = h.channels in omega (arith, x, l));
 }
 
-pub old : (b : Births) (n i : ℕ) → i < b.processes → is_next b n i ≡ false
-old b n i l = ap (λ x. x && nat_lt i (b.processes + n)) (below (nat_le b.processes i) refl)
-  where
-    below : (x : Bool) → nat_le b.processes i ≡ x → nat_le b.processes i ≡ false
-    below true e = let h : b.processes ≤ i = Prim.grind (arith, e) in absurd (omega (arith, h, l))
-    below false e = e
-
 grows_event : (b : Births) (p : ℕ) (e : Event) → Lawful b → Grows b (after_event b p e)
 grows_event b p (event.Fork n) w = record {
   processes = omega arith;
@@ -47,7 +41,7 @@ grows_event b p (event.Fork n) w = record {
   where
     name_old : (i : ℕ) → i < b.processes → cond (is_next b n i) ((b.forks p, i - b.processes) ∷ b.name p) (b.name i)
         ≡ b.name i
-    name_old i l = ap (λ x. cond x ((b.forks p, i - b.processes) ∷ b.name p) (b.name i)) (old b n i l)
+    name_old i l = ap (λ x. cond x ((b.forks p, i - b.processes) ∷ b.name p) (b.name i)) (next_not b n i l)
 grows_event b p event.Open w = record {
   processes = omega arith;
   channels = omega arith;

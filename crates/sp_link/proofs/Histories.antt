@@ -12,23 +12,21 @@ use Rattle.sp_journal.specs.declared.entry.Way.TheVariants as way
 use Rattle.sp_journal.specs.declared.entry.Event.{Event}
 use Rattle.sp_journal.specs.declared.entry.Event.TheVariants as event
 use Rattle.sp_journal.specs.declared.entry.Birth.{Birth}
-use Rattle.sp_journal.specs.declared.entry.Entry.{Entry}
 use Rattle.sp_journal.specs.declared.entry.Note.{Note}
 use Rattle.sp_journal.specs.declared.outcome.End.{End}
 use Rattle.sp_journal.specs.declared.outcome.End.TheVariants as end
 use Rattle.sp_journal.specs.Maps.{at_key}
-use Rattle.sp_journal.specs.Births.{Births, at_start, after_event, channel, births_from, occurrences_from, is_next}
-use Rattle.sp_journal.proofs.BirthLaws.{Lawful}
-use Rattle.sp_journal.proofs.BirthLaws.{lawful as lawful_births}
+use Rattle.sp_journal.specs.Births.{Births, at_start, channel, births_from, occurrences_from, is_next}
+use Rattle.sp_journal.proofs.BirthLaws.{Lawful, lawful as lawful_births}
 use Rattle.sp_cell.specs.Map.{Plain}
 use Rattle.sp_meaning.specs.Own.{Setting}
 use Rattle.sp_meaning.specs.Runs.{StateOf, output_of}
 use Rattle.sp_meaning.specs.Along.{IsAlong}
 use Rattle.sp_meaning.specs.Ends.{Waiting, IsDone, IsDeadlock, EndIs}
 use Rattle.sp_code.specs.Control.{Control, Doing, Unborn, Ready, Out, Sending, Receiving, Joining, Laid, Ended, Gone}
-use Rattle.sp_code.specs.Control.{queues, offers, does, one_fewer, reports, happens, abandons, takes, given}
-use Rattle.sp_code.specs.Control.{noted, noted_all, control, control_at_start, Standing, Running, IsMemory, IsFault}
-use Rattle.sp_code.specs.Control.{has_ended, is_ready, standing, entries_of}
+use Rattle.sp_code.specs.Control.{queues, offers, does, one_fewer, reports, happens, abandons, takes, given, noted}
+use Rattle.sp_code.specs.Control.{noted_all, control, control_at_start, Standing, Running, IsMemory, IsFault, has_ended}
+use Rattle.sp_code.specs.Control.{is_ready, standing, entries_of}
 use Rattle.sp_code.specs.Control as ctrl
 use Rattle.sp_code.specs.Machine.{Stop, Forks, Opens, Sends, Receives, Ends, Pauses, Config}
 use Rattle.sp_code.specs.Emitted.{program_code}
@@ -36,7 +34,7 @@ use Rattle.sp_code.specs.Memory.{Memory}
 use Rattle.sp_code.specs.Memory as memory
 use Rattle.sp_code.specs.PlainStore.{plain}
 use Rattle.sp_code.specs.System.{System, Condition, Absent, Working, Waits, Joins, Laid as IsLaid, Gone as HasGone}
-use Rattle.sp_code.specs.System.{Over, IsSystem, Leads, OutputIs, store_in, opening}
+use Rattle.sp_code.specs.System.{Over, IsSystem, OutputIs, store_in, opening}
 use Rattle.sp_codegen.specs.Meets.{code_run}
 use Rattle.sp_history.specs.Agreement.{ToSend, ToReceive, Finished, phase, phase_in, IsOrderly, Agrees, HasOuts}
 use Rattle.sp_history.specs.Agreement.{Reaches}
@@ -44,6 +42,8 @@ use Rattle.sp_history.proofs.Agreeing.{orderly_start, agrees_start}
 use Rattle.sp_history.proofs.Holders.{one_holder}
 use Rattle.sp_history.proofs.Legal.{reaches_leads, reaches_keeps}
 use Rattle.sp_history.proofs.Outs.{outs_start, outs_all, nobody_runs}
+use Rattle.sp_history.proofs.Phases.{ended_phase, live_phase, no_waiter_ended}
+use Rattle.sp_history.proofs.Along.{births_along}
 use Rattle.sp_link.specs.Endings.{waiting_at, WaitsAs, IsWaiting, AreAllWaiting, StandsAt}
 use Rattle.sp_link.specs.Premises.{IsReady}
 use Rattle.sp_link.proofs.Endings.{program_root, program_stuck, program_fault}
@@ -170,28 +170,6 @@ no_queue : (ps : List ℕ) → is_ready ps ≡ false → ps ≡ []
 no_queue [] e = refl
 no_queue (p ∷ ps) e = absurd (cc e)
 
-ended_is : (d : Doing) → has_ended d ≡ true → phase d ≡ Finished
-ended_is Unborn e = absurd (cc e)
-ended_is Ready e = absurd (cc e)
-ended_is (Out w) e = absurd (cc e)
-ended_is (Sending c) e = absurd (cc e)
-ended_is (Receiving c) e = absurd (cc e)
-ended_is (Joining n) e = absurd (cc e)
-ended_is Laid e = absurd (cc e)
-ended_is Ended e = refl
-ended_is Gone e = absurd (cc e)
-
-not_ended : (d : Doing) → has_ended d ≡ false → phase d ≢ Finished
-not_ended Unborn e = λ r. cc r
-not_ended Ready e = λ r. cc r
-not_ended (Out w) e = λ r. cc r
-not_ended (Sending c) e = λ r. cc r
-not_ended (Receiving c) e = λ r. cc r
-not_ended (Joining n) e = λ r. cc r
-not_ended Laid e = λ r. cc r
-not_ended Ended e = absurd (cc e)
-not_ended Gone e = λ r. cc r
-
 -- ---- who waits, by the control and by the system
 
 abbrev Sends_at : Births → ℕ → ℕ → Waiting
@@ -307,14 +285,6 @@ module _ (k : Control) (t : System Plain) (a : Agrees k t) where
 
 -- ---- histories
 
--- what the entries have given to a system is what they give
-births_are : (g : memory.Setting) (es : List Entry) (s t : System Plain) → Leads plain g s es t
-    → t.births ≡ births_from s.births es
-births_are g [] s t h = ap (λ (y : System Plain). y.births) h
-births_are g (e ∷ es) s t h =
-    births_are g es h.0 t h.2 ∙ ap (λ (y : System Plain). births_from y.births es) h.1.5
-    ∙ ap (λ y. births_from (after_event s.births e.process y) es) h.1.4
-
 module _ (g : Setting) (moves shares : Stmt → List ℕ) (pause : ℕ) (ready : IsReady g moves shares)
     (ns : List Note) where
   abbrev run : memory.Setting
@@ -332,7 +302,8 @@ module _ (g : Setting) (moves shares : Stmt → List ℕ) (pause : ℕ) (ready :
         outs_start r
 
     lawful : Lawful (control ns).births
-    lawful = subst (λ b. Lawful b) (sym (alike.1.births ∙ births_are run (entries_of ns) (opening plain run) t journal))
+    lawful = subst (λ b. Lawful b)
+        (sym (alike.1.births ∙ births_along run (entries_of ns) (opening plain run) t journal))
         (lawful_births (entries_of ns) (names_on g moves shares pause ready (entries_of ns) t journal))
 
     pub history_means : (n : ℕ) × (s : StateOf g) × IsAlong g pause (occurrences_from at_start (entries_of ns)) n s
@@ -364,15 +335,7 @@ module _ (g : Setting) (moves shares : Stmt → List ℕ) (pause : ℕ) (ready :
           by : (X : Condition Plain) → t.condition 0 ≡ X → phase_in X ≡ Finished → IsDone g s
           by Absent x f = absurd (cc f)
           by (Working d) x f = absurd (cc f)
-          by (Waits stop d) x f = absurd (waiting stop f)
-            where
-              waiting : (stop : Stop) → phase_in {S = Plain} (Waits stop d) ≡ Finished → ⊥
-              waiting (Forks tb v m) f = cc f
-              waiting (Opens a) f = cc f
-              waiting (Sends c m cs) f = cc f
-              waiting (Receives c m a) f = cc f
-              waiting Ends f = cc f
-              waiting Pauses f = cc f
+          by (Waits stop d) x f = absurd (no_waiter_ended stop f)
           by (Joins left d) x f = absurd (cc f)
           by (IsLaid d) x f = absurd (cc f)
           by HasGone x f = absurd (program_root g moves shares pause ready (entries_of ns) t journal n s k x)
@@ -383,7 +346,7 @@ module _ (g : Setting) (moves shares : Stmt → List ℕ) (pause : ℕ) (ready :
       history_done e =
           let w = stands_done (nat_lt 0 (control ns).abandons) (control ns).faulted (has_ended ((control ns).doing 0))
           (is_ready (control ns).ready || nat_lt 0 (control ns).out) e in
-          over (sym (alike.1.each 0) ∙ ended_is ((control ns).doing 0) w.2)
+          over (sym (alike.1.each 0) ∙ ended_phase ((control ns).doing 0) w.2)
 
       pub history_deadlock : (ws : List Waiting) → standing (control ns) ≡ ctrl.IsDeadlock
           → AreAllWaiting (control ns) ws → IsDeadlock g s ws
@@ -396,7 +359,7 @@ module _ (g : Setting) (moves shares : Stmt → List ℕ) (pause : ℕ) (ready :
           program_stuck g moves shares pause ready (entries_of ns) t journal n s k ws (record {
             quiet = sym alike.1.faulted ∙ w.1;
             idle = λ i d x. still i (ap (λ y. phase_in y) x);
-            goes_on = λ d x. not_ended ((control ns).doing 0) w.2 (alike.1.each 0 ∙ ap (λ y. phase_in y) x);
+            goes_on = λ d x. live_phase ((control ns).doing 0) w.2 (alike.1.each 0 ∙ ap (λ y. phase_in y) x);
             sorted = q.sorted;
             only = λ x i. control_waits (control ns) t alike.1 x (q.only x i);
             whole = λ x i. q.whole x (system_waits (control ns) t alike.1 x i);

@@ -41,26 +41,11 @@ module _ (G : Ground) (lf : Life) (kids : ℕ → ℕ → Life) (q : Name) where
       → St G lf kids q w since js o s1 n
   stand_dead {js = js} t s1 same = record {
     frames = t.frames;
-    machine_frames = t.machine_frames;
-    paired = t.paired;
-    process = t.process;
     ticks = t.ticks;
     since_is = t.since_is;
     moved_is = t.moved_is;
-    owners = t.owners;
-    depth = t.depth;
-    cells = t.cells;
-    fits = t.fits;
-    shallow = t.shallow;
-    own_frames = t.own_frames;
-    above_base = t.above_base;
-    deep = t.deep;
-    counts = t.counts;
     known = t.known;
     unaway = t.unaway;
-    apart = t.apart;
-    root = t.root;
-    bottom = t.bottom;
     held = λ r h x l m. (let z = t.held r h x l m in
         record {
           tree = z.tree;

@@ -11,6 +11,7 @@ pub mod OneChanges
 pub mod Pauses
 pub mod KernelSteps
 pub mod Rejoins
+pub mod Newborns
 pub mod Forks
 pub mod Scoping
 pub mod Splits
@@ -39,6 +40,8 @@ pub mod AtOffer
 pub mod OffersWait
 pub mod OffersMeet
 pub mod Offers
+pub mod BoundedRanks
+pub mod StraightCode
 pub mod Ranks
 pub mod Formals
 pub mod SafeSteps

@@ -61,26 +61,11 @@ module _ (Named Named1 : Channel → ℕ → Type 0) (more : (c : Channel) (j : 
         → Stand g code w Named1 Called W R J low base born since pause moved js o s n
     stand_more t = record {
       frames = t.frames;
-      machine_frames = t.machine_frames;
-      paired = t.paired;
-      process = t.process;
       ticks = t.ticks;
       since_is = t.since_is;
       moved_is = t.moved_is;
-      owners = t.owners;
-      depth = t.depth;
-      cells = t.cells;
-      fits = t.fits;
-      shallow = t.shallow;
-      own_frames = t.own_frames;
-      above_base = t.above_base;
-      deep = t.deep;
-      counts = t.counts;
       known = t.known;
       unaway = t.unaway;
-      apart = t.apart;
-      root = t.root;
-      bottom = t.bottom;
       held = λ q h x l r. (let z = t.held q h x l r in
           record {
             tree = z.tree;

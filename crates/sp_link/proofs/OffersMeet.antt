@@ -1,8 +1,7 @@
 -- The entry `Send` or `Receive` on both sides where an offer is pending on the channel. It meets the other one, and
 -- both go on, the receiver with the message (`meets`); or both have one way, or other types: F6, F7 (`clashes`).
-use Rattle.std.proofs.Common.{◌≡◌, ◌⊎◌, inl, inr, ⊎_elim, ℕ, ◌+◌, ◌<◌, ◌==◌, List, [], ◌∷◌, Option, Some, None}
-use Rattle.std.proofs.Common.{Bool, true, false, cond, if◌then◌else◌, eqb-true, eq-eqb, refl, sym, ap, ◌∙◌, subst}
-use Rattle.std.proofs.Common.{arith}
+use Rattle.std.proofs.Common.{◌≡◌, ◌⊎◌, inl, inr, ⊎_elim, ℕ, ◌+◌, ◌<◌, ◌==◌, List, [], ◌∷◌, Option, Some, None, Bool}
+use Rattle.std.proofs.Common.{true, false, cond, if◌then◌else◌, eqb-true, eq-eqb, refl, sym, ap, ◌∙◌, subst, arith}
 use Rattle.std.proofs.Common.{one-add}
 use Rattle.std.specs.Prelude.{◌≢◌, nat_lt}
 use Rattle.std.proofs.lemmas.Bool.{ne_eqb}
@@ -29,10 +28,10 @@ use Rattle.sp_meaning.specs.Deeds.{Deed, Offered}
 use Rattle.sp_meaning.specs.SuperPascal.{superpascal}
 use Rattle.sp_meaning.specs.Run.{Store}
 use Rattle.sp_meaning.specs.Runs.{StateOf, most, next, says, said_of}
-use Rattle.sp_meaning.specs.Along.{Course, ticks_in, ticks_of, noted, Entered}
+use Rattle.sp_meaning.specs.Along.{Course, ticks_in, ticks_of, noted}
 use Rattle.sp_meaning.specs.Turn as source
 use Rattle.sp_meaning.proofs.Instance.{loc_test}
-use Rattle.sp_meaning.proofs.Keys.{name_test, channel_test}
+use Rattle.sp_meaning.proofs.Keys.{name_test, channel_test, number_or}
 use Rattle.sp_meaning.proofs.Maps.{at_same, at_other, differs, itself, same_or_not}
 use Rattle.sp_meaning.proofs.Owned.{Inv, Holds}
 use Rattle.sp_meaning.proofs.Parallel.{IsAlone}
@@ -51,12 +50,12 @@ use Rattle.sp_codegen.specs.Following.{cells_in}
 use Rattle.sp_link.proofs.AtOffer as ao
 use Rattle.sp_link.proofs.AtStop.{w, p1, known_at, rights_at, ended_at, other_name, does_at}
 use Rattle.sp_link.proofs.Halts.{failed_entry, offered_halt}
-use Rattle.sp_link.proofs.Journal.{Way_on, IsOpen, now_by}
+use Rattle.sp_link.proofs.Journal.{IsOpen, now_by}
 use Rattle.sp_link.proofs.KernelSteps.{kernel_next, kernel_says}
 use Rattle.sp_link.proofs.Messages.{sent_flat, receiver_stands}
-use Rattle.sp_link.proofs.OneChanges.{its, here, number_or, inv_local}
+use Rattle.sp_link.proofs.OneChanges.{its, here, inv_local, since_other}
 use Rattle.sp_link.proofs.OthersStay.{does_stay, stands_stay}
-use Rattle.sp_link.proofs.Pauses.{Entry_of, Meant, Machined, Kept_to, kids, after_quiet}
+use Rattle.sp_link.proofs.Pauses.{Entry_of, Meant, Machined, Kept_to, kids, after_quiet, way_of_step}
 use Rattle.sp_link.proofs.Relation.{Ground, Lives, W_of, R_of, Named, Stands, Ca, Performs_all, IsPending, Linked}
 use Rattle.sp_link.proofs.Relation.{run_is}
 
@@ -225,9 +224,6 @@ module _ (G : Ground) (lv : Lives G) (c : Course) (s : StateOf G.g) (u : System 
     abbrev c1 : Course
     c1 = noted v (ticks_of G.g t1 v) c
 
-    since_other : (b : Name) → b ≢ v → c1.since b ≡ c.since b
-    since_other b e = ap (λ f. cond f (ticks_of G.g t1 v) (c.since b)) (differs name_test v b (λ h. e (sym h)))
-
     since_here : c1.since v ≡ (t.2).ticks
     since_here = ap (λ b. cond b (ticks_of G.g t1 v) (c.since v)) (itself name_test v) ∙ ap ticks_in cond_v
         ∙ (t.8).ticks
@@ -249,7 +245,7 @@ module _ (G : Ground) (lv : Lives G) (c : Course) (s : StateOf G.g) (u : System 
         does_stay G lv x.at t1 known_then.sound rights_then.fair wr wr_alone stays (G.births.name k)
         (not_writer (G.births.name k) nv nz) (cond_r (G.births.name k) nv nz)
         (λ a b. ended_same ((a, b) ∷ G.births.name k)) (λ a b. present_same ((a, b) ∷ G.births.name k)) c c1
-        (since_other (G.births.name k) nv) refl (λ h. h) (u.births.opens k) (u.condition k)
+        (since_other c v (ticks_of G.g t1 v) (G.births.name k) nv) refl (λ h. h) (u.births.opens k) (u.condition k)
         (does_at G lv c s u l i d at_i z r x what said k lt e)
 
     -- with the message, and with nothing else changed
@@ -291,7 +287,7 @@ module _ (G : Ground) (lv : Lives G) (c : Course) (s : StateOf G.g) (u : System 
         off2.next,
         ap (working_in t1.condition zn) cond_z,
         inl (subst (λ k. Stands G (lv zn) (λ a b. lv ((a, b) ∷ zn)) zn k off2.next t1.store e2)
-            (sym (since_other zn apart)) do_z),
+            (sym (since_other c v (ticks_of G.g t1 v) zn apart)) do_z),
         opens2,
         laid2,
       )
@@ -307,7 +303,7 @@ module _ (G : Ground) (lv : Lives G) (c : Course) (s : StateOf G.g) (u : System 
           (subst (λ b. IsPending G (x.at.pending (channel G.births k)) (cond b None (u.pending k))) (sym (ne_eqb j k e))
           (subst (λ b. IsPending G (b (channel G.births k)) (u.pending k)) (sym x.elsewhere.pending)
           (l.pending k lt))))
-          (number_or G lv c s u l i d at_i j k)
+          (number_or j k)
         where
           far : j ≢ k → same_channel ch (channel G.births k) ≡ false
           far e = differs channel_test ch (channel G.births k)
@@ -331,7 +327,7 @@ module _ (G : Ground) (lv : Lives G) (c : Course) (s : StateOf G.g) (u : System 
             (no_absent off.next (sym cond_v ∙ subst (λ k. t1.condition k ≡ Absent) f e)))
             (λ (nv : b ≢ v). ⊎_elim (λ (f : b ≡ zn). absurd
             (no_absent off2.next (sym cond_z ∙ subst (λ k. t1.condition k ≡ Absent) f e)))
-            (λ (nz : b ≢ zn). since_other b nv
+            (λ (nz : b ≢ zn). since_other c v (ticks_of G.g t1 v) b nv
             ∙ l.fresh_since b (sym (x.elsewhere.condition b nv) ∙ sym (cond_r b nv nz) ∙ e))
             (same_or_not name_test b zn)) (same_or_not name_test b v);
         pending = pends_now;
@@ -348,8 +344,8 @@ module _ (G : Ground) (lv : Lives G) (c : Course) (s : StateOf G.g) (u : System 
             f (subst (λ b. Performs_all G lv zn c1 t1 (u.births.opens zi) b) (sym at_zi) other_does))
             (λ (f : zi ≢ k). subst (λ b. Performs_all G lv (G.births.name k) c1 t1 (u.births.opens k) b)
             (sym (at_far k e f)) (does_other k lt e f))
-            (number_or G lv c s u l i d at_i zi k))
-            (number_or G lv c s u l i d at_i i k);
+            (number_or zi k))
+            (number_or i k);
         unborn = λ k le. at_far k (λ e. let b = here G lv c s u l i d at_i in omega (arith, b, le, e))
             (λ e. omega (arith, few, le, e)) ∙ l.unborn k le;
         unmade = l.unmade;
@@ -369,26 +365,14 @@ module _ (G : Ground) (lv : Lives G) (c : Course) (s : StateOf G.g) (u : System 
       entry_by is told speaks = record {
         turn = Stopped t.5 (At t.0 t.1 t.2);
         is = ao.tn_is G lv c s u l i d at_i z ch kd cg todo o m x t y;
-        way = way_by _ (sym told);
+        way = way_of_step G lv c s u l i d at_i x.steps x.at (x.turn says_now said_now) says_now t1
+            (λ left n k. (l.faulted ∙ quiet, refl, t1, n, one-add n, (x.left, x.runs, said_now, goes_next), k)) _
+            (sym told);
         speaks = speaks;
         lives = lv;
         linked = λ began. now_by G lv c1 t1 (after plain (run_is G) i (Stopped t.5 (At t.0 t.1 t.2)) u)
             (subst (λ a. Linked G lv c1 t1 a) (sym is) linked);
       }
-        where
-          way_by : (e : Happening) → says_now ≡ e → Way_on G c s v e
-          way_by e h = record {
-            unlaid = (its G lv c s u l i d at_i).4;
-            steps = x.steps;
-            at = x.at;
-            paused = false;
-            turn = x.turn says_now said_now;
-            cost = 1;
-            course = c1;
-            state = t1;
-            enters = λ left n k. subst (λ f. Entered G.g left c x.at false v f (1 + n)) h
-                (l.faulted ∙ quiet, refl, t1, n, one-add n, (x.left, x.runs, said_now, goes_next), k);
-          }
 
   -- ---- this one sends
 

@@ -1,14 +1,12 @@
 -- The entry `Send` or `Receive` on both sides where nothing is pending on the channel: the offer waits
 -- (`waiting_entry`).
-use Rattle.std.proofs.Common.{◌≡◌, ◌⊎◌, inl, ⊎_elim, ℕ, ◌+◌, ◌<◌, ◌==◌, List, ◌∷◌, length, Option, Some, None}
-use Rattle.std.proofs.Common.{false, cond, if◌then◌else◌, eq-eqb, refl, sym, ap, ◌∙◌, subst}
-use Rattle.std.proofs.Common.{arith}
-use Rattle.std.proofs.Common.{one-add}
+use Rattle.std.proofs.Common.{◌≡◌, ◌⊎◌, inl, ⊎_elim, ℕ, ◌+◌, ◌<◌, ◌==◌, List, ◌∷◌, length, Option, Some, None, false}
+use Rattle.std.proofs.Common.{cond, if◌then◌else◌, eq-eqb, refl, sym, ap, ◌∙◌, subst, arith, one-add}
 use Rattle.std.specs.Prelude.{◌≢◌, nat_lt}
 use Rattle.std.proofs.lemmas.Bool.{ne_eqb}
 use Rattle.sp_journal.specs.Births.{Births, channel}
 use Rattle.sp_meaning.proofs.Owned.{Holds}
-use Rattle.sp_meaning.proofs.Keys.{channel_test}
+use Rattle.sp_meaning.proofs.Keys.{channel_test, name_test, number_or}
 use Rattle.sp_link.proofs.AfterEntry.{stand_again, follows_again, cargo_again}
 use Rattle.sp_base.specs.declared.fault.Fault.{Fault}
 use Rattle.sp_journal.specs.declared.entry.Way.{Way}
@@ -17,21 +15,18 @@ use Rattle.sp_journal.specs.declared.entry.Event.TheVariants as event
 use Rattle.sp_journal.specs.Births.{happening}
 use Rattle.sp_journal.specs.Maps.{at_key}
 use Rattle.sp_cell.specs.Map.{Plain}
-use Rattle.sp_meaning.specs.Model.{Name, Condition, Absent, Waits}
-use Rattle.sp_meaning.specs.Model.{after as After, same_channel, Channel, Cargo, Message, Takes, Totals}
-use Rattle.sp_meaning.specs.Steps.{has_ended, Lives as IsLive, OfferOf, waiting, an_entry, way_of}
-use Rattle.sp_meaning.specs.Steps.{Advances, outcome, passed, unless, offered}
+use Rattle.sp_meaning.specs.Model.{Name, Condition, Absent, Waits, after as After, same_channel, Channel, Cargo}
+use Rattle.sp_meaning.specs.Model.{Message, Takes, Totals}
+use Rattle.sp_meaning.specs.Steps.{has_ended, Lives as IsLive, OfferOf, waiting, an_entry, way_of, Advances, outcome}
+use Rattle.sp_meaning.specs.Steps.{passed, unless, offered}
 use Rattle.sp_meaning.specs.Entries.{Happening, Offered as Is_offered}
-use Rattle.sp_meaning.specs.Own.{Held, Address, Own, Process, Came, Got, Written, Item, Tree}
-use Rattle.sp_meaning.specs.Own.{Position}
+use Rattle.sp_meaning.specs.Own.{Held, Address, Own, Process, Came, Got, Written, Item, Tree, Position}
 use Rattle.sp_meaning.specs.Deeds.{Deed, Offered}
-use Rattle.sp_meaning.specs.SuperPascal.{with_todo}
-use Rattle.sp_meaning.specs.SuperPascal.{superpascal}
+use Rattle.sp_meaning.specs.SuperPascal.{with_todo, superpascal}
 use Rattle.sp_meaning.specs.Run.{Store}
 use Rattle.sp_meaning.specs.Runs.{StateOf, most, next, says}
-use Rattle.sp_meaning.specs.Along.{Course, ticks_in, ticks_of, noted, Entered}
+use Rattle.sp_meaning.specs.Along.{Course, ticks_in, ticks_of, noted}
 use Rattle.sp_meaning.specs.Turn as source
-use Rattle.sp_meaning.proofs.Keys.{name_test}
 use Rattle.sp_meaning.proofs.Maps.{at_same, at_other, differs, same_or_not}
 use Rattle.sp_meaning.proofs.Owned.{Inv}
 use Rattle.sp_meaning.proofs.Reached.{Known, step_well, raised, lowered}
@@ -45,12 +40,11 @@ use Rattle.sp_code.specs.PlainStore.{plain}
 use Rattle.sp_code.specs.System.{System, after, event_of}
 use Rattle.sp_code.specs.System as sys
 use Rattle.sp_link.proofs.Messages.{owned_ready}
-use Rattle.sp_link.proofs.Journal.{Way_on, IsOpen, now_by}
+use Rattle.sp_link.proofs.Journal.{IsOpen, now_by}
 use Rattle.sp_link.proofs.KernelSteps.{kernel_next, kernel_says, stand_dead}
-use Rattle.sp_link.proofs.OneChanges.{its, here, number_or, inv_local}
-use Rattle.sp_link.proofs.Pauses.{Entry_of, Meant, Machined, Kept_to, kids, turn_is, after_quiet}
-use Rattle.sp_link.proofs.Relation.{Ground, Lives, W_of, R_of, Stands, Performs_all, Ca}
-use Rattle.sp_link.proofs.Relation.{IsPending, Linked, run_is, ops}
+use Rattle.sp_link.proofs.OneChanges.{its, here, inv_local, since_other}
+use Rattle.sp_link.proofs.Pauses.{Entry_of, Meant, Machined, Kept_to, kids, turn_is, after_quiet, way_of_step}
+use Rattle.sp_link.proofs.Relation.{Ground, Lives, W_of, R_of, Stands, Performs_all, Ca, IsPending, Linked, run_is, ops}
 use Rattle.sp_link.proofs.OthersStay.{does_stay}
 use Rattle.sp_meaning.proofs.QuietDeeds.{IsDead}
 use Rattle.sp_link.proofs.AtStop.{same_but_dead, w, p1, kt, alone_at, known_at, rights_at, ended_at, other_name}
@@ -110,9 +104,6 @@ module _ (G : Ground) (lv : Lives G) (c : Course) (s : StateOf G.g) (u : System 
   abbrev c1 : Course
   c1 = noted v (ticks_of G.g t1 v) c
 
-  since_other : (a : Name) → a ≢ v → c1.since a ≡ c.since a
-  since_other a e = ap (λ b. cond b (ticks_of G.g t1 v) (c.since a)) (differs name_test v a (λ h. e (sym h)))
-
   waits : t1.condition v ≡ Waits off
   waits = at_same name_test x.at.condition v (Waits off)
 
@@ -166,7 +157,7 @@ module _ (G : Ground) (lv : Lives G) (c : Course) (s : StateOf G.g) (u : System 
       does_stay G lv x.at t1 known_then.sound rights_then.fair v (alone_at G lv c s u l i d at_i z r x what said)
       (λ a. inl refl) (G.births.name j) apart (same (G.births.name j) apart)
       (λ k n. ended_same ((k, n) ∷ G.births.name j)) (λ k n. present_same ((k, n) ∷ G.births.name j)) c c1
-      (since_other (G.births.name j) apart) refl (λ h. h) (u.births.opens j) (u.condition j)
+      (since_other c v (ticks_of G.g t1 v) (G.births.name j) apart) refl (λ h. h) (u.births.opens j) (u.condition j)
       (does_at G lv c s u l i d at_i z r x what said j lt e)
 
   -- it stands where it waits
@@ -200,7 +191,7 @@ module _ (G : Ground) (lv : Lives G) (c : Course) (s : StateOf G.g) (u : System 
         since_here
         (stand_dead G (lv v) (λ a b. lv ((a, b) ∷ v)) v t.8 x.at.store
         (λ a. subst (λ b. (x.at.store a ≡ m a) ⊎ IsDead b a)
-        (ap (λ b. length b) (t.8).frames ∙ Rattle.sp_codegen.proofs.Joints.sources_length t.3)
+        (ap (λ b. length b) (t.8).frames.sources_are ∙ Rattle.sp_codegen.proofs.Joints.sources_length t.3)
         (same_but_dead G lv c s u l i d at_i z (Offered ch kd cg todo) o m x tt a)));
     follows = follows_again G (lv v) (λ a b. lv ((a, b) ∷ v)) v z.fresh z.fresh (p1 G lv c s u l i d at_i).who
         x.left.who z.named name_is (c.since v) (c1.since v) t.0 t.1 t.3 todo t.10;
@@ -259,7 +250,7 @@ module _ (G : Ground) (lv : Lives G) (c : Course) (s : StateOf G.g) (u : System 
         (subst (λ b. IsPending G (x.at.pending (channel G.births a)) (cond b (Some i) (u.pending a)))
         (sym (ne_eqb j a e)) (subst (λ b. IsPending G (b (channel G.births a)) (u.pending a))
         (sym x.elsewhere.pending) (l.pending a lt))))
-        (number_or G lv c s u l i d at_i j a)
+        (number_or j a)
       where
         few : i < G.births.processes
         few = let a = here G lv c s u l i d at_i in let b = l.began.processes in omega (arith, a, b)
@@ -281,7 +272,8 @@ module _ (G : Ground) (lv : Lives G) (c : Course) (s : StateOf G.g) (u : System 
       entries = (let a = ap (λ (b : Totals). b.entries) totals_are in let b = l.entries in omega (arith, a, b));
       fresh_since = λ a e. ⊎_elim (λ (b : a ≡ v). absurd
           (no_absent (sym waits ∙ subst (λ k. t1.condition k ≡ Absent) b e)))
-          (λ (b : a ≢ v). since_other a b ∙ l.fresh_since a (sym (x.elsewhere.condition a b) ∙ sym (same a b) ∙ e))
+          (λ (b : a ≢ v). since_other c v (ticks_of G.g t1 v) a b
+          ∙ l.fresh_since a (sym (x.elsewhere.condition a b) ∙ sym (same a b) ∙ e))
           (same_or_not name_test a v);
       pending = pends_now;
       none_pending = λ a le. ap (λ b. cond b (Some i) (u.pending a))
@@ -295,7 +287,7 @@ module _ (G : Ground) (lv : Lives G) (c : Course) (s : StateOf G.g) (u : System 
           (sym (ap (λ b. cond b (sys.Waits t.5 there) (u.condition i)) (eq-eqb i i refl))) its_does))
           (λ (e : i ≢ a). subst (λ b. Performs_all G lv (G.births.name a) c1 t1 (u.births.opens a) b)
           (sym (at_other_number a e)) (does_other a lt e))
-          (number_or G lv c s u l i d at_i i a);
+          (number_or i a);
       unborn = λ a le. at_other_number a (λ e. let b = here G lv c s u l i d at_i in omega (arith, b, le, e))
           ∙ l.unborn a le;
       unmade = l.unmade;
@@ -373,26 +365,13 @@ module _ (G : Ground) (lv : Lives G) (c : Course) (s : StateOf G.g) (u : System 
     entry_by is told speaks = record {
       turn = turn_of t.5;
       is = tn_is;
-      way = way_by _ (sym told);
+      way = way_of_step G lv c s u l i d at_i x.steps x.at (x.turn what said) what t1
+          (λ left n k. (l.faulted ∙ quiet, refl, t1, n, one-add n, (x.left, x.runs, said, goes_next), k)) _ (sym told);
       speaks = speaks;
       lives = lv;
       linked = λ began. now_by G lv c1 t1 (after plain (run_is G) i (turn_of t.5) u)
           (subst (λ a. Linked G lv c1 t1 a) (sym is) linked);
     }
-      where
-        way_by : (e : Happening) → what ≡ e → Way_on G c s v e
-        way_by e h = record {
-          unlaid = (its G lv c s u l i d at_i).4;
-          steps = x.steps;
-          at = x.at;
-          paused = false;
-          turn = x.turn what said;
-          cost = 1;
-          course = c1;
-          state = t1;
-          enters = λ left n k. subst (λ f. Entered G.g left c x.at false v f (1 + n)) h
-              (l.faulted ∙ quiet, refl, t1, n, one-add n, (x.left, x.runs, said, goes_next), k);
-        }
 
   -- of both ways
   waiting_by : (g1 : Cargo Held Address) → cg ≡ g1

@@ -1,6 +1,6 @@
 -- An entry that changes one process alone and what it may write keeps the relation (`linked_local`). Here are also the
 -- facts of the process that makes an entry: its name, that it runs, its rights, and that it is alone.
-use Rattle.std.proofs.Common.{◌≡◌, ◌⊎◌, inl, inr, ⊎_elim, ℕ, ◌<◌, ◌==◌, ◌∷◌, Some, None, Bool, true, false, cond}
+use Rattle.std.proofs.Common.{◌≡◌, ◌⊎◌, inl, ⊎_elim, ℕ, ◌<◌, ◌==◌, ◌∷◌, Some, None, Bool, true, false, cond}
 use Rattle.std.proofs.Common.{if◌then◌else◌, eqb-true, eq-eqb, refl, sym, ap, ◌∙◌, subst, arith}
 use Rattle.std.specs.Prelude.{◌≢◌}
 use Rattle.sp_journal.specs.Maps.{at_key}
@@ -10,15 +10,15 @@ use Rattle.sp_meaning.specs.Steps.{working_in, has_ended, all_ended, Lives as Is
 use Rattle.sp_meaning.specs.Own.{Loc, Held, Address, Process}
 use Rattle.sp_meaning.specs.SuperPascal.{weight_of}
 use Rattle.sp_meaning.specs.Runs.{StateOf, most, running}
-use Rattle.sp_meaning.specs.Along.{Course}
-use Rattle.sp_meaning.proofs.EnoughSteps.{AllFit}
-use Rattle.sp_meaning.proofs.Keys.{name_test}
-use Rattle.sp_meaning.proofs.Maps.{same_or_not}
+use Rattle.sp_meaning.specs.Along.{Course, noted}
+use Rattle.sp_meaning.proofs.Keys.{name_test, number_or}
+use Rattle.sp_meaning.proofs.Maps.{same_or_not, differs}
 use Rattle.sp_meaning.proofs.Owned.{Inv, Keeps_to, Holds, works_well}
 use Rattle.sp_meaning.proofs.Parallel.{IsAlone}
 use Rattle.sp_meaning.proofs.Reached.{Known, working_keeps, K}
 use Rattle.sp_meaning.proofs.Rights.{All}
 use Rattle.sp_meaning.proofs.Status.{working_lives, lives_ended}
+use Rattle.sp_meaning.proofs.Weights.{AllFit}
 use Rattle.sp_code.specs.Machine.{Config}
 use Rattle.sp_code.specs.Memory.{Memory}
 use Rattle.sp_code.specs.System.{System}
@@ -26,6 +26,10 @@ use Rattle.sp_code.specs.System as sys
 use Rattle.sp_link.proofs.Journal.{is_born}
 use Rattle.sp_link.proofs.Relation.{Ground, Lives, W_of, R_of, Performs_all, Linked, IsPending}
 use Rattle.sp_link.proofs.OthersStay.{does_stay}
+
+-- an entry notes the ticks of its process alone
+pub since_other : (c : Course) (v : Name) (n : ℕ) (a : Name) → a ≢ v → (noted v n c).since a ≡ c.since a
+since_other c v n a e = ap (λ b. cond b n (c.since a)) (differs name_test v a (λ h. e (sym h)))
 
 -- a working process, whatever condition it has, keeps to its rights
 pub holds_by : (G : Ground) (W R : Name → Loc → Type 0) (m : Name → Condition Process Held Address) (f : Name → ℕ)
@@ -91,13 +95,6 @@ module _ (G : Ground) (lv : Lives G) (c : Course) (s : StateOf G.g) (u : System 
       go : (b : Bool) → has_ended (s.condition q) ≡ b → b ≡ false
       go true e = absurd (lives_ended (s.condition q) (working_lives s.condition q (s.condition q) pr runs) e)
       go false e = refl
-
-  pub number_or : (a b : ℕ) → (a ≡ b) ⊎ (a ≢ b)
-  number_or a b = go (a == b) refl
-    where
-      go : (z : Bool) → a == b ≡ z → (a ≡ b) ⊎ (a ≢ b)
-      go true e = inl (eqb-true a b e)
-      go false e = inr (λ f. let x : false ≡ true = sym e ∙ eq-eqb a b f in absurd (cc x))
 
   module _ (t : StateOf G.g) (c1 : Course) (x : sys.Condition Plain) (f : Bool)
       (other : (r : Name) → r ≢ q → t.condition r ≡ s.condition r) (forks : t.forks ≡ s.forks)

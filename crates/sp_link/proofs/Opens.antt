@@ -1,9 +1,7 @@
 -- The entry `Open` on both sides: the new channel has the next number and its name, and stands in the target
 -- (`opening_entry`); or the entries or the channels are at their limit: F15, F14.
-use Rattle.std.proofs.Common.{◌≡◌, ◌⊎◌, inl, ⊎_elim, ℕ, ◌+◌, ◌<◌, ◌==◌, List, ◌∷◌, length, Option, Some, None}
-use Rattle.std.proofs.Common.{Bool, true, false, cond, if◌then◌else◌, eq-eqb, refl, sym, ap, ◌∙◌, subst}
-use Rattle.std.proofs.Common.{arith}
-use Rattle.std.proofs.Common.{one-add}
+use Rattle.std.proofs.Common.{◌≡◌, ◌⊎◌, inl, ⊎_elim, ℕ, ◌+◌, ◌<◌, ◌==◌, List, ◌∷◌, length, Option, Some, None, Bool}
+use Rattle.std.proofs.Common.{true, false, cond, if◌then◌else◌, eq-eqb, refl, sym, ap, ◌∙◌, subst, arith, one-add}
 use Rattle.std.specs.Prelude.{◌≢◌, nat_lt}
 use Rattle.std.proofs.lemmas.Bool.{ne_eqb}
 use Rattle.sp_base.specs.declared.fault.Fault.{Fault}
@@ -20,7 +18,7 @@ use Rattle.sp_meaning.specs.Model.{Joins, Ended, Becomes, Adds, Opens, changed, 
 use Rattle.sp_meaning.specs.Asking.{put_by}
 use Rattle.sp_meaning.specs.Steps.{ActOf, has_ended, working_in, Lives as IsLive, WaitsOn, Advances, Faulty, outcome}
 use Rattle.sp_meaning.specs.Steps.{passed, unless, acts, puts, result_of}
-use Rattle.sp_meaning.specs.Entries.{Happening, Opened as Is_opened}
+use Rattle.sp_meaning.specs.Entries.{Opened as Is_opened}
 use Rattle.sp_meaning.specs.Own.{Loc, Held, Address, Own, Who, Process, Came, Got, Item, Tree, Position, Written}
 use Rattle.sp_meaning.specs.Own.{same_loc}
 use Rattle.sp_meaning.specs.Values.{Chan}
@@ -28,10 +26,10 @@ use Rattle.sp_meaning.specs.Deeds.{Deed, Opened}
 use Rattle.sp_meaning.specs.SuperPascal.{superpascal, asks, with_todo}
 use Rattle.sp_meaning.specs.Run.{Store}
 use Rattle.sp_meaning.specs.Runs.{StateOf, most, next, says, said_of}
-use Rattle.sp_meaning.specs.Along.{Course, ticks_in, ticks_of, noted, Entered}
+use Rattle.sp_meaning.specs.Along.{Course, ticks_in, ticks_of, noted}
 use Rattle.sp_meaning.specs.Turn as source
-use Rattle.sp_meaning.proofs.Keys.{name_test}
-use Rattle.sp_meaning.proofs.Maps.{at_same, at_other, differs, itself, same_or_not}
+use Rattle.sp_meaning.proofs.Keys.{name_test, number_or}
+use Rattle.sp_meaning.proofs.Maps.{at_same, at_other, itself, same_or_not}
 use Rattle.sp_meaning.proofs.Moved.{stored, answered}
 use Rattle.sp_meaning.proofs.Owned.{Inv, Holds}
 use Rattle.sp_meaning.proofs.Reached.{Known, step_well, raised, lowered}
@@ -50,12 +48,12 @@ use Rattle.sp_codegen.proofs.Writing.{store_law}
 use Rattle.sp_link.proofs.AfterEntry.{stand_again, follows_again}
 use Rattle.sp_link.proofs.AtStop.{known_at}
 use Rattle.sp_link.proofs.Halts.{failed_entry, opened_halt}
-use Rattle.sp_link.proofs.Journal.{Way_on, IsOpen, Now}
+use Rattle.sp_link.proofs.Journal.{IsOpen, Now}
 use Rattle.sp_link.proofs.KernelSteps.{kernel_next, kernel_says}
 use Rattle.sp_link.proofs.MoreChannels.{one_more, stands_more, does_more}
-use Rattle.sp_link.proofs.OneChanges.{q, pr, its, alone, here, present, not_ended, keeps_to, number_or, inv_local}
+use Rattle.sp_link.proofs.OneChanges.{q, pr, its, alone, here, present, not_ended, keeps_to, inv_local, since_other}
 use Rattle.sp_link.proofs.OthersStay.{does_stay}
-use Rattle.sp_link.proofs.Pauses.{Entry_of, Meant, Machined, Kept_to, kids, turn_is, after_quiet}
+use Rattle.sp_link.proofs.Pauses.{Entry_of, Meant, Machined, Kept_to, kids, turn_is, after_quiet, way_of_step}
 use Rattle.sp_link.proofs.Relation.{Ground, Life, Lives, W_of, R_of, Called, Named, Stands, Ca, Rel, St, Performs_all}
 use Rattle.sp_link.proofs.Relation.{IsPending, Linked, Began, at_open, run_is, ops}
 
@@ -248,9 +246,6 @@ module _ (G : Ground) (lv : Lives G) (c : Course) (s : StateOf G.g) (u : System 
     abbrev c1 : Course
     c1 = noted v (ticks_of G.g t1 v) c
 
-    since_other : (b : Name) → b ≢ v → c1.since b ≡ c.since b
-    since_other b e = ap (λ f. cond f (ticks_of G.g t1 v) (c.since b)) (differs name_test v b (λ h. e (sym h)))
-
     since_here : c1.since v ≡ (t.2).ticks
     since_here = ap (λ b. cond b (ticks_of G.g t1 v) (c.since v)) (itself name_test v) ∙ ap ticks_in cond_v
         ∙ (t.10).ticks
@@ -267,7 +262,8 @@ module _ (G : Ground) (lv : Lives G) (c : Course) (s : StateOf G.g) (u : System 
         (u.births.opens k) (u.condition k)
         (does_stay G lv s t1 l.known.sound l.rights.fair v (alone G lv c s u l i d at_i) y.stays (G.births.name k) apart
         (cond_r (G.births.name k) apart) (λ a b. ended_same ((a, b) ∷ G.births.name k))
-        (λ a b. present_same ((a, b) ∷ G.births.name k)) c c1 (since_other (G.births.name k) apart) refl (λ h. h)
+        (λ a b. present_same ((a, b) ∷ G.births.name k)) c c1
+        (since_other c v (ticks_of G.g t1 v) (G.births.name k) apart) refl (λ h. h)
         (u.births.opens k) (u.condition k) (l.does k lt))
 
     -- ---- the machine
@@ -398,7 +394,8 @@ module _ (G : Ground) (lv : Lives G) (c : Course) (s : StateOf G.g) (u : System 
             omega (arith, a, b));
         fresh_since = λ a e. ⊎_elim (λ (b : a ≡ v). absurd
             (no_absent (sym cond_v ∙ subst (λ k. t1.condition k ≡ Absent) b e)))
-            (λ (b : a ≢ v). since_other a b ∙ l.fresh_since a (sym (cond_r a b) ∙ e)) (same_or_not name_test a v);
+            (λ (b : a ≢ v). since_other c v (ticks_of G.g t1 v) a b ∙ l.fresh_since a (sym (cond_r a b) ∙ e))
+            (same_or_not name_test a v);
         pending = λ a lt. ⊎_elim
             (λ (e : k ≡ a). subst (λ b. IsPending G (t1.pending (channel G.births b)) (u.pending b)) e
             (subst (λ b. IsPending G b (u.pending k))
@@ -406,7 +403,7 @@ module _ (G : Ground) (lv : Lives G) (c : Course) (s : StateOf G.g) (u : System 
             (subst (λ b. IsPending G None b) (sym (l.none_pending k (omega arith))) tt)))
             (λ (e : k ≢ a). subst (λ b. IsPending G (b (channel G.births a)) (u.pending a)) (sym x.elsewhere.pending)
             (l.pending a (omega (arith, lt, e))))
-            (number_or G lv c s u l i d at_i k a);
+            (number_or k a);
         none_pending = λ a le. l.none_pending a (omega (arith, le));
         faulted = l.faulted;
         quiet = λ e. x.elsewhere.fault ∙ l.quiet e;
@@ -419,7 +416,7 @@ module _ (G : Ground) (lv : Lives G) (c : Course) (s : StateOf G.g) (u : System 
             (sym (ap (λ b. cond b (u.births.opens i + 1) (u.births.opens a)) (ne_eqb i a e)))
             (subst (λ b. Performs_all (one_more G) lv (G.births.name a) c1 t1 (u.births.opens a) b)
             (sym (ap (λ b. cond b (sys.Working there) (u.condition a)) (ne_eqb i a e))) (does_other a lt e)))
-            (number_or G lv c s u l i d at_i i a);
+            (number_or i a);
         unborn = λ a le. ap (λ b. cond b (sys.Working there) (u.condition a))
             (ne_eqb i a (λ e. let b = here G lv c s u l i d at_i in omega (arith, b, le, e))) ∙ l.unborn a le;
         unmade = λ a le. (
@@ -441,7 +438,9 @@ module _ (G : Ground) (lv : Lives G) (c : Course) (s : StateOf G.g) (u : System 
     opens_entry = record {
       turn = tn;
       is = tn_is;
-      way = way_by _ (sym told);
+      way = way_of_step G lv c s u l i d at_i x.steps x.at (x.turn Is_opened said_now) Is_opened t1
+          (λ left n k. (l.faulted ∙ quiet, refl, t1, n, one-add n, (x.left, x.runs, said_now, goes_next), k)) _
+          (sym told);
       speaks = subst (λ f. IsOpen u.births f) (sym event_is) tt;
       lives = lv;
       linked = λ began. subst (λ a. Now G lv c1 t1 a) (sym after_is)
@@ -450,20 +449,6 @@ module _ (G : Ground) (lv : Lives G) (c : Course) (s : StateOf G.g) (u : System 
       where
         told : happening u.births (event_of G.g.limits u tn) ≡ Is_opened
         told = ap (λ f. happening u.births f) event_is
-
-        way_by : (e : Happening) → Is_opened ≡ e → Way_on G c s v e
-        way_by e h = record {
-          unlaid = (its G lv c s u l i d at_i).4;
-          steps = x.steps;
-          at = x.at;
-          paused = false;
-          turn = x.turn Is_opened said_now;
-          cost = 1;
-          course = c1;
-          state = t1;
-          enters = λ left n a. subst (λ f. Entered G.g left c x.at false v f (1 + n)) h
-              (l.faulted ∙ quiet, refl, t1, n, one-add n, (x.left, x.runs, said_now, goes_next), a);
-        }
 
   pub opening_entry : Entry_of G c s u i d
   opening_entry = by (nat_lt G.g.limits.entries (u.entries + 1)) (nat_lt G.g.limits.channels (u.births.channels + 1))

@@ -5,6 +5,7 @@ use Rattle.std.proofs.Common.{◌≡◌, ◌⊎◌, inl, inr, ⊎_elim, ℕ, zer
 use Rattle.std.proofs.Common.{None, true, false, refl, sym, ap, ◌∙◌, subst, arith}
 use Rattle.std.specs.Prelude.{◌≢◌}
 use Rattle.std.specs.FinMap as fin
+use Rattle.sp_base.proofs.Facts.{same_tail}
 use Rattle.sp_cell.specs.Map.{Plain, output_of, output_spot}
 use Rattle.sp_meaning.specs.Model.{Name, Condition, Absent, Waits, Joins, Ended}
 use Rattle.sp_meaning.specs.Steps.{has_ended, working_in, Lives as IsLive}
@@ -48,9 +49,6 @@ module _ (G : Ground) (lv : Lives G) (c : Course) (s : StateOf G.g) (u : System 
   few : (a : ℕ) → a < u.births.processes → a < G.births.processes
   few a lt = let b = l.began.processes in omega (arith, lt, b)
 
-  pair_tail : (a b : ℕ × ℕ) (p q : Name) → a ∷ p ≡ b ∷ q → p ≡ q
-  pair_tail a b p q e = cc e
-
   no_empty : (a : ℕ × ℕ) (p : Name) → [] ≡ a ∷ p → ⊥
   no_empty a p e = cc e
 
@@ -84,8 +82,7 @@ module _ (G : Ground) (lv : Lives G) (c : Course) (s : StateOf G.g) (u : System 
               let b = l.began.born (suc a) (omega arith) ls in
               let parent : G.births.name (b.0).parent ≡ G.births.name i =
               sym (l.began.names (b.0).parent (let x = b.2 in omega (arith, x, ls)))
-              ∙ pair_tail ((b.0).fork, (b.0).child) (k, j) (u.births.name (b.0).parent) (G.births.name i)
-              (sym b.3 ∙ l.began.names (suc a) ls ∙ e) in
+              ∙ same_tail (sym b.3 ∙ l.began.names (suc a) ls ∙ e) in
               let same : (b.0).parent ≡ i = G.one_name (b.0).parent i
               (few (b.0).parent (let x = b.2 in omega (arith, x, ls))) (few i lt) parent in
               let x = b.2 in omega (arith, x, same)

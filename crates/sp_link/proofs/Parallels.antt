@@ -4,7 +4,7 @@ use Rattle.std.proofs.Common.{◌≡◌, ◌⊎◌, inl, inr, ⊎_elim, ℕ, zer
 use Rattle.std.proofs.Common.{Some, None, Bool, true, false, refl, sym, ap, ◌∙◌, subst, arith}
 use Rattle.std.specs.Prelude.{◌≢◌, nat_lt, pos, IsSome, slice_get}
 use Rattle.std.specs.FinMap as fin
-use Rattle.sp_base.proofs.Facts.{next_is_within}
+use Rattle.sp_base.proofs.Facts.{next_is_within, item_there}
 use Rattle.sp_tree.specs.Plain.{Program, Stmt, Stmts, No, And}
 use Rattle.sp_tree.specs.Uses.{ParallelOf}
 use Rattle.sp_tree.specs.Uses as use_of
@@ -23,9 +23,9 @@ use Rattle.sp_meaning.specs.Runs.{StateOf}
 use Rattle.sp_meaning.specs.Along.{Course}
 use Rattle.sp_meaning.specs.Turn as source
 use Rattle.sp_meaning.proofs.Children.{AimedAt, UsedAt}
-use Rattle.sp_meaning.proofs.Deeding.{list_of, born_of}
 use Rattle.sp_meaning.proofs.Rights.{All, Mine}
 use Rattle.sp_meaning.proofs.Within.{part}
+use Rattle.sp_meaning.proofs.SoundParts.{list_of, born_of}
 use Rattle.sp_code.specs.declared.code.ForkTable.{ForkTable}
 use Rattle.sp_code.specs.Machine.{Config, At}
 use Rattle.sp_code.specs.Memory.{Memory}
@@ -51,6 +51,7 @@ use Rattle.sp_link.proofs.Scoping.{IsScoped, is_scoped}
 use Rattle.sp_link.proofs.Splits.{piece_known, parallel_split, parts_differ}
 use Rattle.sp_link.proofs.Relation.{Ground, Life, Lives, W_of, R_of, Called, Named, Fresh, Stands, Handed, St, Linked}
 use Rattle.sp_link.proofs.Relation.{execution, run_is}
+use Rattle.sp_link.proofs.Newborns.{newborns_length}
 
 -- ---- the children of a parallel statement
 
@@ -158,7 +159,7 @@ module _ (G : Ground) (lv : Lives G) (c : Course) (s : StateOf G.g) (u : System 
   Rd a = Mine v a ⊎ (lv v).R a
 
   frames_are : o.frames ≡ sources t.3
-  frames_are = (t.8).frames
+  frames_are = (t.8).frames.sources_are
 
   may_fork : o.depth + 1 ≤ G.g.limits.depth
   may_fork = next_is_within o.depth G.g.limits.depth t.12
@@ -324,7 +325,7 @@ module _ (G : Ground) (lv : Lives G) (c : Course) (s : StateOf G.g) (u : System 
   count_is = ap (λ b. length b) h.6 ∙ tables_count G true h.3 ss h.2
 
   at_place : (j : ℕ) → j < n → (b : Birth) × (slice_get bs j ≡ Some b)
-  at_place j lt = fk.has_place bs j (omega (arith, lt, count_is))
+  at_place j lt = item_there bs j (omega (arith, lt, count_is))
 
   -- no children of the parent's own matter here
   abbrev none : ℕ → ℕ → Life
@@ -424,7 +425,7 @@ module _ (G : Ground) (lv : Lives G) (c : Course) (s : StateOf G.g) (u : System 
       refl refl
     where
       os_are : length (Rattle.sp_meaning.specs.Deeds.newborns x.left.who o 0 bs) ≡ n
-      os_are = fk.newborns_length x.left.who o 0 bs ∙ count_is
+      os_are = newborns_length x.left.who o 0 bs ∙ count_is
 
       by : (e1 e2 : Bool) → nat_lt G.g.limits.entries (u.entries + 1) ≡ e1
           → nat_lt G.g.limits.processes (u.births.processes + n) ≡ e2 → Entry_of G c s u i d

@@ -13,7 +13,7 @@ use Rattle.sp_meaning.specs.Own.{Loc, Own, Item, Process, Came, Got}
 use Rattle.sp_meaning.specs.SuperPascal.{with_todo}
 use Rattle.sp_meaning.specs.Run.{Store}
 use Rattle.sp_meaning.specs.Runs.{StateOf}
-use Rattle.sp_meaning.specs.Along.{Course, ticks_in, ticks_of, noted, Entered}
+use Rattle.sp_meaning.specs.Along.{Course, ticks_in, ticks_of, noted, Entered, Turn as source_turn}
 use Rattle.sp_meaning.specs.Turn as source
 use Rattle.sp_meaning.proofs.Keys.{name_test}
 use Rattle.sp_meaning.proofs.Owned.{Keeps_to}
@@ -72,6 +72,23 @@ module _ (G : Ground) (lv : Lives G) (c : Course) (s : StateOf G.g) (u : System 
 
   abbrev pub kt : Keeps_to G.g.program (W_of G lv) (R_of G lv) s.forks w p1
   kt = keeps_to G lv c s u l i d at_i
+
+  -- the way to an entry that the next step makes, once it is known what the machine says
+  abbrev pub way_of_step : (steps : ℕ) (at : StateOf G.g) → source_turn G.g G.pause (c.since w) w steps s at false
+      → (what : Happening) (t1 : StateOf G.g) → ((left : Course → StateOf G.g → ℕ → Type 0) (n : ℕ)
+      → left (noted w (ticks_of G.g t1 w) c) t1 n → Entered G.g left c at false w what (1 + n)) → (e : Happening)
+      → what ≡ e → Way_on G c s w e
+  way_of_step steps at turn what t1 enters e h = record {
+    unlaid = (its G lv c s u l i d at_i).4;
+    steps = steps;
+    at = at;
+    paused = false;
+    turn = turn;
+    cost = 1;
+    course = noted w (ticks_of G.g t1 w) c;
+    state = t1;
+    enters = λ left n k. subst (λ f. Entered G.g left c at false w f (1 + n)) h (enters left n k);
+  }
 
   module _ (z : Stands G (lv w) kids w (c.since w) p1 s.store d) where
     -- how its turn ends in the meaning, and in the machine

@@ -1,15 +1,14 @@
 -- A child ends and its parent takes back what moved to it: the parent joins on with one child fewer (`joins_on`), or
 -- stands again after the last one (`runs_on`).
-use Rattle.std.proofs.Common.{◌≡◌, ◌⊎◌, inl, inr, ⊎_elim, ℕ, zero, suc, ◌+◌, ◌<◌, ◌≤◌, ◌==◌, List, [], ◌∷◌, length}
-use Rattle.std.proofs.Common.{Option, Some, None, Bool, true, false, ◌&&◌, if◌then◌else◌, eqb-true, eq-eqb, refl, sym}
-use Rattle.std.proofs.Common.{ap, ◌∙◌, subst, arith}
+use Rattle.std.proofs.Common.{◌≡◌, ◌⊎◌, inr, ⊎_elim, ℕ, zero, suc, ◌+◌, ◌<◌, ◌≤◌, ◌==◌, [], ◌∷◌, length, Option, Some}
+use Rattle.std.proofs.Common.{None, Bool, true, false, ◌&&◌, if◌then◌else◌, eqb-true, eq-eqb, refl, sym, ap, ◌∙◌, subst}
+use Rattle.std.proofs.Common.{arith}
 use Rattle.std.specs.Prelude.{◌≢◌, IsSome}
 use Rattle.std.specs.FinMap as fin
-use Rattle.sp_cell.specs.declared.cell.Cell.{Cell as OneCell}
 use Rattle.sp_cell.specs.declared.spot.Spot.{Spot}
 use Rattle.sp_cell.specs.Fork.{joined}
 use Rattle.sp_cell.specs.Map.{Plain, Content, with_map}
-use Rattle.sp_cell.specs.Plan.{get_taken_out}
+use Rattle.sp_cell.specs.Plan.{get_taken_out, not_both}
 use Rattle.sp_cell.specs.Spots.{In, NotIn}
 use Rattle.sp_meaning.specs.Model.{Name, Condition, Absent, Ended, Becomes, changed}
 use Rattle.sp_meaning.specs.Steps.{has_ended, all_ended}
@@ -21,26 +20,17 @@ use Rattle.sp_meaning.proofs.Maps.{at_same, at_other}
 use Rattle.sp_meaning.proofs.Rights.{Mine}
 use Rattle.sp_code.specs.Machine.{Config, At}
 use Rattle.sp_code.specs.Memory.{Memory}
-use Rattle.sp_code.specs.PlainStore.{piece_of}
 use Rattle.sp_codegen.specs.Standing.{spot_at}
 use Rattle.sp_codegen.proofs.Joining.{joined_joining, all_joined}
+use Rattle.sp_codegen.proofs.Contents.{known_piece}
 use Rattle.sp_link.proofs.Relation.{Ground, Life, Lives, Named, Called, St, Stands, Joined, Handed, Lives_yet, Away_yet}
 use Rattle.sp_link.proofs.Relation.{left_of}
 use Rattle.sp_link.proofs.OthersStay.{Jo, joining_more}
 use Rattle.sp_code.proofs.Plans.{out_of}
 
-known_piece : (c : Option Content) (cs : List OneCell) → piece_of c ≡ Some cs → IsSome c
-known_piece None cs e = absurd (cc e)
-known_piece (Some c) cs e = refl
-
 known_as : (c : Option Content) (x : Content) → c ≡ Some x → IsSome c
 known_as None x e = absurd (cc e)
 known_as (Some c) x e = refl
-
-not_both : (q : Spot) (ss : List Spot) → In q ss → NotIn q ss → ⊥
-not_both q [] i d = i
-not_both q (s ∷ ss) (inl e) d = d.0 (sym e)
-not_both q (s ∷ ss) (inr i) d = not_both q ss i d.1
 
 module _ (G : Ground) (lv : Lives G) (P : Name) (since k n left i : ℕ) (pr : Process) (at : StateOf G.g)
     (d : Config (Memory Plain)) (z : Joined G (lv P) (λ a b. lv ((a, b) ∷ P)) P since k n left pr at d) (lt : i < n)

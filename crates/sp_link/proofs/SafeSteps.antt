@@ -335,7 +335,7 @@ module _ (G : Ground) (lv : Lives G) (c : Course) (s : StateOf G.g) (u : System 
 
       pub can_join : CanJoin (store_of dd) (store_of e)
       can_join = record {
-        no_frame = ap (λ (y : Plain). y.own) ended.is ∙ ended.stands.own_frames ∙ none_made (lv v).below;
+        no_frame = ap (λ (y : Plain). y.own) ended.is ∙ ended.stands.frames.own_frames ∙ none_made (lv v).below;
         held = λ a h. subst (λ (y : Plain). IsHeld (fin.get y.map a)) (sym ended.is)
             (held_there a (subst (λ y. In a y) moved_here h));
         away = λ a h. ap (λ y. fin.get y a) parent_map

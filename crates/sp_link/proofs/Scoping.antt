@@ -24,6 +24,21 @@ use Rattle.sp_code.specs.Stands.{AllAt, ChildrenAt, ArmsAt, Stands, HasFork, Has
 use Rattle.sp_link.proofs.ChildrenStand.{reached_formed}
 use Rattle.sp_link.proofs.Relation.{Ground}
 
+-- another index that is in scope behind this one's forall is in scope before it
+pub index_further : (sc : List Scope) (x y up : ℕ) → (x ≡ y → ⊥) → level (is_index y) (OfIndex x ∷ sc) ≡ Some up
+    → (n : ℕ) × (level (is_index y) sc ≡ Some n)
+index_further sc x y up other e = go (y == x) refl e
+  where
+    inner : (l : Option ℕ) → level (is_index y) sc ≡ l → one_more l ≡ Some up → (n : ℕ)
+        × (level (is_index y) sc ≡ Some n)
+    inner None e h = absurd (cc h)
+    inner (Some n) e h = (n, e)
+
+    go : (b : Bool) → y == x ≡ b → (if b then Some 0 else one_more (level (is_index y) sc)) ≡ Some up → (n : ℕ)
+        × (level (is_index y) sc ≡ Some n)
+    go true e h = absurd (other (sym (eqb-true y x e)))
+    go false e h = inner (level (is_index y) sc) refl h
+
 -- a use that stands here: a variable that is seen is declared, and an index is in scope
 abbrev Direct : Program → List Scope → Use → Type 0
 Direct p sc (Target x) = Unit {0}
@@ -125,17 +140,7 @@ module _ (p : Program) (free : IsFreeOfInterference p) (moves shares : Stmt → 
     where
       further : (up : ℕ) × (level (is_index y) (OfIndex x ∷ sc) ≡ Some up) → (up : ℕ)
           × (level (is_index y) sc ≡ Some up)
-      further r = go (y == x) refl r.1
-        where
-          inner : (l : Option ℕ) → level (is_index y) sc ≡ l → one_more l ≡ Some r.0 → (up : ℕ)
-              × (level (is_index y) sc ≡ Some up)
-          inner None e h = absurd (cc h)
-          inner (Some up) e h = (up, e)
-
-          go : (b : Bool) → y == x ≡ b → (if b then Some 0 else one_more (level (is_index y) sc)) ≡ Some r.0 → (up : ℕ)
-              × (level (is_index y) sc ≡ Some up)
-          go true e h = absurd (o (sym (eqb-true y x e)))
-          go false e h = inner (level (is_index y) sc) refl h
+      further r = index_further sc x y r.0 o r.1
   outer sc x (CallOf f args) o d = tt
   outer sc x (ParallelOf ss) o d = tt
   outer sc x (ForallOf y s) o d = tt

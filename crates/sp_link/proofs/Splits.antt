@@ -1,8 +1,8 @@
 -- A parallel statement can be carried out: what it hands over is held, nothing is moved twice, and nothing that is
 -- moved is shared, since by the rules of interference no two of its processes share what one of them changes
 -- (`parallel_split`).
-use Rattle.std.proofs.Common.{◌≡◌, ◌⊎◌, inl, inr, ℕ, zero, suc, ◌+◌, ◌<◌, ℤ, List, ◌∷◌, length, Option, Some}
-use Rattle.std.proofs.Common.{None, true, refl, sym, ap, ◌∙◌, subst, arith}
+use Rattle.std.proofs.Common.{◌≡◌, ◌⊎◌, inl, inr, ℕ, zero, suc, ◌+◌, ◌<◌, ℤ, List, ◌∷◌, length, Option, Some, None}
+use Rattle.std.proofs.Common.{true, refl, sym, ap, ◌∙◌, subst, arith}
 use Rattle.std.specs.Prelude.{◌≢◌, IsSome, slice_get}
 use Rattle.std.specs.FinMap as fin
 use Rattle.std.proofs.lemmas.Option.{none-some}
@@ -20,9 +20,9 @@ use Rattle.sp_cell.specs.Spots.{In, IsDistinct}
 use Rattle.sp_meaning.specs.Model.{Name}
 use Rattle.sp_meaning.specs.Own.{Loc, Input, Output, Own, Who}
 use Rattle.sp_meaning.specs.Run.{Store}
-use Rattle.sp_meaning.proofs.Deeding.{list_of}
 use Rattle.sp_meaning.proofs.Rights.{Mine}
 use Rattle.sp_meaning.proofs.Within.{reach_part}
+use Rattle.sp_meaning.proofs.SoundParts.{list_of}
 use Rattle.sp_code.specs.declared.code.ChildTable.{ChildTable}
 use Rattle.sp_code.specs.declared.code.ForkTable.{ForkTable}
 use Rattle.sp_code.specs.Emitted.{child_table, children_tables}
@@ -38,7 +38,7 @@ use Rattle.sp_codegen.specs.Joints.{Joint, sources, from}
 use Rattle.sp_codegen.specs.Relation.{Placed}
 use Rattle.sp_codegen.proofs.Born.{table_at}
 use Rattle.sp_codegen.proofs.Handed.{MovedStands, moved_stands, right_of, once}
-use Rattle.sp_codegen.proofs.Owners.{within_at}
+use Rattle.sp_codegen.proofs.Owners.{no_longer_owner}
 use Rattle.sp_link.proofs.ChildrenStand.{reached_formed, consoles}
 use Rattle.sp_code.proofs.Plans.{in_spots, spots_from, out_of, distinct_spots, moved_by, shared_by, distinct_plan}
 use Rattle.sp_code.proofs.Plans.{index_by}
@@ -135,8 +135,7 @@ module _ (G : Ground) (lf : Life) (kids : ℕ → ℕ → Life) (q : Name) where
     child = cons (0, 0) w.name
 
     new_name : (h : ℕ) (j : Joint) (rest : List Joint) → from (suc h) js ≡ j ∷ rest → j.source.owner ≡ child → ⊥
-    new_name h j rest e i = let a = within_at (length w.name) (suc h) js j rest t.owners e in
-        let b = ap (λ (z : Name). length z) i in omega (arith, a, b)
+    new_name = no_longer_owner (length w.name) js child t.frames.owners (omega arith)
 
     unread : IsUsed p (In_stmt whole) 1 → IsTarget p (In_stmt whole) 1
     unread (inl a) = a
@@ -158,8 +157,8 @@ module _ (G : Ground) (lf : Life) (kids : ℕ → ℕ → Life) (q : Name) where
         (consoles G lf kids q) sc pl.chain (λ x up own b. pl.indexes x up b)
         (λ x b own. parts_scoped G true sc first ss stand pl.formed x b)
         y z (inl ay) az (λ i. no_index_aimed y i ay) (none-some y) (none-some z) a
-        (ap (λ fs. spot_of G.code.layouts fs y) (sym t.machine_frames) ∙ e)
-        (ap (λ fs. spot_of G.code.layouts fs z) (sym t.machine_frames) ∙ g)
+        (ap (λ fs. spot_of G.code.layouts fs y) (sym t.frames.machines_are) ∙ e)
+        (ap (λ fs. spot_of G.code.layouts fs z) (sym t.frames.machines_are) ∙ g)
 
     right : (l : Loc) (y : ℕ) → IsUsed p (In_stmt whole) y
         → Rattle.sp_meaning.specs.Owning.stands p (sources js) y ≡ Some l → Rd l

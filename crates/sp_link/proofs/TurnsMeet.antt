@@ -14,7 +14,6 @@ use Rattle.sp_meaning.specs.Runs.{StateOf, most, running}
 use Rattle.sp_meaning.specs.Along.{Turn, Either, due, ticks_in}
 use Rattle.sp_meaning.specs.Turn as source
 use Rattle.sp_meaning.proofs.Deeding.{deed_from}
-use Rattle.sp_meaning.proofs.EnoughSteps.{AllFit}
 use Rattle.sp_meaning.proofs.Pure.{PureItems, AreBlocksPure}
 use Rattle.sp_meaning.proofs.QuietDeeds.{pure_kept}
 use Rattle.sp_codegen.proofs.PureCode.{blocks_pure, follows_pure}
@@ -23,6 +22,7 @@ use Rattle.sp_meaning.proofs.Reached.{Known, step_well, raised, lowered}
 use Rattle.sp_meaning.proofs.Rights.{Mine}
 use Rattle.sp_meaning.proofs.Sound.{step_sound}
 use Rattle.sp_meaning.proofs.Within.{Within}
+use Rattle.sp_meaning.proofs.Weights.{AllFit}
 use Rattle.sp_code.specs.Machine.{Config, At}
 use Rattle.sp_code.specs.Turns.{IsSafe, Begins, IsTurn, Turn as Machine_turn, Runs, begins}
 use Rattle.sp_code.specs.Memory.{Memory}

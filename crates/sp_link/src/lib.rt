@@ -26,7 +26,7 @@
 //!
 //! To change:
 //! - An event: its lemma and `proofs/Entries`; what it needs to be carried out: `by_well` in `proofs/SafeSteps`.
-//! - A form of statement or expression: its clause in `proofs/Ranks`.
+//! - A form of statement or expression: its clause in `proofs/Ranks`, or in `proofs/StraightCode`.
 #![tactic(auto)]
 
 pub mod laws;

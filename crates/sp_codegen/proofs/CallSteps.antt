@@ -1,0 +1,273 @@
+-- A call of a procedure: what it finds, and its stretch of the code.
+use Rattle.std.proofs.Common.{◌≡◌, ℕ, zero, suc, ◌+◌, ◌<◌, ◌==◌, List, [], ◌∷◌, Option, Some, None, Bool, true, false}
+use Rattle.std.proofs.Common.{if◌then◌else◌, drop, length, refl, sym, ap, ◌∙◌, subst, arith, eqb-true}
+use Rattle.std.specs.Prelude.{slice_get}
+use Rattle.sp_base.proofs.Facts.{length_of_map}
+use Rattle.sp_tree.specs.Plain.{Actuals, Program, Block}
+use Rattle.sp_tree.specs.Uses.{In_stmt, In_call}
+use Rattle.sp_meaning.specs.Own.{OfBlock, Frame, Own, Item, Leave, Came, Got, Bad, Lost, Long, Work, bind, give, who}
+use Rattle.sp_meaning.specs.Own.{is_block, seek}
+use Rattle.sp_meaning.specs.Owning.{stands, find, Linked, Sound, Gave}
+use Rattle.sp_meaning.specs.Eval.{At, Given}
+use Rattle.sp_meaning.specs.Deeds.{Deed, Ticked, push, enter, references}
+use Rattle.sp_meaning.specs.Run.{Store, run}
+use Rattle.sp_meaning.proofs.Run.{then_run, run_bind}
+use Rattle.sp_meaning.proofs.Static.{sought}
+use Rattle.sp_meaning.proofs.Entered.{fresh, fresh_linked, fresh_sound}
+use Rattle.sp_code.specs.declared.code.Layout.{Layout}
+use Rattle.sp_code.specs.declared.instr.Instr.TheVariants as i
+use Rattle.sp_code.specs.Machine.{Entry, Did, Done, Failed, Config, One, Goes, Fails, outside, when, there, paced}
+use Rattle.sp_code.specs.Machine.{then_go, fit_formals, one}
+use Rattle.sp_code.specs.Machine as m
+use Rattle.sp_code.specs.Scopes.{Scope, level, is_given, scopes_of, scopes_by}
+use Rattle.sp_code.specs.Scopes as places
+use Rattle.sp_code.specs.Places.{after}
+use Rattle.sp_code.specs.Emitted.{end_instr}
+use Rattle.sp_code.specs.Stands.{Stands, HasFork, HasWords, CallAt, Around, Hushed, BlockAt, BlocksAt}
+use Rattle.sp_codegen.specs.Joints.{Joint, sources, from, HomeIs, Chain}
+use Rattle.sp_codegen.specs.Executions.{Execution}
+use Rattle.sp_codegen.specs.Following.{StandsFor}
+use Rattle.sp_codegen.specs.Relation.{Entered, GivensAre, frame_for}
+use Rattle.sp_codegen.proofs.Runs.{stays, goes, breaks, holds_when}
+use Rattle.sp_codegen.proofs.Joints.{sources_length, up_from}
+use Rattle.sp_codegen.proofs.Chains.{block_agrees, found, seek_all, find_in}
+use Rattle.sp_codegen.proofs.Follows.{slides, push_follows, Made}
+use Rattle.sp_codegen.proofs.StepForms.{K, After, Pl}
+use Rattle.sp_codegen.proofs.ValueForms.{pushed, at_one}
+
+abbrev rev_onto : List Entry → List Entry → List Entry
+rev_onto [] ws = ws
+rev_onto (x ∷ es) ws = x ∷ rev_onto es ws
+
+rev_onto_nil : (es : List Entry) → rev_onto es [] ≡ es
+rev_onto_nil [] = refl
+rev_onto_nil (x ∷ es) = ap (λ z. x ∷ z) (rev_onto_nil es)
+
+zero_plus : (a b c : ℕ) → a ≡ c → b ≡ c → a ≡ 0 + b
+zero_plus a b c h k = omega (arith, h, k)
+
+-- the scopes of a block are blocks
+no_index_scope : (p : Program) (n : ℕ) (b : Option ℕ) (x up : ℕ) → level (places.is_index x) (scopes_by p n b) ≡ Some up
+    → ⊥
+no_index_scope p zero b x up e = absurd (cc e)
+no_index_scope p (suc n) None x up e = absurd (cc e)
+no_index_scope p (suc n) (Some b) x up e = go
+    (level (places.is_index x) (scopes_by p n (places.parent_of (slice_get p.blocks b))))
+    (λ k d. no_index_scope p n (places.parent_of (slice_get p.blocks b)) x k d) e
+  where
+    go : (l : Option ℕ) → ((k : ℕ) → l ≡ Some k → ⊥) → places.one_more l ≡ Some up → ⊥
+    go None ih e = absurd (cc e)
+    go (Some k) ih e = ih k refl
+
+module _ {M : Type 0} (ex : Execution M) where
+  open ex use {
+    setting as g,
+    code,
+    moves,
+    shares,
+    Quiet as hush,
+    who as w,
+    Writes as W,
+    IsReadable as R,
+    operations as ops,
+    relation as rel,
+    laws as law,
+    reads_written as reads,
+    free,
+    own_written as mine_written,
+    uses_formed,
+    layouts_found as finds,
+  }
+
+  abbrev p : Program
+  p = g.program
+
+  abbrev pub BlockIs : ℕ → Block → Type 0
+  BlockIs f b = BlockAt p moves shares code hush f b
+
+  abbrev pub Blocks : Type 0
+  Blocks = BlocksAt p moves shares code hush
+
+  -- what the machine does at a call
+  abbrev pub calls_to : Layout → ℕ → List Entry → Did M → One M
+  calls_to l r st d = then_go d (λ n1. m.entered ops code l r st n1)
+
+  pop_pushed : (es : List Entry) (a k : ℕ) (stack : List Entry) (ws : List Entry) (go : List Entry → List Entry → One M)
+      → a ≡ k + length es → m.pop a (pushed es stack) ws go ≡ m.pop k stack (rev_onto es ws) go
+  pop_pushed [] a k stack ws go e = let e1 : a ≡ k = omega (arith, e) in ap (λ j. m.pop j stack ws go) e1
+  pop_pushed (x ∷ es) a k stack ws go e = pop_pushed es a (suc k) (x ∷ stack) ws go (omega (arith, e))
+
+  givens_length : (fs : List Joint) (xs : List ℕ) (gs : List Given) (es : List Entry) → GivensAre rel p fs xs gs es
+      → length es ≡ length xs
+  givens_length fs [] [] [] h = refl
+  givens_length fs [] [] (e ∷ es) h = absurd h
+  givens_length fs [] (g ∷ gs) es h = absurd h
+  givens_length fs (x ∷ xs) [] es h = absurd h
+  givens_length fs (x ∷ xs) (g ∷ gs) [] h = absurd h
+  givens_length fs (x ∷ xs) (g ∷ gs) (e ∷ es) h = ap suc (givens_length fs xs gs es h.1)
+
+  -- a call, with what it finds
+  pub record CallFinds (fs : List Joint) (f : ℕ) (b : Block) (q : ℕ) (stack : List Entry) (gs : List Given)
+      (es : List Entry) (o : Own) (s : Store) (n : M) (l : Layout) : Type 0 where
+    pub did : Did M
+    pub around : List Joint
+    pub entered : Entered rel w fs s f b around gs (run (enter g f gs) w o s) did
+    pub goes : one ops code (m.At q (pushed es stack) n) ≡ calls_to l (q + 1) stack did
+    pub parent : (c : ℕ) × (b.parent ≡ Some c)
+    pub placed : (j : Joint) → j.source ≡ frame_for rel w f b fs around gs
+        → Pl ex (scopes_of p f) (j ∷ fs) (In_stmt b.body)
+
+  chain_of : (fs around : List Joint) (f : ℕ) (up_sc : List Scope) (j : Joint) (b : Block) (gs : List Given)
+      → j.source ≡ frame_for rel w f b fs around gs → from (length around) fs ≡ around
+      → scopes_of p f ≡ places.OfBlock f ∷ up_sc → Chain up_sc around → Chain (scopes_of p f) (j ∷ fs)
+  chain_of fs around f up_sc j b gs e fr es ch =
+      subst (λ y. Chain y (j ∷ fs)) (sym es) (
+        j,
+        fs,
+        refl,
+        subst (λ y. HomeIs (places.OfBlock f) y) (sym (ap (λ (z : Frame). z.home) e)) refl,
+        subst (λ y. Chain up_sc y) (sym (ap (λ (z : Frame). from z.link fs) e ∙ fr)) ch,
+      )
+
+  pub call_finds : {fs : List Joint} {o : Own} {s : Store} {n : M} (f : ℕ) (args : Actuals) (b : Block)
+      (sc : List Scope) (q : ℕ) (stack : List Entry) (gs : List Given) (es : List Entry) → rel.Stand fs o s n
+      → Pl ex sc fs (In_call f args) → CallAt p moves shares (Stands code) (HasFork code) (HasWords code) hush sc q f b
+      → (z : BlockIs f b) → GivensAre rel p fs b.formals gs es → Gave p (sources fs) args gs
+      → CallFinds fs f b q stack gs es o s n z.layout
+  call_finds {fs} {o} {s} {n} f args b sc q stack gs es t pl h z gv ga = by_parent b.parent refl h.2
+    where
+      by_parent : (y : Option ℕ) → b.parent ≡ y
+          → Around p moves shares (Stands code) (HasFork code) (HasWords code) hush sc f y h.0
+          → CallFinds fs f b q stack gs es o s n z.layout
+      by_parent None e x = absurd x
+      by_parent (Some c) e x =
+          let r = found (is_block c) (places.is_block c) (block_agrees c) sc fs h.0 pl.chain x.0 in
+          let seek_is : seek (is_block c) (length (sources fs)) (sources fs) ≡ sources (r.frame ∷ r.rest) =
+          seek_all (is_block c) fs ∙ r.sought in
+          let op = law.open_frame t f b z.layout h.1 z.is c h.0 r.frame r.rest e r.at seek_is gs es gv in
+          let formals_are : length z.layout.formals ≡ length b.formals = ap (λ (y : Layout). length y.formals) z.is
+          ∙ length_of_map _ b.formals in
+          let fresh_is : fresh p w.name W R 0 (λ m x h. mine_written m x) reads free (sources fs) f b args gs c
+          r.frame.source ≡ frame_for rel w f b fs (r.frame ∷ r.rest) gs =
+          (let a = sources_length fs in let k =
+          sym (sought (is_block c) (length (sources fs)) (sources fs) r.frame.source (sources r.rest) pl.linked
+          seek_is).1 ∙ sources_length (r.frame ∷ r.rest) in
+          λ i. record {
+            owner = w.name;
+            number = a i;
+            home = OfBlock f;
+            link = k i;
+            references = references b.formals gs;
+          }) in
+          let found_is : find (is_block c) (length (sources fs)) (sources fs) ≡ Some r.frame.source =
+          find_in (is_block c) fs r.frame r.rest r.sought in
+          let before : c < f = free.parents f b c h.1 e in
+          record {
+            did = ops.open_frame z.layout h.0 es n;
+            around = r.frame ∷ r.rest;
+            entered = op.2;
+            goes = at_one ex q (pushed es stack) n h.3
+                ∙ ap (λ y. there y (λ l. m.called ops code l h.0 (q + 1) (pushed es stack) n)) (finds f z.layout z.at)
+                ∙ pop_pushed es (length z.layout.formals) 0 stack []
+                (λ es st. when (fit_formals z.layout.formals es)
+                (when (ops.may_open h.0 n)
+                (then_go (ops.open_frame z.layout h.0 es n) (λ n1. m.entered ops code z.layout (q + 1) st n1))))
+                (zero_plus (length z.layout.formals) (length es) (length b.formals) formals_are
+                (givens_length fs b.formals gs es gv))
+                ∙ ap (λ y. when (fit_formals z.layout.formals y)
+                (when (ops.may_open h.0 n) (calls_to z.layout (q + 1) stack (ops.open_frame z.layout h.0 y n))))
+                (rev_onto_nil es)
+                ∙ holds_when (fit_formals z.layout.formals es) _ op.0 ∙ holds_when (ops.may_open h.0 n) _ op.1;
+            parent = (c, e);
+            placed = λ j ej. record {
+              chain = chain_of fs (r.frame ∷ r.rest) f (drop h.0 sc) j b gs ej (up_from h.0 fs r.frame r.rest r.at) x.1
+                  r.chain;
+              linked = subst (λ y. Linked (y ∷ sources fs)) (fresh_is ∙ sym ej)
+                  (fresh_linked p w.name W R 0 (λ m x h. mine_written m x) reads free (sources fs) f b args gs c
+                  r.frame.source pl.linked h.1 ga before found_is);
+              sound = subst (λ y. Sound p W R (y ∷ sources fs) (In_stmt b.body)) (fresh_is ∙ sym ej)
+                  (fresh_sound p w.name W R 0 (λ m x h. mine_written m x) reads free (sources fs) f b args gs c
+                  r.frame.source pl.linked h.1 ga before found_is (omega arith) pl.sound);
+              formed = λ u hx. uses_formed f b h.1 u hx;
+              indexes = λ x up hx lv. absurd (no_index_scope p (length p.blocks) (Some f) x up lv);
+            };
+          }
+
+  -- the end of a called block is a return
+  pub return_at : (f c : ℕ) (b : Block) → slice_get p.blocks f ≡ Some b → b.parent ≡ Some c → end_instr f ≡ i.Return
+  return_at f c b eb ep = go (f == 0) refl
+    where
+      go : (t : Bool) → f == 0 ≡ t → (if t then i.End else i.Return) ≡ i.Return
+      go true t = let z = free.parents f b c eb ep in let y = eqb-true f 0 t in absurd (omega (arith, z, y))
+      go false t = refl
+
+  -- a procedure's call
+  pub call_makes : Blocks → (end : ℕ) (base : List Entry) (below : List Joint) (f : ℕ) (args : Actuals) (b : Block)
+      (sc : List Scope) (q : ℕ) (stack : List Entry) (gs : List Given) (es : List Entry) (todo : List Item)
+      (fs : List Joint) (o : Own) (s : Store) (n : M) → rel.Stand fs o s n → Pl ex sc fs (In_call f args)
+      → CallAt p moves shares (Stands code) (HasFork code) (HasWords code) hush sc q f b → b.answer ≡ None
+      → Hushed hush (outside stack) f → GivensAre rel p fs b.formals gs es → Gave p (sources fs) args gs
+      → After ex end base below todo fs (q + 1) stack
+      → K ex (m.At q (pushed es stack) n) o s (After ex end base below)
+      (bind (enter g f gs) (λ y. give (Ticked (push y.body (Leave ∷ todo)))))
+  call_makes blocks end base below f args b sc q stack gs es todo fs o s n t pl h ha hu gv ga fo =
+      record {
+        by = subst (Made ex c (After ex end base below)) (sym (run_bind (enter g f gs) next w o s))
+            (go (run (enter g f gs) w o s) r.did r.entered r.goes);
+      }
+    where
+      z : BlockIs f b
+      z = blocks f b h.1
+
+      l : Layout
+      l = z.layout
+
+      r : CallFinds fs f b q stack gs es o s n l
+      r = call_finds f args b sc q stack gs es t pl h z gv ga
+
+      c : Config M
+      c = m.At q (pushed es stack) n
+
+      next : Block → Work Deed
+      next y = give (Ticked (push y.body (Leave ∷ todo)))
+
+      no_answer : l.answer ≡ false
+      no_answer = ap (λ (y : Layout). y.answer) z.is ∙ ap is_given ha
+
+      go : (x : Came Block × Store) (d : Did M) → Entered rel w fs s f b r.around gs x d
+          → one ops code c ≡ calls_to l (q + 1) stack d → Made ex c (After ex end base below) (then_run next w x)
+      go (Got b1 o1, s1) (Done n1) al e =
+          let fr = al.1.0 in (
+            l.entry,
+            m.Link (q + 1) ∷ stack,
+            n1,
+            fr ∷ fs,
+            c,
+            stays ops rel w code c,
+            e ∙ ap (λ y. if y then Goes (m.At l.entry (m.Reply (q + 1) ∷ stack) n1) else
+                paced ops code l.entry (m.Link (q + 1) ∷ stack) n1) no_answer,
+            al.1.2,
+            subst (λ (y : Block). After ex end base below (push y.body (Leave ∷ todo)) (fr ∷ fs) l.entry
+                (m.Link (q + 1) ∷ stack)) (sym al.0)
+                (push_follows ex b.body end base below (scopes_of p f) l.entry (m.Link (q + 1) ∷ stack) (fr ∷ fs)
+                (Leave ∷ todo) (r.placed fr al.1.1) (z.stands.body (outside stack) hu) (
+                  after p l.entry b.body,
+                  q + 1,
+                  stack,
+                  fr,
+                  fs,
+                  slides ex _ _,
+                  refl,
+                  z.stands.end
+                      ∙ ap Some (return_at f r.parent.0 b h.1 r.parent.1),
+                  refl,
+                  fo,
+                  al.1.3,
+                )),
+          )
+      go (Got b1 o1, s1) (Failed x) al e = absurd al
+      go (Bad x, s1) (Done n1) al e = absurd al
+      go (Bad x, s1) (Failed y) al e = breaks ops rel w code c x s1 (subst (StandsFor rel c) (sym al.1) (fs, o, t))
+          (e ∙ ap Fails (sym al.0))
+      go (Lost, s1) d al e = absurd al
+      go (Long, s1) d al e = absurd al
