@@ -62,7 +62,7 @@ module _ {M : Type 0} (ex : Execution M) where
       → G ex js (m.At pc (en ∷ stack) n1) o1 s1 pc (NumberTop ex stack) (Nothing_more ex) (ordinal v)
   ordinal_top {js} {o1} {s1} k pc stack v en n1 t1 q =
       subst (λ z. G ex js (m.At pc (z ∷ stack) n1) o1 s1 pc (NumberTop ex stack) (Nothing_more ex) (ordinal v))
-          (sym q.2)
+      (sym q.2)
       (gives_by ops rel w code (ap ordinal q.1)
       (gives_give ops rel w code q.0 tt (stays ops rel w code (m.At pc (m.Number q.0 ∷ stack) n1)) t1 tt))
 
@@ -89,7 +89,7 @@ module _ {M : Type 0} (ex : Execution M) where
       → rel.Stand js o s n → sort p k ≡ Ordinals
       → UnaryAt p moves shares (Stands code) (HasFork code) (HasWords code) hush q op
       → G ex js (m.At q (m.Number v ∷ stack) n) o s (after_unary op q) (Top ex stack) (St ex k)
-          (work_of (unary_op op v))
+      (work_of (unary_op op v))
   unary_gives unary.Plus q k stack v n t e h =
       gives_give ops rel w code (Ordinal v) (m.Number v) (stays ops rel w code _) t
       (subst (λ z. Stood rel p z k (Ordinal v) (m.Number v)) (sym e) (v, refl, refl))
@@ -220,5 +220,3 @@ module _ {M : Type 0} (ex : Execution M) where
       worked_gives (m.At q stack n) (q + 1) k stack n t (_, _, t) e (truth (at_line_end (rest_of ex s)))
       (at_one ex q stack n h
       ∙ ap (λ z. there z (λ bs. m.told ops code (at_line_end bs) (q + 1) stack n)) (law.left t r))
-
-  -- places

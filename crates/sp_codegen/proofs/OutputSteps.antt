@@ -158,5 +158,4 @@ module _ {M : Type 0} (ex : Execution M) where
       (makes_bind ex _ (ordinal_gives ex call ok e sc q (m.Number v ∷ stack) fs o s n st pl h) (λ mm u o1 s1 n1 t1 x1.
       makes_known ex _ ty (kind_known ex k k ty refl ek)
       (item_wide (After ex end base below) ty v mm fs (after_value q e) stack todo o1 s1 n1 t1 ro e1 e2 fo)))
-
   -- ---- calls

@@ -120,7 +120,7 @@ module _ {M : Type 0} (ex : Execution M) where
       → K ex c o s Q (fork g bs todo)
   fork_makes Q fs q table first count stack bs todo c o s n t f ge k fr fi =
       makes_known ex (λ y. if nat_lt y.depth g.limits.depth then give (Forked bs todo) else fail fault.F11) o
-          (mine_known ex)
+      (mine_known ex)
       (go (nat_lt o.depth g.limits.depth) refl
       (ge ∙ ap (λ b. if b then Stops (Forks table first count) (m.At q stack n) else Fails fault.F11)
       (sym (law.may_fork t))))
@@ -279,7 +279,7 @@ module _ {M : Type 0} (ex : Execution M) where
       makes_bind ex _ (actuals_gives ex call ok args h.0.formals sc q stack fs o s n t (within (λ u. inr) pl) h.1)
       (λ gs es o1 s1 n1 t1 x1.
       call_makes ex bl end base below f args h.0 sc
-          (after_actuals q args) stack gs es todo fs o1 s1 n1 t1 pl h.2 h.3 h.4
+      (after_actuals q args) stack gs es todo fs o1 s1 n1 t1 pl h.2 h.3 h.4
       x1.0 x1.1 k)
   start_makes call ok bl end base below (Sequence ss) sc q stack todo fs o s n t pl h k =
       makes_went ex (push_all ss todo) fs q stack n (stays ops rel w code _) t
@@ -307,7 +307,7 @@ module _ {M : Type 0} (ex : Execution M) where
       makes_bind ex _ (ordinal_gives ex call ok e sc q stack fs o s n t (within (λ u. inl) pl) h.0)
       (λ v u o1 s1 n1 t1 x1.
       branch ex (After ex end base below) v (after_value q e)
-          (after p (after_value q e + 1 + 1) d + 1) stack o1 s1 n1 _ _ h.1
+      (after p (after_value q e + 1 + 1) d + 1) stack o1 s1 n1 _ _ h.1
       (makes_went ex todo fs _ stack n1 (stays ops rel w code _) t1 k)
       (makes_tick ex (push d (Do (While e d) ∷ todo)) fs (after_value q e + 1 + 1) stack (ops.beat n1) (_, _, t1)
       (law.beat t1) (at_one ex (after_value q e + 1) stack n1 h.2)
@@ -348,7 +348,7 @@ module _ {M : Type 0} (ex : Execution M) where
       makes_bind ex _ (ordinal_gives ex call ok to sc (after_value q from) (m.Number lo ∷ stack) fs o1 s1 n1 t1
       (within (λ u i. inr (inr (inl i))) pl) h.3) (λ hi u2 o2 s2 n2 t2 x2.
       forall_makes (After ex end base below) fs
-          (after_value (after_value q from) to) h.0 x d lo hi stack todo o2 s2 n2 t2
+      (after_value (after_value q from) to) h.0 x d lo hi stack todo o2 s2 n2 t2
       h.4
       (slide_follows ex end base below _ _ stack fs todo (jumps ex _ _ stack h.5) k) h.8
       (λ b. inr (
@@ -406,7 +406,7 @@ module _ {M : Type 0} (ex : Execution M) where
   start_makes call ok bl end base below (WriteText tx wd) sc q stack todo fs o s n t pl h k =
       let ro = aims_output sc fs pl (inl refl) in
       width_text ex call ok end base below tx h.0 wd sc q stack todo fs o s n t
-          (within (λ u i. inr (inl i)) pl) ro h.1 h.2
+      (within (λ u i. inr (inl i)) pl) ro h.1 h.2
       h.3 k
   start_makes call ok bl end base below WriteLine sc q stack todo fs o s n t pl h k =
       let ro = aims_output sc fs pl (inl refl) in

@@ -132,7 +132,7 @@ module _ {M : Type 0} (ex : Execution M) where
         → (ss : Selectors) (x k k2 : ℕ) (sc : List Scope) (q : ℕ) (stack : List Entry) (z : Place) (a : Ptr)
         (js : List Joint) (o : Own) (s : Store) (n : M) → rel.Stand js o s n → P ex sc js (In_selectors ss)
         → PlaceIs ex js x k z a
-            → SelectedAt p moves shares (Stands code) (HasFork code) (HasWords code) hush sc q ss k k2
+        → SelectedAt p moves shares (Stands code) (HasFork code) (HasWords code) hush sc q ss k k2
         → G ex js (m.At q (m.Pointer a ∷ stack) n) o s (after_selectors q ss) (PlaceTop ex stack) (PlaceIs ex js x k2)
         (selected g call ss z)
     selected_gives call ok Whole x k k2 sc q stack z a js o s n t pl pi h =

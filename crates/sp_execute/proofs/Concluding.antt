@@ -9,23 +9,22 @@ use Rattle.sp_journal.specs.declared.entry.Event.TheVariants as event
 use Rattle.sp_journal.specs.declared.entry.Entry.{Entry}
 use Rattle.sp_journal.specs.declared.outcome.End.{End}
 use Rattle.sp_journal.specs.declared.outcome.End.TheVariants as end
-use Rattle.sp_journal.specs.Births.{Births, at_start, after_event, births_from, occurrences_from, NameableFrom}
+use Rattle.sp_journal.specs.Births.{Births, at_start, births_from, occurrences_from, NameableFrom}
 use Rattle.sp_journal.specs.Names.{proc_name}
-use Rattle.sp_journal.proofs.BirthLaws.{Lawful}
-use Rattle.sp_journal.proofs.BirthLaws.{lawful as lawful_births}
+use Rattle.sp_journal.proofs.BirthLaws.{Lawful, lawful as lawful_births}
 use Rattle.sp_cell.specs.Map.{Plain}
 use Rattle.sp_meaning.specs.Own.{Setting}
 use Rattle.sp_meaning.specs.Runs.{StateOf, output_of}
 use Rattle.sp_meaning.specs.Along.{IsAlong}
 use Rattle.sp_meaning.specs.Ends.{EndIs}
 use Rattle.sp_meaning.specs.Ends as meant
-use Rattle.sp_code.specs.Machine.{Stop, Forks, Opens, Sends, Receives, Ends, Pauses}
-use Rattle.sp_code.specs.Memory as memory
 use Rattle.sp_code.specs.PlainStore.{plain}
-use Rattle.sp_code.specs.System.{System, Condition, Absent, Working, Waits, Joins, Laid, Gone, Over, IsSystem, Leads}
-use Rattle.sp_code.specs.System.{store_in, opening}
+use Rattle.sp_code.specs.System.{System, Condition, Absent, Working, Waits, Joins, Laid, Gone, Over, IsSystem, store_in}
+use Rattle.sp_code.specs.System.{opening}
 use Rattle.sp_history.specs.Agreement.{Finished, phase_in}
 use Rattle.sp_history.specs.Holding.{IsOutputOf}
+use Rattle.sp_history.proofs.Phases.{no_waiter_ended}
+use Rattle.sp_history.proofs.Along.{births_along}
 use Rattle.sp_kernel.specs.Faults.{fault_in, fault_by}
 use Rattle.sp_kernel.specs.declared.closed.Closed.{Closed}
 use Rattle.sp_link.specs.Endings.{HasFaultEntry}
@@ -59,14 +58,6 @@ has_fault (x ∷ es) p f e = by (has_fault es p f) x.event refl e
     by on event.Laid i e = inr (on e)
     by on event.Pause i e = inr (on e)
 
--- what the entries have given to a system is what they give
-births_are : (g : memory.Setting) (es : List Entry) (s t : System Plain) → Leads plain g s es t
-    → t.births ≡ births_from s.births es
-births_are g [] s t h = ap (λ (y : System Plain). y.births) h
-births_are g (e ∷ es) s t h =
-    births_are g es h.0 t h.2 ∙ ap (λ (y : System Plain). births_from y.births es) h.1.5
-    ∙ ap (λ y. births_from (after_event s.births e.process y) es) h.1.4
-
 module _ (g : Setting) (moves shares : Stmt
     → List ℕ) (pause : ℕ) (ready : IsReady g moves shares) (es : List Entry) (t : System Plain)
     (h : IsSystem plain (run_by g moves shares pause) es t) where
@@ -74,7 +65,7 @@ module _ (g : Setting) (moves shares : Stmt
   names = names_on g moves shares pause ready es t h
 
   births_here : t.births ≡ births_from at_start es
-  births_here = births_are (run_by g moves shares pause) es (opening plain (run_by g moves shares pause)) t h
+  births_here = births_along (run_by g moves shares pause) es (opening plain (run_by g moves shares pause)) t h
 
   lawful : Lawful t.births
   lawful = subst (λ (b : Births). Lawful b) (sym births_here) (lawful_births es names)
@@ -102,15 +93,7 @@ module _ (g : Setting) (moves shares : Stmt
         by : (X : Condition Plain) → t.condition 0 ≡ X → phase_in X ≡ Finished → meant.IsDone g s
         by Absent x f = absurd (cc f)
         by (Working d) x f = absurd (cc f)
-        by (Waits stop d) x f = absurd (waiting stop f)
-          where
-            waiting : (stop : Stop) → phase_in {S = Plain} (Waits stop d) ≡ Finished → ⊥
-            waiting (Forks tb v m) f = cc f
-            waiting (Opens a) f = cc f
-            waiting (Sends c m cs) f = cc f
-            waiting (Receives c m a) f = cc f
-            waiting Ends f = cc f
-            waiting Pauses f = cc f
+        by (Waits stop d) x f = absurd (no_waiter_ended stop f)
         by (Joins left d) x f = absurd (cc f)
         by (Laid d) x f = absurd (cc f)
         by Gone x f = absurd (program_root g moves shares pause ready es t h n s k x)

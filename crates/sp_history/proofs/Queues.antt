@@ -79,7 +79,9 @@ pub number_or : (p q : ℕ) → (p ≡ q) ⊎ ((p ≢ q) × (p == q ≡ false))
 number_or p q = elim (p == q) as (λ b. p == q ≡ b → (p ≡ q) ⊎ ((p ≢ q) × (p == q ≡ false))) [
   | true ↦ λ e. inl (eqb-true p q e)
   | false ↦ λ e. inr (
-      (λ is. let t : p == q ≡ true = subst (λ n. p == n ≡ true) is (equals_itself p) in absurd (cc (e, t))), e)
+    (λ is. let t : p == q ≡ true = subst (λ n. p == n ≡ true) is (equals_itself p) in absurd (cc (e, t))),
+    e,
+  )
 ] refl
 
 module _ {X : Type 0} where

@@ -168,7 +168,6 @@ module _ {L : Language} {limits : Totals} (s : State L) (p : Name) (cs : List (C
       subst (λ (x : ConditionOf L). JoinsAt k i x) (sym at) (k_is, less) in
       subst (λ x. JoinsAt k i ((after x s).condition z)) (sym list)
       (subst (λ x. JoinsAt k i ((after (births p (s.forks p) 0 os) t).condition x)) z_is good)
-
   child_joined (Moves o ws) does z k i h = absurd h
   child_joined (Opens o ws) does z k i h = absurd h
   child_joined (Offering o) does z k i h = absurd h

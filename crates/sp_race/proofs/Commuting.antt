@@ -259,7 +259,6 @@ module _ {L : Language} {limits : Totals} (s : State L) (sound : Sound s) (p q :
     (one : Makes limits s p cs) (two : Makes limits s q ds) (apart : q ≢ p)
     (off : (c : Channel) → IsOn (L.next one.own s.store) c → IsOn (L.next two.own s.store) c → ⊥)
     (free : (l : L.Loc) → WritesTo s (L.next one.own s.store) l → WritesTo s (L.next two.own s.store) l → ⊥) where
-
   near_apart : (r : Name) → IsNear s p (L.next one.own s.store) r → IsNear s q (L.next two.own s.store) r → ⊥
   near_apart r n m = ⊎_elim
       (λ (e : r ≡ p). far s q ds sound two p (λ h. apart (sym h))

@@ -73,7 +73,6 @@ report_below (a ∷ r) f n g past h = learn_below r f n g past h
 module _ {L : Language} {limits : Totals} (s : State L) (v : Notes) (p : Name) (cs : List (Change L)) (sound : Sound s)
     (known : IsKnowledge v) (one : Makes limits s p cs) (j : Judged) (done : List Occurrence) (n : ℕ)
     (label : ℕ → Option Event) (link : Linked s v j done n label) where
-
   abbrev pub grows_label : ℕ → Option Event
   grows_label i = cond (n == i) (Some (mine v p)) (label i)
 

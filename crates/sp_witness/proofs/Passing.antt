@@ -16,8 +16,6 @@ use Rattle.sp_witness.specs.Needed.{any_child, parent_is, needed_to_meet, needed
 use Rattle.sp_witness.proofs.Learning.{IsChildAt, any_here, any_is, key_here, key_is, key_more, learn_is, report_here}
 use Rattle.sp_witness.proofs.Learning.{report_is, teach_here, teach_is}
 
--- what is learned, and by whom
-
 -- q knows the entry of index m, or it is its own offer that is pending
 abbrev pub Has : Judged → Name → ℕ → Type 0
 Has j q m = (j.past q m ≡ true) ⊎ ((c : Channel) × (j.pending c ≡ Some (q, m)))
