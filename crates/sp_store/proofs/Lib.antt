@@ -1,2 +1,4 @@
+mod Ends
 pub mod Frames
 pub mod Places
+mod Singles

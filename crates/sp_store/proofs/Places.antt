@@ -158,6 +158,16 @@ all_insert P [] (suc i) q h p = (p, tt)
 all_insert P (x ∷ xs) zero q h p = (p, h)
 all_insert P (x ∷ xs) (suc i) q h p = (h.0, all_insert P xs i q h.1 p)
 
+-- what comes behind the last spot comes behind all
+pub behind_all : (ss : List Spot) (q : Spot) (n : ℕ) → IsStrictlySortedBy spot_cmp ss → n + 1 ≡ length ss
+    → ((d : Spot) → spot_cmp (get_or ss n d) q ≡ Less) → (k : ℕ) (d : Spot) → k < length ss
+    → spot_cmp (get_or ss k d) q ≡ Less
+behind_all ss q n h e f k d b = elim (cases_lt k n) [
+  | inl less ↦ spot_total.trans (get_or ss k d) (get_or ss n d) q
+      (Less-from_sorted spot_cmp ss k n d h less (omega (arith, e))) (f d)
+  | inr more ↦ let same : k ≡ n = omega (arith, e, b, more) in rw same (f d)
+]
+
 -- the spots below place i are less, and the others are greater
 abbrev pub IsBetween : List Spot → ℕ → Spot → Type 0
 IsBetween ss i q = IsPartitionPoint (λ y. spot_cmp y q ≡ Less) (λ y. spot_cmp y q ≡ Greater) ss i
@@ -236,6 +246,13 @@ module _ (ss : List Spot) (es : List Entry) (h : IsStrictlySortedBy spot_cmp ss)
             (sym (map.entries-from_sorted spot_cmp (pairs ss es) (sorted_pairs ss es h)))
             ∙ sym (map.entries-insert spot_total (layout ss es) q (content e)));
       }
+
+  pub is_here : (i : ℕ) → i < length ss → ((d : Spot) → get_or ss i d ≡ q) → IsPlace ss es q i
+  is_here i b e = is_place i b (λ d. ap (λ s. spot_cmp s q) (e d) ∙ spot_itself q)
+
+  pub is_gap_behind : ((k : ℕ) (d : Spot) → k < length ss → spot_cmp (get_or ss k d) q ≡ Less)
+      → IsGap ss es q (length ss)
+  is_gap_behind f = is_gap (length ss) (omega arith) (λ _. (λ k d m b. f k d b, λ k d m b. absurd (omega (arith, m, b))))
 
   pub searched : (r : Result ℕ ℕ) → IsSearchInRange r (length ss) → IsBinarySearchResult (λ y. spot_cmp y q) ss r
       → record { found : IfOk r (IsPlace ss es q); absent : IfErr r (IsGap ss es q) }

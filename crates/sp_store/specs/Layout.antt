@@ -13,6 +13,7 @@ use Rattle.sp_store.specs.declared.entry.Entry.TheVariants as entry
 
 -- what an entry holds
 abbrev pub content : Entry → Content
+content (entry.Single c) = Own (c ∷ [])
 content (entry.Own p) = Own p
 content (entry.Shared a) = Shared a.value
 content (entry.Output v) = Output v.items

@@ -14,6 +14,7 @@ impl Store {
         ensures { IsTrue result ↔ HasCells self.now.map at cells }
     {
         let len = match self.slots.find(at.spot) {
+            Some(Entry::Single(_)) => 1,
             Some(Entry::Own(piece)) => piece.len(),
             Some(Entry::Shared(piece)) => piece.len(),
             _ => return false,
@@ -27,6 +28,7 @@ impl Store {
         ensures { result ≡ length (cells_at self.now.map spot) }
     {
         match self.slots.entry(spot) {
+            Entry::Single(_) => 1,
             Entry::Own(piece) => piece.len(),
             Entry::Shared(piece) => piece.len(),
             Entry::Output(_) | Entry::Away => unreachable!(),
@@ -37,7 +39,10 @@ impl Store {
     pub fn is_own(&self, spot: Spot) -> bool
         ensures { IsTrue result ↔ IsOwn (map.get self.now.map spot) }
     {
-        matches!(self.slots.find(spot), Some(Entry::Own(_)))
+        matches!(
+            self.slots.find(spot),
+            Some(Entry::Single(_) | Entry::Own(_))
+        )
     }
 
     /// Whether what stands at the spot has moved to a child.

@@ -1,23 +1,36 @@
 //! What stands at one spot, and the work on it.
 
-ghost use Rattle.std.specs.Prelude.{◌≡◌, ◌+◌, ◌<◌, ◌≤◌, ◌++◌, IsOk, OnErr, OnOk, IfOk, Some, length, slice_set};
+ghost use Rattle.std.specs.Prelude.{◌≡◌, ◌+◌, ◌<◌, ◌≤◌, ◌++◌, IsOk, OnErr, OnOk, IfOk, Some, length, replicate, slice_set};
 ghost use Rattle.sp_cell.specs.Lists.{overwritten};
+ghost use Rattle.sp_cell.specs.declared.cell.Cell.TheVariants.{Undefined};
 ghost use Rattle.sp_cell.specs.Map.{IsOwn, IsPiece, cells_of, IsOutput, bytes_of, Own, Shared, Output as Text};
 ghost use Rattle.sp_store.specs.Layout.{content};
 
 use sp_base::Memory;
 use sp_cell::{Cell, Piece};
 use std::alloc::Global;
-use std::mem;
 use std::sync::Arc;
+use std::{mem, slice};
 
 /// What stands at one spot.
 #[derive(Drop)]
 pub(crate) enum Entry {
+    /// An own piece of one cell, which takes no memory of its own.
+    Single(Cell),
     Own(Piece),
     Shared(Arc<Piece>),
     Output(Vec<u8>),
     Away,
+}
+
+/// An own piece of so many undefined cells.
+pub(crate) fn undefined(alloc: Global, cells: u32) -> Result<Entry, Memory>
+    ensures { IfOk result (λ e. content e ≡ Own (replicate cells Undefined)) }
+{
+    if cells == 1 {
+        return Ok(Entry::Single(Cell::Undefined));
+    }
+    Ok(Entry::Own(Piece::new(alloc, cells)?))
 }
 
 pub(crate) fn cells(entry: &Entry) -> &[Cell]
@@ -25,6 +38,7 @@ pub(crate) fn cells(entry: &Entry) -> &[Cell]
     ensures { result.now ≡ cells_of (Some (content entry.now)) }
 {
     match entry {
+        Entry::Single(cell) => slice::from_ref(cell),
         Entry::Own(piece) => piece.cells(),
         Entry::Shared(piece) => piece.cells(),
         Entry::Output(_) | Entry::Away => unreachable!(),
@@ -37,6 +51,11 @@ pub(crate) fn share(alloc: Global, entry: &Entry) -> Result<Entry, Memory>
     ensures { IfOk result (λ e. content e ≡ Shared (cells_of (Some (content entry.now)))) }
 {
     match entry {
+        Entry::Single(cell) => {
+            let mut copy = Piece::new(alloc, 1)?;
+            copy.write(0, *cell);
+            Ok(Entry::Shared(Arc::new(alloc, copy)?))
+        }
         Entry::Own(piece) => {
             let copy = piece.duplicate()?;
             Ok(Entry::Shared(Arc::new(alloc, copy)?))
@@ -55,7 +74,7 @@ pub(crate) fn make_own(entry: &mut Entry) -> Result<(), Memory>
     ensures succeeds { IsOwn (Some (content entry.old)) → IsOk result }
 {
     match entry {
-        Entry::Own(_) => return Ok(()),
+        Entry::Single(_) | Entry::Own(_) => return Ok(()),
         _ => {}
     }
     unshare(entry)
@@ -93,23 +112,32 @@ fn unshare(entry: &mut Entry) -> Result<(), Memory>
     }
 }
 
+#[inline(always)]
+#[tactic(auto, using(crate::proofs::Singles::write_single))]
 pub(crate) fn write(entry: &mut Entry, offset: u32, cell: Cell)
     requires own { IsOwn (Some (content entry.old)) }
     requires in_range { offset < length (cells_of (Some (content entry.old))) }
     ensures { content entry.new ≡ Own (slice_set (cells_of (Some (content entry.old))) offset cell) }
 {
     match entry {
+        Entry::Single(own) => *own = cell,
         Entry::Own(piece) => piece.write(offset, cell),
         _ => unreachable!(),
     }
 }
 
+#[tactic(auto, using(crate::proofs::Singles::over_single, crate::proofs::Singles::over_none))]
 pub(crate) fn overwrite(entry: &mut Entry, offset: u32, cells: &[Cell])
     requires own { IsOwn (Some (content entry.old)) }
     requires in_range { offset + length cells.now ≤ length (cells_of (Some (content entry.old))) }
     ensures { content entry.new ≡ Own (overwritten (cells_of (Some (content entry.old))) offset cells.now) }
 {
     match entry {
+        Entry::Single(own) => {
+            if cells.len() == 1 {
+                *own = cells[0];
+            }
+        }
         Entry::Own(piece) => piece.copy_range(offset, cells),
         _ => unreachable!(),
     }

@@ -3,10 +3,10 @@
 ghost use Rattle.std.specs.Prelude.{◌≡◌, ◌+◌, ◌<◌, ◌≤◌, OnOk, OnErr, length};
 ghost use Rattle.sp_cell.specs.Frame.{with_pieces, without};
 
-use crate::entry::Entry;
+use crate::entry;
 use crate::slots::Slots;
 use sp_base::Memory;
-use sp_cell::{Piece, Spot};
+use sp_cell::Spot;
 use std::alloc::Global;
 
 /// Adds an undefined piece for each size, from the variable `first` on.
@@ -23,9 +23,9 @@ pub(crate) fn add_pieces(
     ensures err { OnErr result (without slots.new frame ≡ without slots.old frame) }
 {
     for (i, size) in sizes.iter().enumerate() {
-        let piece = Piece::new(alloc, *size)?;
+        let piece = entry::undefined(alloc, *size)?;
         let variable = first + i as u32;
-        slots.insert(Spot { frame, variable }, Entry::Own(piece))?;
+        slots.insert(Spot { frame, variable }, piece)?;
     }
     Ok(())
 }

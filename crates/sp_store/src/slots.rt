@@ -2,10 +2,12 @@
 
 ghost use Rattle.std.specs.Prelude.{◌≡◌, ◌<◌, ◌++◌, IsSome, IfSome, Some, None, IfOk, IfErr, OnOk, OnErr, MatchOption};
 ghost use Rattle.std.specs.Prelude.{length, ℕ, ◌-◌, ◌≤◌, ◌==◌, ◌≢◌, if◌then◌else◌, take, drop, vec_len, slice_index_or};
+ghost use Rattle.std.specs.Prelude.{vec_capacity, IsTrue};
 ghost use Rattle.std.specs.Borrow.{sem};
 ghost use Rattle.std.specs.FinMap as map;
 ghost use Rattle.std.specs.List.Sorted.{IsStrictlySortedBy};
-ghost use Rattle.std.specs.List.{ContainsAt};
+ghost use Rattle.std.specs.List.{ContainsAt, insert};
+ghost use Rattle.std.specs.declared.cmp.Ordering.TheVariants.{Less};
 ghost use Rattle.sp_cell.specs.Spots.{DistinctByIndex};
 ghost use Rattle.sp_cell.specs.Frame.{above, frames, without};
 ghost use Rattle.sp_cell.specs.Map.{spot_cmp};
@@ -16,6 +18,7 @@ use crate::entry::Entry;
 use sp_base::Memory;
 use sp_cell::Spot;
 use std::alloc::Global;
+use std::cmp::Ordering;
 use std::marker::Model;
 
 /// Entries by their spots, in the order of the spots.
@@ -23,6 +26,8 @@ use std::marker::Model;
 pub(crate) struct Slots {
     spots: Vec<Spot>,
     entries: Vec<Entry>,
+    // Where the newest frame likely begins: a guess, which each use tests.
+    start: usize,
 }
 
 impl Model for Slots {
@@ -44,77 +49,127 @@ impl Model for Slots {
 }
 
 // Where the spot stands, or would go.
-fn search(spots: &[Spot], entries: &[Entry], spot: Spot) -> Result<usize, usize>
+fn search(spots: &[Spot], entries: &[Entry], start: usize, spot: Spot) -> Result<usize, usize>
     requires sorted { IsStrictlySortedBy spot_cmp spots.now }
     requires lengths { length spots.now ≡ length entries.now }
     ensures found { IfOk result (IsPlace spots.now entries.now spot) }
     ensures absent { IfErr result (IsGap spots.now entries.now spot) }
 {
-    match likely_place(spots, spot) {
+    if is_behind(spots, spot) {
+        return Err(spots.len());
+    }
+    match likely_place(spots, start, spot) {
         Some(i) => Ok(i),
         None => spots.binary_search(&spot),
     }
 }
 
-// Where the spot stands, if all variables of its frame stand there and it is the newest frame or frame 0; else maybe
-// nothing. Almost all loads and stores are of these.
-fn likely_place(spots: &[Spot], spot: Spot) -> Option<usize>
-    ensures { IfSome result (λ i. (i < length spots.now) × ((d : Spot) → slice_index_or spots.now i d ≡ spot)) }
+// Whether the spot comes behind all others.
+fn is_behind(spots: &[Spot], spot: Spot) -> bool
+    requires { IsStrictlySortedBy spot_cmp spots.now }
+    ensures { IsTrue result → (k : ℕ) (d : Spot) → k < length spots.now
+        → spot_cmp (slice_index_or spots.now k d) spot ≡ Less }
 {
     let count = spots.len();
     if count == 0 {
-        return None;
+        return true;
     }
-    let place = place_by_last(count, spots[count - 1], spot);
-    if place < count {
-        let found = spots[place];
-        if found.frame == spot.frame && found.variable == spot.variable {
-            return Some(place);
-        }
+    match spots[count - 1].cmp(&spot) {
+        Ordering::Less => true,
+        Ordering::Equal => false,
+        Ordering::Greater => false,
+    }
+}
+
+// Where the spot stands, if it is of the newest frame or of frame 0, and all variables of its frame stand there up to
+// it; else maybe nothing. Almost all loads and stores are of these.
+#[inline(always)]
+fn likely_place(spots: &[Spot], start: usize, spot: Spot) -> Option<usize>
+    ensures { IfSome result (λ i. (i < length spots.now) × ((d : Spot) → slice_index_or spots.now i d ≡ spot)) }
+{
+    let place = start.wrapping_add(spot.variable as usize);
+    if stands_at(spots, place, spot) {
+        return Some(place);
+    }
+    let place = spot.variable as usize;
+    if stands_at(spots, place, spot) {
+        return Some(place);
     }
     None
 }
 
-// The place by the number of the variable, counted back from the last spot where that is of the same frame.
-fn place_by_last(count: usize, last: Spot, spot: Spot) -> usize {
-    if last.frame != spot.frame || last.variable < spot.variable {
-        return spot.variable as usize;
+#[inline(always)]
+fn stands_at(spots: &[Spot], place: usize, spot: Spot) -> bool
+    ensures { IsTrue result → (place < length spots.now) × ((d : Spot) → slice_index_or spots.now place d ≡ spot) }
+{
+    if place < spots.len() {
+        let found = spots[place];
+        if found.frame == spot.frame && found.variable == spot.variable {
+            return true;
+        }
     }
-    let behind = (last.variable - spot.variable) as usize;
-    if behind < count {
-        return count - 1 - behind;
-    }
-    count
+    false
 }
 
 // Where the spot stands.
-fn place(spots: &[Spot], entries: &[Entry], spot: Spot) -> usize
+#[inline(always)]
+fn place(spots: &[Spot], entries: &[Entry], start: usize, spot: Spot) -> usize
     requires sorted { IsStrictlySortedBy spot_cmp spots.now }
     requires lengths { length spots.now ≡ length entries.now }
     requires known { IsSome (map.get (layout spots.now entries.now) spot) }
     ensures { IsPlace spots.now entries.now spot result }
 {
-    match search(spots, entries, spot) {
+    match likely_place(spots, start, spot) {
+        Some(i) => i,
+        None => far_place(spots, entries, spot),
+    }
+}
+
+// The same of any spot.
+#[cold]
+#[inline(never)]
+fn far_place(spots: &[Spot], entries: &[Entry], spot: Spot) -> usize
+    requires sorted { IsStrictlySortedBy spot_cmp spots.now }
+    requires lengths { length spots.now ≡ length entries.now }
+    requires known { IsSome (map.get (layout spots.now entries.now) spot) }
+    ensures { IsPlace spots.now entries.now spot result }
+{
+    match search(spots, entries, 0, spot) {
         Ok(i) => i,
         Err(_) => unreachable!(),
     }
 }
 
+// Where the newest frame begins, if all its variables stand there.
+fn newest_start(spots: &[Spot]) -> usize {
+    let count = spots.len();
+    if count == 0 {
+        return 0;
+    }
+    let behind = spots[count - 1].variable as usize;
+    if behind < count {
+        return count - 1 - behind;
+    }
+    0
+}
+
 impl Slots {
+    #[inline(always)]
     pub(crate) fn entry(&self, spot: Spot) -> &Entry
         requires { IsSome (map.get self.now spot) }
         ensures { map.get self.now spot ≡ Some (content result.now) }
     {
-        let i = place(&self.spots, &self.entries, spot);
+        let i = place(&self.spots, &self.entries, self.start, spot);
         &self.entries[i]
     }
 
+    #[inline(always)]
     pub(crate) fn entry_mut(&mut self, spot: Spot) -> &mut Entry
         requires { IsSome (map.get self.old spot) }
         ensures* writes_back { sem 𝓛 (LendsEntry self.entry spot result) }
         ensures value { map.get self.old spot ≡ Some (content result.now) }
     {
-        let i = place(&self.spots, &self.entries, spot);
+        let i = place(&self.spots, &self.entries, self.start, spot);
         &mut self.entries[i]
     }
 
@@ -122,7 +177,7 @@ impl Slots {
         ensures { MatchOption result (map.get self.now spot ≡ None)
             (λ e. map.get self.now spot ≡ Some (content e.now)) }
     {
-        match search(&self.spots, &self.entries, spot) {
+        match search(&self.spots, &self.entries, self.start, spot) {
             Ok(i) => Some(&self.entries[i]),
             Err(_) => None,
         }
@@ -134,6 +189,7 @@ impl Slots {
         Slots {
             spots: Vec::new(alloc),
             entries: Vec::new(alloc),
+            start: 0,
         }
     }
 
@@ -141,18 +197,18 @@ impl Slots {
         ensures ok { OnOk result (self.new ≡ map.insert self.old spot (content entry)) }
         ensures err { OnErr result (self.new ≡ self.old) }
     {
-        match search(&self.spots, &self.entries, spot) {
+        match search(&self.spots, &self.entries, self.start, spot) {
             Ok(i) => {
                 self.entries[i] = entry;
                 Ok(())
             }
             Err(i) => {
                 self.spots.reserve(1)?;
-                self.entries.insert(i, entry)?;
-                match self.spots.insert(i, spot) {
-                    Ok(()) => Ok(()),
-                    Err(_) => unreachable!(),
-                }
+                self.entries.reserve(1)?;
+                put_in(&mut self.entries, i, entry);
+                put_in(&mut self.spots, i, spot);
+                self.start = newest_start(&self.spots);
+                Ok(())
             }
         }
     }
@@ -182,6 +238,7 @@ impl Slots {
         let start = start_of(&self.spots, frame, end);
         take_out(&mut self.spots, start, end);
         take_out(&mut self.entries, start, end);
+        self.start = newest_start(&self.spots);
     }
 }
 
@@ -228,8 +285,44 @@ fn start_of(spots: &[Spot], frame: u64, end: usize) -> usize
     n
 }
 
+// Puts the item at the place. There is room for it.
+#[tactic(auto, using(crate::proofs::Ends::insert_last))]
+fn put_in<T: Drop>(items: &mut Vec<T>, place: usize, item: T)
+    requires bound { place ≤ vec_len items.old }
+    requires room { vec_len items.old < vec_capacity items.old }
+    ensures { items.new.items ≡ insert items.old.items place item }
+{
+    if place == items.len() {
+        match items.push(item) {
+            Ok(()) => {}
+            Err(_) => unreachable!(),
+        }
+    } else {
+        match items.insert(place, item) {
+            Ok(()) => {}
+            Err(_) => unreachable!(),
+        }
+    }
+}
+
 // Removes the items of the range.
+#[tactic(auto, using(crate::proofs::Ends::cut_end))]
 fn take_out<T: Drop>(items: &mut Vec<T>, start: usize, end: usize)
+    requires order { start ≤ end }
+    requires bound { end ≤ vec_len items.old }
+    ensures { items.new.items ≡ take start items.old.items ++ drop end items.old.items }
+{
+    if end == items.len() {
+        items.truncate(start);
+    } else {
+        drain_out(items, start, end);
+    }
+}
+
+// The same where others stand behind.
+#[cold]
+#[inline(never)]
+fn drain_out<T: Drop>(items: &mut Vec<T>, start: usize, end: usize)
     requires order { start ≤ end }
     requires bound { end ≤ vec_len items.old }
     ensures { items.new.items ≡ take start items.old.items ++ drop end items.old.items }

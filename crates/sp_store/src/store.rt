@@ -22,7 +22,7 @@ use crate::hand::hand;
 use crate::slots::Slots;
 use crate::{entry, fork};
 use sp_base::{List, Memory};
-use sp_cell::{Address, Cell, Handing, Piece, Spot};
+use sp_cell::{Address, Cell, Handing, Spot};
 use std::alloc::Global;
 use std::marker::Model;
 use std::sync::Arc;
@@ -60,14 +60,12 @@ impl Store {
         ensures { IfOk result (λ s. s ≡ record { map = root_map sizes.now; own = []; moved = [] }) }
     {
         let mut slots = Slots::new(alloc);
-        let mut position = Piece::new(alloc, 1)?;
-        position.write(0, Cell::Ordinal(0));
         slots.insert(
             Spot {
                 frame: 0,
                 variable: 0,
             },
-            Entry::Own(position),
+            Entry::Single(Cell::Ordinal(0)),
         )?;
         slots.insert(
             Spot {
@@ -146,11 +144,14 @@ impl Store {
     }
 
     /// The cell at the address.
+    #[tactic(auto, using(crate::proofs::Singles::read_single))]
+    #[inline(always)]
     pub fn load(&self, at: Address) -> Cell
         requires { HasCells self.now.map at 1 }
         ensures { result ≡ slice_index_or (cells_at self.now.map at.spot) at.offset Undefined }
     {
         match self.slots.entry(at.spot) {
+            Entry::Single(cell) => *cell,
             Entry::Own(piece) => piece.read(at.offset),
             Entry::Shared(piece) => piece.read(at.offset),
             Entry::Output(_) | Entry::Away => unreachable!(),
@@ -160,6 +161,7 @@ impl Store {
     /// Writes one cell. A piece that is shared becomes an own copy first; where it is own, the call takes no memory and
     /// succeeds. Where memory is refused, the store is unchanged.
     #[tactic(auto, using(sp_cell::specs::Laws::insert_same))]
+    #[inline(always)]
     pub fn store(&mut self, at: Address, cell: Cell) -> Result<(), Memory>
         requires { HasCells self.old.map at 1 }
         ensures ok { OnOk result (self.new ≡ with_map self.old (written self.old.map at cell)) }
@@ -287,9 +289,8 @@ impl Store {
             let moved = fork::above_all(handing.moved.items());
             let shared = fork::above_all(handing.shared.items());
             let frame = if moved < shared { shared } else { moved };
-            let mut piece = Piece::new(alloc, 1)?;
-            piece.write(0, Cell::Ordinal(value));
-            slots.insert(Spot { frame, variable }, Entry::Own(piece))?;
+            let index = Entry::Single(Cell::Ordinal(value));
+            slots.insert(Spot { frame, variable }, index)?;
         }
         let moved = Vec::from_slice(alloc, handing.moved.items())?;
         Ok(Store {
