@@ -1,5 +1,6 @@
 pub mod Entries
 pub mod Frames
+pub mod Outcomes
 pub mod Procs
 pub mod Conversions
 pub mod Texts

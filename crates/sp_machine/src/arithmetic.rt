@@ -11,7 +11,7 @@ ghost use Rattle.sp_machine.specs.Procs.{compared, does, CameBy, Stays, setting_
 ghost use Rattle.sp_machine.specs.Conversions.{converted};
 
 use crate::stack::Operand;
-use crate::state::{Interrupt, State};
+use crate::state::{Interrupt, State, unpacked};
 use sp_arithmetic::{
     absolute_of, binary, next_of, odd, previous_of, square_of, truth_of, unary, within,
 };
@@ -44,6 +44,7 @@ fn convert(conversion: Conversion, n: i64) -> Result<i64, Fault>
 
 impl State {
     // Pushes an ordinal.
+    #[inline(always)]
     pub(crate) fn constant(
         &mut self,
         value: i64,
@@ -197,7 +198,7 @@ impl State {
                         self.pc += 1;
                         Ok(None)
                     }
-                    Err(fault) => self.fail_both(Operand::Number(m), Operand::Number(n), fault),
+                    Err(fault) => unpacked(self.fail_numbers(m, n, fault)),
                 },
                 None => unreachable!(),
             },
@@ -206,6 +207,7 @@ impl State {
     }
 
     // Whether two ordinals or two channels are equal, or whether they are different.
+    #[inline(always)]
     pub(crate) fn equals(
         &mut self,
         different: bool,

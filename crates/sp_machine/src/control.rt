@@ -11,7 +11,7 @@ ghost use Rattle.sp_machine.specs.Entries.{entries_of};
 ghost use Rattle.sp_machine.specs.Procs.{does, CameBy, Stays, setting_of, memory_of};
 
 use crate::stack::Operand;
-use crate::state::{Interrupt, State};
+use crate::state::{Interrupt, State, unpacked};
 use sp_base::{Fault, Limits, Memory, TURN_TICKS};
 use sp_cell::Cell;
 use sp_code::Code;
@@ -47,6 +47,7 @@ impl State {
     }
 
     // Goes on there.
+    #[inline(always)]
     pub(crate) fn jump(
         &mut self,
         to: u32,
@@ -64,6 +65,7 @@ impl State {
     }
 
     // Goes on there where the operand is false.
+    #[inline(always)]
     pub(crate) fn jump_false(
         &mut self,
         to: u32,
@@ -142,6 +144,7 @@ impl State {
     }
 
     // Counts a tick. The process may pause.
+    #[inline(always)]
     pub(crate) fn tick(&mut self, code: &Code, limits: &Limits) -> Result<Option<Interrupt>, Memory>
         requires next { self.old.pc + 1 < 4294967296 }
         requires safe { does (Some instr.Tick) self.old code.now limits.now ≢ Stuck }
@@ -231,7 +234,7 @@ impl State {
                         Ok(None)
                     }
                     Cell::Undefined | Cell::Channel(_) => {
-                        self.fail(Operand::Number(last), Fault::F4)
+                        unpacked(self.fail_number(last, Fault::F4))
                     }
                 },
                 None => unreachable!(),

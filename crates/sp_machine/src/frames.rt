@@ -57,6 +57,7 @@ impl Model for Frames {
 
 // The frames of both parts, counted.
 #[tactic(auto, using(crate::proofs::Framing::length_parts))]
+#[inline(always)]
 fn count_in(shared: &[Frame], visible: usize, own: &[Frame]) -> usize
     requires { visible ≤ length shared.now }
     ensures { result ≡ length (plain_frames (take visible shared.now ++ own.now)) }
@@ -67,6 +68,7 @@ fn count_in(shared: &[Frame], visible: usize, own: &[Frame]) -> usize
 
 // The frame at a place, counted from the oldest.
 #[tactic(auto, using(crate::proofs::Framing::at_shared, crate::proofs::Framing::at_own))]
+#[inline(always)]
 fn frame_in<'a>(shared: &'a [Frame], visible: usize, own: &'a [Frame], place: usize) -> &'a Frame
     requires within { visible ≤ length shared.now }
     requires there { place < visible + length own.now }
@@ -156,6 +158,7 @@ impl Frames {
 
     /// How many frames there are from the one so many static levels outward on, 0 where there is none.
     #[tactic(auto, using(crate::proofs::Framing::none_last, crate::proofs::Framing::all_last, crate::proofs::Framing::up_none))]
+    #[inline(always)]
     fn outward(&self, up: u32) -> usize
         ensures same { frames_up up self.now ≡ last_frames result self.now }
         ensures within { result ≤ length self.now }
@@ -182,6 +185,7 @@ impl Frames {
 
     /// A variable of the frame so many static levels outward.
     #[tactic(auto, using(crate::proofs::Framing::none_last, crate::proofs::Framing::addr_first))]
+    #[inline(always)]
     pub(crate) fn address(&self, up: u32, variable: u32) -> Option<Address>
         ensures { result ≡ addr_in (frames_up up self.now) variable }
     {

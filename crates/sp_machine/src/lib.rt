@@ -20,10 +20,12 @@
 //!   by a small `Interrupt`, and what a stop holds besides stands in the state, so that the many instructions that go
 //!   on hand nothing about. How an instruction ends: `src/steps.rt`. `src/turn.rt` joins them to a turn, and
 //!   `proofs/Going` leads from instructions to a turn.
+//! - The instructions that loops are made of stand in the turn itself, and what they do seldom, as a fault, stands
+//!   apart and tells it by an `Outcome`, so that the turn keeps nothing in memory between two instructions.
 //! - After want of memory nothing is said of a process but that it keeps its number and its input.
 //!
 //! To change:
-//! - An instruction: its function, and `step` in `src/turn.rt`.
+//! - An instruction: its function, and `step` or `other` in `src/turn.rt`.
 //! - The frames: `src/frames.rt`.
 #![tactic(auto)]
 

@@ -10,6 +10,7 @@ use sp_base::{List, Memory};
 use sp_cell::{Address, Cell};
 use std::alloc::Global;
 use std::marker::Model;
+use std::mem;
 
 /// An entry of the stack.
 #[derive(Drop)]
@@ -61,6 +62,7 @@ impl Stack {
 
     /// Puts an entry on top. Where memory is refused, the stack is unchanged.
     #[tactic(auto, using(crate::proofs::Stacking::replies_few))]
+    #[inline(always)]
     pub(crate) fn push(&mut self, entry: Operand) -> Result<(), Memory>
         ensures ok { OnOk result (self.new ≡ entry ∷ self.old) }
         ensures err { OnErr result (self.new ≡ self.old) }
@@ -77,6 +79,7 @@ impl Stack {
     }
 
     /// Takes the top.
+    #[inline(always)]
     pub(crate) fn pop(&mut self) -> Option<Operand>
         ensures { MatchOption result (self.old ≡ []) (λ o. self.old ≡ o ∷ self.new) }
     {
@@ -90,6 +93,7 @@ impl Stack {
     }
 
     /// Takes the number on top. `None` where none is there; then nothing is said of the stack afterwards.
+    #[inline(always)]
     pub(crate) fn pop_number(&mut self) -> Option<i64>
         ensures { MatchOption result (HasNoNumber self.old) (λ n. self.old ≡ Number n ∷ self.new) }
     {
@@ -97,6 +101,7 @@ impl Stack {
             Some(Operand::Number(n)) => Some(n),
             Some(entry) => {
                 self.answering -= counted(&entry);
+                mem::forget(entry);
                 None
             }
             None => None,
@@ -104,6 +109,7 @@ impl Stack {
     }
 
     /// Takes the channel on top. `None` where none is there; then nothing is said of the stack afterwards.
+    #[inline(always)]
     pub(crate) fn pop_channel(&mut self) -> Option<u32>
         ensures { MatchOption result (HasNoChannel self.old) (λ c. self.old ≡ Channel c ∷ self.new) }
     {
@@ -111,6 +117,7 @@ impl Stack {
             Some(Operand::Channel(c)) => Some(c),
             Some(entry) => {
                 self.answering -= counted(&entry);
+                mem::forget(entry);
                 None
             }
             None => None,
@@ -118,6 +125,7 @@ impl Stack {
     }
 
     /// Takes the address on top. `None` where none is there; then nothing is said of the stack afterwards.
+    #[inline(always)]
     pub(crate) fn pop_pointer(&mut self) -> Option<Address>
         ensures { MatchOption result (HasNoPointer self.old) (λ a. self.old ≡ Pointer a ∷ self.new) }
     {
@@ -125,6 +133,7 @@ impl Stack {
             Some(Operand::Pointer(a)) => Some(a),
             Some(entry) => {
                 self.answering -= counted(&entry);
+                mem::forget(entry);
                 None
             }
             None => None,
@@ -167,6 +176,7 @@ impl Stack {
     }
 }
 
+#[inline(always)]
 fn counted(entry: &Operand) -> usize
     ensures { result ≡ counted entry.now }
 {

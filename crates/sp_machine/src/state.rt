@@ -1,8 +1,11 @@
 //! The state of a process, and why a turn ends.
 
+ghost use Rattle.std.specs.Prelude.{◌≡◌};
+ghost use Rattle.sp_machine.specs.Outcomes.{unpacked};
+
 use crate::frames::Frames;
 use crate::stack::Stack;
-use sp_base::{Fault, List, Text};
+use sp_base::{Fault, List, Memory, Text};
 use sp_cell::{Address, Cell};
 use sp_store::Store;
 use std::sync::Arc;
@@ -45,6 +48,48 @@ pub(crate) enum Interrupt {
     Fault(Fault),
     /// It stops, as its state says.
     Stop,
+}
+
+/// What came of an instruction, told in two bytes: so a call in the midst of a turn answers by registers.
+#[derive(Clone, Copy)]
+pub(crate) enum Outcome {
+    /// The process goes on.
+    On,
+    /// It is due.
+    Pause,
+    /// The instruction has this fault.
+    Fault(Fault),
+    /// It stops, as its state says.
+    Stop,
+    /// Memory was refused.
+    Refused(Memory),
+}
+
+/// The same at length.
+#[inline(always)]
+pub(crate) fn unpacked(outcome: Outcome) -> Result<Option<Interrupt>, Memory>
+    ensures { result ≡ unpacked outcome }
+{
+    match outcome {
+        Outcome::On => Ok(None),
+        Outcome::Pause => Ok(Some(Interrupt::Pause)),
+        Outcome::Fault(fault) => Ok(Some(Interrupt::Fault(fault))),
+        Outcome::Stop => Ok(Some(Interrupt::Stop)),
+        Outcome::Refused(e) => Err(e),
+    }
+}
+
+#[inline(always)]
+pub(crate) fn packed(told: Result<Option<Interrupt>, Memory>) -> Outcome
+    ensures { unpacked result ≡ told }
+{
+    match told {
+        Ok(None) => Outcome::On,
+        Ok(Some(Interrupt::Pause)) => Outcome::Pause,
+        Ok(Some(Interrupt::Fault(fault))) => Outcome::Fault(fault),
+        Ok(Some(Interrupt::Stop)) => Outcome::Stop,
+        Err(e) => Outcome::Refused(e),
+    }
 }
 
 /// Why a turn ended.

@@ -4,11 +4,12 @@ ghost use Rattle.std.specs.Prelude.{◌≡◌, ◌≢◌, ◌+◌, ◌<◌, IfOk
 ghost use Rattle.sp_code.specs.Formals.{HaveFormals};
 ghost use Rattle.sp_code.specs.Machine.{Stuck};
 ghost use Rattle.sp_code.specs.Sound.{HasDistinctBlocks};
+ghost use Rattle.sp_machine.specs.Outcomes.{unpacked};
 ghost use Rattle.sp_machine.specs.Procs.{CameBy, Stays, next_of, stop_by, CanTurn, IsRankedFrom, IsTurnOf};
 
 use crate::arithmetic::Conversion;
 use crate::io::{Item, Shown};
-use crate::state::{Interrupt, State, Stop};
+use crate::state::{Interrupt, Outcome, State, Stop, packed, unpacked};
 use sp_base::{Fault, Limits, Memory};
 use sp_code::{Code, Instr};
 use sp_tree::BinaryOp;
@@ -28,8 +29,59 @@ impl State {
         None
     }
 
-    /// The next instruction: the process goes on, or its turn ends.
+    /// The next instruction: the process goes on, or its turn ends. Those of loops stand in the turn itself.
+    #[inline(always)]
     fn step(&mut self, code: &Code, limits: &Limits) -> Result<Option<Interrupt>, Memory>
+        requires blocks { HasDistinctBlocks code.now.layouts }
+        requires formals { HaveFormals code.now.layouts }
+        requires safe { next_of self.old code.now limits.now ≢ Stuck }
+        ensures came { IfOk result (λ s. CameBy (next_of self.old code.now limits.now) self.old self.new s) }
+        ensures same { Stays self.old self.new }
+    {
+        let Some(instr) = self.fetch(code) else {
+            unreachable!()
+        };
+        match instr {
+            Instr::Const(value) => self.constant(value, code, limits),
+            Instr::Addr { up, var } => self.address(up, var, code, limits),
+            Instr::Deref { up, var } => self.reference(up, var, code, limits),
+            Instr::Index { low, high, size } => self.element(low, high, size, code, limits),
+            Instr::Load => self.load(code, limits),
+            Instr::Store => self.assign(code, limits),
+            Instr::Add => self.operate(BinaryOp::Add, code, limits),
+            Instr::Sub => self.operate(BinaryOp::Sub, code, limits),
+            Instr::Mul => self.operate(BinaryOp::Mul, code, limits),
+            Instr::Div => self.operate(BinaryOp::Div, code, limits),
+            Instr::Mod => self.operate(BinaryOp::Mod, code, limits),
+            Instr::Eq => self.equals(false, code, limits),
+            Instr::Ne => self.equals(true, code, limits),
+            Instr::Lt => self.operate(BinaryOp::Lt, code, limits),
+            Instr::Le => self.operate(BinaryOp::Le, code, limits),
+            Instr::Gt => self.operate(BinaryOp::Gt, code, limits),
+            Instr::Ge => self.operate(BinaryOp::Ge, code, limits),
+            Instr::Jump(to) => self.jump(to, code, limits),
+            Instr::Jumpf(to) => self.jump_false(to, code, limits),
+            Instr::Tick => self.tick(code, limits),
+            Instr::Nextup { var, to } => self.go_on_loop(false, var, to, code, limits),
+            Instr::Nextdown { var, to } => self.go_on_loop(true, var, to, code, limits),
+            _ => unpacked(self.other_step(code, limits)),
+        }
+    }
+
+    /// The next instruction, whichever it is, apart from the turn.
+    #[inline(never)]
+    fn other_step(&mut self, code: &Code, limits: &Limits) -> Outcome
+        requires blocks { HasDistinctBlocks code.now.layouts }
+        requires formals { HaveFormals code.now.layouts }
+        requires safe { next_of self.old code.now limits.now ≢ Stuck }
+        ensures came { IfOk (unpacked result)
+            (λ s. CameBy (next_of self.old code.now limits.now) self.old self.new s) }
+        ensures same { Stays self.old self.new }
+    {
+        packed(self.any_step(code, limits))
+    }
+
+    fn any_step(&mut self, code: &Code, limits: &Limits) -> Result<Option<Interrupt>, Memory>
         requires blocks { HasDistinctBlocks code.now.layouts }
         requires formals { HaveFormals code.now.layouts }
         requires safe { next_of self.old code.now limits.now ≢ Stuck }

@@ -6,9 +6,9 @@ ghost use Rattle.sp_code.specs.declared.instr.Instr.TheVariants as instr;
 ghost use Rattle.sp_machine.specs.Procs.{does, CameBy, Stays};
 
 use crate::stack::Operand;
-use crate::state::{Interrupt, State};
+use crate::state::{Interrupt, State, unpacked};
 use sp_base::{Fault, Limits, Memory};
-use sp_cell::{Address, Cell};
+use sp_cell::{Address, Cell, Spot};
 use sp_code::Code;
 
 /// The offset of an element, where it is a number for a cell.
@@ -29,6 +29,7 @@ fn beyond(offset: u32, place: u64, size: u32) -> Option<u32>
 
 impl State {
     // Pushes the address of a variable.
+    #[inline(always)]
     pub(crate) fn address(
         &mut self,
         up: u32,
@@ -49,6 +50,7 @@ impl State {
     }
 
     // Pushes the address that a variable parameter stands for.
+    #[inline(always)]
     pub(crate) fn reference(
         &mut self,
         up: u32,
@@ -69,6 +71,7 @@ impl State {
     }
 
     // Selects an element of an array.
+    #[inline(always)]
     pub(crate) fn element(
         &mut self,
         low: i64,
@@ -87,7 +90,11 @@ impl State {
             Some(n) => match self.stack.pop_pointer() {
                 Some(at) => {
                     if n < low || high < n {
-                        return self.fail_both(Operand::Pointer(at), Operand::Number(n), Fault::F1);
+                        let Address {
+                            spot: Spot { frame, variable },
+                            offset,
+                        } = at;
+                        return unpacked(self.fail_element(frame, variable, offset, n, Fault::F1));
                     }
                     match beyond(at.offset, n.abs_diff(low), size) {
                         Some(offset) => self.push_on(Operand::Pointer(Address {
@@ -129,6 +136,7 @@ impl State {
     }
 
     // The ordinal at an address.
+    #[inline(always)]
     pub(crate) fn load(&mut self, code: &Code, limits: &Limits) -> Result<Option<Interrupt>, Memory>
         requires next { self.old.pc + 1 < 4294967296 }
         requires safe { does (Some instr.Load) self.old code.now limits.now ≢ Stuck }
@@ -143,7 +151,13 @@ impl State {
                     self.pc += 1;
                     Ok(None)
                 }
-                Cell::Undefined | Cell::Channel(_) => self.fail(Operand::Pointer(at), Fault::F4),
+                Cell::Undefined | Cell::Channel(_) => {
+                    let Address {
+                        spot: Spot { frame, variable },
+                        offset,
+                    } = at;
+                    unpacked(self.fail_address(frame, variable, offset, Fault::F4))
+                },
             },
             None => unreachable!(),
         }
@@ -171,6 +185,7 @@ impl State {
     }
 
     // Assigns an ordinal or a channel.
+    #[inline(always)]
     pub(crate) fn assign(
         &mut self,
         code: &Code,
