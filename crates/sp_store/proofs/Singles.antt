@@ -3,7 +3,7 @@ use Rattle.std.proofs.Common.{◌≡◌, ◌≢◌, ℕ, zero, suc, ◌+◌, ◌
 use Rattle.std.specs.Prelude.{slice_index_or, slice_set}
 use Rattle.sp_cell.specs.declared.cell.Cell.{Cell}
 use Rattle.sp_cell.specs.Lists.{overwritten}
-use Rattle.sp_cell.specs.Map.{Content, Own}
+use Rattle.sp_cell.specs.Map.{Own}
 
 pub read_single : (c d : Cell) (k : ℕ) → k < 1 → c ≡ slice_index_or (c ∷ []) k d
 read_single c d zero h = refl

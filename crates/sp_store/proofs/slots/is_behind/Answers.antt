@@ -1,4 +1,4 @@
-use Rattle.std.proofs.Common.{◌≡◌, ◌-◌, ◌∙◌, ap, sym, arith, length}
+use Rattle.std.proofs.Common.{◌-◌, ◌∙◌, ap, sym, arith, length}
 use Rattle.std.proofs.lemmas.List.{get_or_default}
 use Rattle.sp_cell.specs.Map.{spot_cmp}
 use Rattle.sp_store.proofs.Places.{behind_all}
