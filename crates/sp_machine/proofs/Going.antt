@@ -1,20 +1,29 @@
 -- From instructions to a turn.
+use Rattle.std.proofs.Common.{◌+◌, ◌∷◌, Option, Result, Ok, Err, IfOk, inl, inr, arith}
+use Rattle.std.specs.Prelude.{slice_get, IsTrue}
 use Rattle.std.proofs.Common.{◌≡◌, ◌≢◌, ℕ, zero, suc, ◌<◌, Bool, true, Some, None, refl, sym, ap, ◌∙◌, subst}
 use Rattle.sp_base.specs.declared.fault.Fault.{Fault}
+use Rattle.sp_base.specs.declared.halt.Memory.{Memory as Refused}
 use Rattle.sp_base.specs.declared.limits.Limits.{Limits}
+use Rattle.sp_cell.specs.declared.spot.Address.{Address}
 use Rattle.sp_cell.specs.Map.{Plain}
 use Rattle.sp_code.specs.declared.code.Parts.{Parts}
+use Rattle.sp_code.specs.declared.instr.Instr.{Instr}
+use Rattle.sp_code.specs.declared.instr.Instr.TheVariants as instr
 use Rattle.sp_code.specs.Machine as m
 use Rattle.sp_code.specs.Turns.{Turn, Stopped, Faulted, ComesIn, EndsSo, Runs, Begins, begins, IsTurn, IsSafe}
-use Rattle.sp_code.specs.Memory.{Memory, memory, Setting}
+use Rattle.sp_code.specs.Memory.{Memory, memory, Setting, addr_in, frames_up}
 use Rattle.sp_code.specs.PlainStore.{plain}
 use Rattle.sp_code.specs.Sound.{run_of}
 use Rattle.sp_code.specs.Budgets.{left_by, ticks_left}
 use Rattle.sp_code.proofs.Falls.{falls}
 use Rattle.sp_code.proofs.Spending.{spends}
 use Rattle.sp_machine.specs.declared.state.State.{State}
+use Rattle.sp_machine.specs.declared.state.Interrupt.{Interrupt}
 use Rattle.sp_machine.specs.declared.state.Stop.{Stop}
 use Rattle.sp_machine.specs.declared.state.Stop.TheVariants as stop
+use Rattle.sp_machine.specs.Procs.{from, IsSafeThen, WentTwice, Proceeded, CameBy, does, memory_of}
+use Rattle.sp_machine.specs.Entries.{entries_of}
 use Rattle.sp_machine.specs.Procs.{config_of, setting_of, next_of, Came, StopIs, FaultIs, IsRankedFrom, IsTurnOf}
 
 module _ (g : Setting) where
@@ -97,10 +106,25 @@ module _ (x : State) (code : Parts) (lim : Limits) (p : State) (input : p.input 
   same_next : next_of p code lim ≡ m.one (memory plain (setting_of x code lim)) code (config_of p)
   same_next = ap (λ (g : Setting). m.one (memory plain g) code (config_of p)) (ap (λ i. run_of code i.value lim) input)
 
+  same_from : (d : m.Config (Memory Plain))
+      → from p code lim d ≡ m.one (memory plain (setting_of x code lim)) code d
+  same_from d = ap (λ (g : Setting). m.one (memory plain g) code d) (ap (λ i. run_of code i.value lim) input)
+
   pub safe_next : (n : ℕ) → IsSafe (memory plain (setting_of x code lim)) code (config_of x)
       → begins (memory plain (setting_of x code lim)) code (config_of x) ≡ true
       → ComesIn (memory plain (setting_of x code lim)) code n (config_of x) (config_of p) → next_of p code lim ≢ m.Stuck
   safe_next n safe b h e = safe b (config_of p) (record { steps = n; by = h }) (sym same_next ∙ e)
+
+  -- where it goes on by two instructions
+  to_both : (n : ℕ) → ComesIn (memory plain (setting_of x code lim)) code n (config_of x) (config_of p)
+      → (d : m.Config (Memory Plain)) → next_of p code lim ≡ m.Goes d
+      → ComesIn (memory plain (setting_of x code lim)) code (suc n) (config_of x) d
+  to_both n h d e = comes_more (setting_of x code lim) n (config_of x) (config_of p) d h (sym same_next ∙ e)
+
+  pub safe_both : (n : ℕ) → IsSafe (memory plain (setting_of x code lim)) code (config_of x)
+      → begins (memory plain (setting_of x code lim)) code (config_of x) ≡ true
+      → ComesIn (memory plain (setting_of x code lim)) code n (config_of x) (config_of p) → IsSafeThen p code lim
+  safe_both n safe b h d e s = safe b d (record { steps = suc n; by = to_both n h d e }) (sym (same_from d) ∙ s)
 
   module _ (q : State) (n : ℕ) (safe : IsSafe (memory plain (setting_of x code lim)) code (config_of x))
       (b : begins (memory plain (setting_of x code lim)) code (config_of x) ≡ true)
@@ -120,6 +144,24 @@ module _ (x : State) (code : Parts) (lim : Limits) (p : State) (input : p.input 
         (spends plain (setting_of x code lim)) (config_of p) (config_of q)
         (ranked (config_of p) (record { steps = n; by = h })) (goes_to c)
 
+    pub on_both : WentTwice p code lim q
+        → ComesIn (memory plain (setting_of x code lim)) code (suc (suc n)) (config_of x) (config_of q)
+    on_both w = comes_more (setting_of x code lim) (suc n) (config_of x) w.0 (config_of q) (to_both n h w.0 w.1.0)
+        (sym (same_from w.0) ∙ w.1.1)
+
+    pub smaller_both : IsRankedFrom x code lim → WentTwice p code lim q
+        → left_by code.instrs (ticks_left (setting_of x code lim)) (config_of q)
+        < left_by code.instrs (ticks_left (setting_of x code lim)) (config_of p)
+    smaller_both ranked w = omega (
+      arith,
+      falls (memory plain (setting_of x code lim)) code (ticks_left (setting_of x code lim))
+          (spends plain (setting_of x code lim)) (config_of p) w.0
+          (ranked (config_of p) (record { steps = n; by = h })) (sym same_next ∙ w.1.0),
+      falls (memory plain (setting_of x code lim)) code (ticks_left (setting_of x code lim))
+          (spends plain (setting_of x code lim)) w.0 (config_of q)
+          (ranked w.0 (record { steps = suc n; by = to_both n h w.0 w.1.0 })) (sym (same_from w.0) ∙ w.1.1),
+    )
+
     pub ends_it : (s : Stop) → Came (next_of p code lim) p q (Some s) → IsTurnOf x code lim q s
     ends_it s c = stopped (setting_of x code lim) (config_of x) p q n b h x code lim refl refl s (next_of p code lim)
         (sym same_next) (safe_next n safe b h) c
@@ -135,3 +177,43 @@ turned_with x code lim q t stop.End h = h
 turned_with x code lim q t stop.Pause h = h
 turned_with x code lim q t (stop.Fault z) h = h
 turned_with x code lim q t stop.Memory h = h
+
+-- one instruction came so, whatever it was
+pub once : (p : State) (code : Parts) (lim : Limits) (q : State) (r : Result (Option Interrupt) Refused)
+    → IfOk r (λ s. CameBy (next_of p code lim) p q s) → IfOk r (λ s. Proceeded p code lim q s)
+once p code lim q (Ok s) h = inl h
+once p code lim q (Err e) h = tt
+
+-- only one instruction interrupts
+pub came_some : (p : State) (code : Parts) (lim : Limits) (q : State) (i : Interrupt)
+    → Proceeded p code lim q (Some i) → CameBy (next_of p code lim) p q (Some i)
+came_some p code lim q i (inl h) = h
+came_some p code lim q i (inr h) = absurd (none_some h.0)
+  where
+    none_some : Some i ≡ None → ⊥
+    none_some e = cc
+
+-- an address pushed, and the ordinal there loaded
+module _ (p : State) (code : Parts) (lim : Limits) (a : Address) where
+  abbrev pub addressed : m.Config (Memory Plain)
+  addressed = m.At (p.pc + 1) (m.Pointer a ∷ entries_of p.stack) (memory_of p)
+
+  abbrev pub loads : Option Instr → m.One (Memory Plain)
+  loads o = m.instruction (memory plain (setting_of p code lim)) code o (p.pc + 1) (m.Pointer a ∷ entries_of p.stack)
+      (memory_of p)
+
+  pub at_address : (up var : ℕ) → slice_get code.instrs p.pc ≡ Some (instr.Addr up var)
+      → Some a ≡ addr_in (frames_up up p.frames) var → next_of p code lim ≡ m.Goes addressed
+  at_address up var e f = ap (λ o. does o p code lim) e
+      ∙ ap (λ b. m.there b (λ c. m.Goes (m.At (p.pc + 1) (m.Pointer c ∷ entries_of p.stack) (memory_of p)))) (sym f)
+
+  pub safe_load : IsSafeThen p code lim → next_of p code lim ≡ m.Goes addressed
+      → slice_get code.instrs (p.pc + 1) ≡ Some instr.Load → loads (Some instr.Load) ≢ m.Stuck
+  safe_load safe e f s = safe addressed e (ap loads f ∙ s)
+
+  pub loaded_both : (q : State) (r : Result Bool Refused) → next_of p code lim ≡ m.Goes addressed
+      → slice_get code.instrs (p.pc + 1) ≡ Some instr.Load
+      → IfOk r (λ b. IsTrue b → loads (Some instr.Load) ≡ m.Goes (config_of q))
+      → IfOk r (λ b. IsTrue b → WentTwice p code lim q)
+  loaded_both q (Ok b) e f g = λ t. (addressed, (e, ap loads f ∙ g t))
+  loaded_both q (Err x) e f g = tt

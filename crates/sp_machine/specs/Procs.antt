@@ -1,7 +1,7 @@
 -- None of this belongs to what the program promises: it is for contracts between crates.
 -- A process in memory as the definitions see it, and what one instruction and one turn of it do. Each instruction's
 -- contract here is `Came` of the definition's instruction, and the kernel and the runner cite the turn.
-use Rattle.std.specs.Prelude.{◌≡◌, ℕ, ◌+◌, ◌≤◌, ℤ, pos, ◌+ℤ◌, ◌≤ℤ◌, List, Option, Some, None, Bool, not, if◌then◌else◌}
+use Rattle.std.specs.Prelude.{◌≡◌, ◌≢◌, ◌⊎◌, ℕ, ◌+◌, ◌≤◌, ℤ, pos, ◌+ℤ◌, ◌≤ℤ◌, List, Option, Some, None, Bool, not, if◌then◌else◌}
 use Rattle.std.specs.Prelude.{slice_get}
 use Rattle.sp_base.specs.declared.fault.Fault.{Fault}
 use Rattle.sp_base.specs.declared.limits.Limits.{Limits}
@@ -120,6 +120,23 @@ stop_by q (Some interrupt.Stop) = Some q.stopped
 -- so told by an interrupt
 abbrev pub CameBy : m.One (Memory Plain) → State → State → Option Interrupt → Type 0
 CameBy o p q r = Came o p q (stop_by q r)
+
+-- the instruction that a process would find at another place
+abbrev pub from : State → Parts → Limits → m.Config (Memory Plain) → m.One (Memory Plain)
+from p code lim d = m.one (memory plain (setting_of p code lim)) code d
+
+-- the instruction behind the next one lacks nothing either
+abbrev pub IsSafeThen : State → Parts → Limits → Type 0
+IsSafeThen p code lim = (d : m.Config (Memory Plain)) → next_of p code lim ≡ m.Goes d → from p code lim d ≢ m.Stuck
+
+-- the process went on by two instructions
+abbrev pub WentTwice : State → Parts → Limits → State → Type 0
+WentTwice p code lim q = (d : m.Config (Memory Plain))
+    × ((next_of p code lim ≡ m.Goes d) × (from p code lim d ≡ m.Goes (config_of q)))
+
+-- so came of the next instruction, or the process went on by two
+abbrev pub Proceeded : State → Parts → Limits → State → Option Interrupt → Type 0
+Proceeded p code lim q s = CameBy (next_of p code lim) p q s ⊎ ((s ≡ None) × WentTwice p code lim q)
 
 -- ---- a turn
 

@@ -21,7 +21,8 @@
 //!   on hand nothing about. How an instruction ends: `src/steps.rt`. `src/turn.rt` joins them to a turn, and
 //!   `proofs/Going` leads from instructions to a turn.
 //! - The instructions that loops are made of stand in the turn itself, and what they do seldom, as a fault, stands
-//!   apart and tells it by an `Outcome`, so that the turn keeps nothing in memory between two instructions.
+//!   apart and tells it by an `Outcome`, so that the turn keeps nothing in memory between two instructions. A
+//!   variable whose address is pushed and then loaded is pushed at once (`proceed`).
 //! - After want of memory nothing is said of a process but that it keeps its number and its input.
 //!
 //! To change:

@@ -1,32 +1,48 @@
 //! A turn of a process: its instructions one after another, up to the next stop.
 
-ghost use Rattle.std.specs.Prelude.{◌≡◌, ◌≢◌, ◌+◌, ◌<◌, IfOk, IfSome, Some, slice_get};
+ghost use Rattle.std.specs.Prelude.{◌≡◌, ◌≢◌, ◌+◌, ◌<◌, ◌∷◌, IfOk, IfSome, IsTrue, IsFalse, Some, slice_get};
 ghost use Rattle.sp_code.specs.Formals.{HaveFormals};
-ghost use Rattle.sp_code.specs.Machine.{Stuck};
+ghost use Rattle.sp_code.specs.Machine.{Stuck, Goes, Pointer, instruction};
+ghost use Rattle.sp_code.specs.Memory.{memory};
+ghost use Rattle.sp_code.specs.PlainStore.{plain};
+ghost use Rattle.sp_code.specs.declared.instr.Instr.TheVariants as instr;
 ghost use Rattle.sp_code.specs.Sound.{HasDistinctBlocks};
+ghost use Rattle.sp_machine.specs.Entries.{entries_of};
 ghost use Rattle.sp_machine.specs.Outcomes.{unpacked};
 ghost use Rattle.sp_machine.specs.Procs.{CameBy, Stays, next_of, stop_by, CanTurn, IsRankedFrom, IsTurnOf};
+ghost use Rattle.sp_machine.specs.Procs.{IsSafeThen, WentTwice, Proceeded, config_of, memory_of, setting_of};
 
 use crate::arithmetic::Conversion;
 use crate::io::{Item, Shown};
+use crate::stack::Operand;
 use crate::state::{Interrupt, Outcome, State, Stop, packed, unpacked};
 use sp_base::{Fault, Limits, Memory};
+use sp_cell::{Address, Cell};
 use sp_code::{Code, Instr};
 use sp_tree::BinaryOp;
 use std::mem;
 
+// The instruction of this number.
+#[inline(always)]
+fn instruction_at(code: &Code, at: usize) -> Option<Instr>
+    ensures value { result ≡ slice_get code.now.instrs at }
+    ensures room { IfSome result (λ _. at + 1 < 4294967296) }
+{
+    let instrs = &code.parts().instrs;
+    if at < instrs.len() {
+        return instrs.get(at).copied();
+    }
+    None
+}
+
 impl State {
     /// The instruction that comes next.
+    #[inline(always)]
     fn fetch(&self, code: &Code) -> Option<Instr>
         ensures value { result ≡ slice_get code.now.instrs self.now.pc }
         ensures room { IfSome result (λ _. self.now.pc + 1 < 4294967296) }
     {
-        let instrs = &code.parts().instrs;
-        let at = self.pc as usize;
-        if at < instrs.len() {
-            return instrs.get(at).copied();
-        }
-        None
+        instruction_at(code, self.pc as usize)
     }
 
     /// The next instruction: the process goes on, or its turn ends. Those of loops stand in the turn itself.
@@ -158,6 +174,81 @@ impl State {
         }
     }
 
+    /// Pushes the ordinal at an address that is loaded as soon as it is pushed. `false` where there is none; then nothing
+    /// is done.
+    #[inline(always)]
+    fn push_at(&mut self, at: Address, code: &Code, limits: &Limits) -> Result<bool, Memory>
+        requires next { self.old.pc + 1 + 1 < 4294967296 }
+        requires safe { instruction (memory plain (setting_of self.old code.now limits.now)) code.now (Some instr.Load)
+            (self.old.pc + 1)
+            (Pointer at ∷ entries_of self.old.stack) (memory_of self.old) ≢ Stuck }
+        ensures done { IfOk result (λ b. IsTrue b
+            → instruction (memory plain (setting_of self.old code.now limits.now)) code.now (Some instr.Load)
+            (self.old.pc + 1) (Pointer at ∷ entries_of self.old.stack) (memory_of self.old)
+            ≡ Goes (config_of self.new)) }
+        ensures not { IfOk result (λ b. IsFalse b → self.new ≡ self.old) }
+        ensures same { Stays self.old self.new }
+    {
+        match self.store.load(at) {
+            Cell::Ordinal(value) => {
+                self.stack.push(Operand::Number(value))?;
+                self.pc += 1;
+                self.pc += 1;
+                Ok(true)
+            }
+            Cell::Undefined | Cell::Channel(_) => Ok(false),
+        }
+    }
+
+    /// Pushes what a variable holds, where its address is pushed next and loaded then. Else nothing is done.
+    #[tactic(auto, using(crate::proofs::Going::at_address, crate::proofs::Going::safe_load, crate::proofs::Going::loaded_both))]
+    #[inline(always)]
+    fn push_loaded(
+        &mut self,
+        up: u32,
+        var: u32,
+        code: &Code,
+        limits: &Limits,
+    ) -> Result<bool, Memory>
+        requires next { slice_get code.now.instrs self.old.pc ≡ Some (instr.Addr up var) }
+        requires safe { next_of self.old code.now limits.now ≢ Stuck }
+        requires then { IsSafeThen self.old code.now limits.now }
+        ensures done { IfOk result (λ b. IsTrue b → WentTwice self.old code.now limits.now self.new) }
+        ensures not { IfOk result (λ b. IsFalse b → self.new ≡ self.old) }
+        ensures same { Stays self.old self.new }
+    {
+        match instruction_at(code, self.pc as usize + 1) {
+            Some(Instr::Load) => {}
+            _ => return Ok(false),
+        }
+        match self.frames.address(up, var) {
+            Some(at) => self.push_at(at, code, limits),
+            None => unreachable!(),
+        }
+    }
+
+    /// The next instruction, or two of them at once.
+    #[tactic(auto, using(crate::proofs::Going::once))]
+    #[inline(always)]
+    fn proceed(&mut self, code: &Code, limits: &Limits) -> Result<Option<Interrupt>, Memory>
+        requires blocks { HasDistinctBlocks code.now.layouts }
+        requires formals { HaveFormals code.now.layouts }
+        requires safe { next_of self.old code.now limits.now ≢ Stuck }
+        requires then { IsSafeThen self.old code.now limits.now }
+        ensures came { IfOk result (λ s. Proceeded self.old code.now limits.now self.new s) }
+        ensures same { Stays self.old self.new }
+    {
+        match self.fetch(code) {
+            Some(Instr::Addr { up, var }) => {
+                if self.push_loaded(up, var, code, limits)? {
+                    return Ok(None);
+                }
+            }
+            _ => {}
+        }
+        self.step(code, limits)
+    }
+
     /// Why the turn ends that an instruction interrupted.
     fn stop_by(&mut self, interrupt: Interrupt) -> Stop
         ensures stop { stop_by self.old (Some interrupt) ≡ Some result }
@@ -183,7 +274,7 @@ impl State {
             return Stop::Fault(Fault::F12);
         }
         loop {
-            match self.step(code, limits) {
+            match self.proceed(code, limits) {
                 Err(_) => return Stop::Memory,
                 Ok(Some(interrupt)) => return self.stop_by(interrupt),
                 Ok(None) => {}
