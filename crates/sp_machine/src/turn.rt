@@ -174,8 +174,8 @@ impl State {
         }
     }
 
-    /// Pushes the ordinal at an address that is loaded as soon as it is pushed. `false` where there is none; then nothing
-    /// is done.
+    /// Pushes the ordinal at an address that is loaded as soon as it is pushed. `false` where there is none; then
+    /// nothing is done.
     #[inline(always)]
     fn push_at(&mut self, at: Address, code: &Code, limits: &Limits) -> Result<bool, Memory>
         requires next { self.old.pc + 1 + 1 < 4294967296 }

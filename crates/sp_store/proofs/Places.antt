@@ -252,7 +252,8 @@ module _ (ss : List Spot) (es : List Entry) (h : IsStrictlySortedBy spot_cmp ss)
 
   pub is_gap_behind : ((k : ℕ) (d : Spot) → k < length ss → spot_cmp (get_or ss k d) q ≡ Less)
       → IsGap ss es q (length ss)
-  is_gap_behind f = is_gap (length ss) (omega arith) (λ _. (λ k d m b. f k d b, λ k d m b. absurd (omega (arith, m, b))))
+  is_gap_behind f = is_gap (length ss) (omega arith)
+      (λ _. (λ k d m b. f k d b, λ k d m b. absurd (omega (arith, m, b))))
 
   pub searched : (r : Result ℕ ℕ) → IsSearchInRange r (length ss) → IsBinarySearchResult (λ y. spot_cmp y q) ss r
       → record { found : IfOk r (IsPlace ss es q); absent : IfErr r (IsGap ss es q) }

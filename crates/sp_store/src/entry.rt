@@ -1,6 +1,7 @@
 //! What stands at one spot, and the work on it.
 
-ghost use Rattle.std.specs.Prelude.{◌≡◌, ◌+◌, ◌<◌, ◌≤◌, ◌++◌, IsOk, OnErr, OnOk, IfOk, Some, length, replicate, slice_set};
+ghost use Rattle.std.specs.Prelude.{◌≡◌, ◌+◌, ◌<◌, ◌≤◌, ◌++◌, IsOk, OnErr, OnOk, IfOk, Some, length};
+ghost use Rattle.std.specs.Prelude.{replicate, slice_set};
 ghost use Rattle.sp_cell.specs.Lists.{overwritten};
 ghost use Rattle.sp_cell.specs.declared.cell.Cell.TheVariants.{Undefined};
 ghost use Rattle.sp_cell.specs.Map.{IsOwn, IsPiece, cells_of, IsOutput, bytes_of, Own, Shared, Output as Text};
