@@ -17,6 +17,7 @@ use crate::rules::answer_rule;
 use crate::statements::type_statement;
 use crate::tables::Tables;
 use crate::tabling::answer_variable;
+use crate::take;
 use crate::typed::Walked;
 use sp_base::{Halt, List, Place};
 use sp_tree::{Block, Found, NamedAnswer, NamedBlock, Variable, lesser};
@@ -54,7 +55,7 @@ fn type_block(
         at,
     } = b;
     let first = check_answer(t, answer, first);
-    let body = type_statement(body, alloc, t, first)?;
+    let body = take!(type_statement(body, alloc, t, first));
     Ok(Walked {
         tree: Block {
             name,
@@ -95,10 +96,10 @@ pub fn type_blocks(
             return Err(Halt::Memory);
         };
         let framed = lesser(first, check_frame(b.at, numbers, cells, n, variables));
-        let w = type_block(b, alloc, t, start, framed)?;
+        let w = take!(type_block(b, alloc, t, start, framed));
         out.push(w.tree)?;
         first = w.first;
-        n = sum(n, 1)?;
+        n = take!(sum(n, 1));
     }
     Ok(Walked {
         tree: List::of(out),

@@ -18,6 +18,7 @@ ghost use Rattle.sp_types.specs.CheckedTree.{written_text, written_form, written
 use crate::checks::{channel_value, read_value, type_width, write_value};
 use crate::expressions::place_of;
 use crate::tables::Tables;
+use crate::take;
 use crate::typed::Walked;
 use crate::values::char_of;
 use sp_base::{Halt, List, Place, Text};
@@ -54,7 +55,7 @@ fn type_read(alloc: Global, t: &Tables, a: NamedArg, first: Found) -> Result<Wal
         (read_first t.now (argument_of a) first) }
 {
     let NamedArg { value, width: _ } = a;
-    let e = read_value(alloc, t, value, first)?;
+    let e = take!(read_value(alloc, t, value, first));
     Ok(Walked {
         first: e.first,
         tree: Form::ReadValue(target(alloc, e.tree)),
@@ -74,7 +75,7 @@ pub fn type_reads(
     let mut out = Vec::new(alloc);
     let mut first = first;
     for x in xs.into_vec() {
-        let y = type_read(alloc, t, x, first)?;
+        let y = take!(type_read(alloc, t, x, first));
         first = y.first;
         out.push(y.tree)?;
     }
@@ -89,7 +90,7 @@ fn type_open(alloc: Global, t: &Tables, a: NamedArg, first: Found) -> Result<Wal
         (channel_first t.now (argument_of a) first) }
 {
     let NamedArg { value, width: _ } = a;
-    let e = channel_value(alloc, t, value, first)?;
+    let e = take!(channel_value(alloc, t, value, first));
     Ok(Walked {
         first: e.first,
         tree: Form::Open(target(alloc, e.tree)),
@@ -109,7 +110,7 @@ pub fn type_opens(
     let mut out = Vec::new(alloc);
     let mut first = first;
     for x in xs.into_vec() {
-        let y = type_open(alloc, t, x, first)?;
+        let y = take!(type_open(alloc, t, x, first));
         first = y.first;
         out.push(y.tree)?;
     }
@@ -132,7 +133,7 @@ fn type_width_of(
     match w {
         None => Ok(Walked { tree: None, first }),
         Some(e) => {
-            let e = type_width(alloc, t, e, at, first)?;
+            let e = take!(type_width(alloc, t, e, at, first));
             Ok(Walked {
                 first: e.first,
                 tree: Some(e.tree),
@@ -169,7 +170,7 @@ fn written_value(
         (at_node (write_rule (place (expression_of e)) (expression_kind t.now (expression_of e)))
         (expression_first t.now (expression_of e) first)) }
 {
-    let e = write_value(alloc, t, e, first)?;
+    let e = take!(write_value(alloc, t, e, first));
     Ok(Walked {
         first: e.first,
         tree: Form::WriteValue(e.tree, w),
@@ -253,7 +254,7 @@ fn type_write(alloc: Global, t: &Tables, a: NamedArg, first: Found) -> Result<Wa
 {
     let NamedArg { value, width } = a;
     let at = place_of(&value);
-    let w = type_width_of(alloc, t, width, at, first)?;
+    let w = take!(type_width_of(alloc, t, width, at, first));
     type_written(alloc, t, value, w.tree, w.first)
 }
 
@@ -270,7 +271,7 @@ pub fn type_writes(
     let mut out = Vec::new(alloc);
     let mut first = first;
     for x in xs.into_vec() {
-        let y = type_write(alloc, t, x, first)?;
+        let y = take!(type_write(alloc, t, x, first));
         first = y.first;
         out.push(y.tree)?;
     }

@@ -18,6 +18,7 @@ use crate::rules::{
     selector_rule, width_rule, write_rule,
 };
 use crate::tables::Tables;
+use crate::take;
 use crate::typed::Typed;
 use sp_base::{Halt, Place};
 use sp_tree::{Expr, Found, NamedExpr, lesser};
@@ -34,7 +35,7 @@ pub fn type_condition(
         (expression_kind t.now (expression_of e)) (condition_first t.now (expression_of e) first) }
 {
     let at = place_of(&e);
-    let e = type_expression(alloc, t, e, first)?;
+    let e = take!(type_expression(alloc, t, e, first));
     Ok(Typed {
         first: lesser(e.first, condition_rule(at, e.kind)),
         kind: e.kind,
@@ -54,7 +55,7 @@ pub fn type_limit(
         (expression_kind t.now (expression_of e)) (limit_first t.now limit (expression_of e) first) }
 {
     let at = place_of(&e);
-    let e = type_expression(alloc, t, e, first)?;
+    let e = take!(type_expression(alloc, t, e, first));
     Ok(Typed {
         first: lesser(e.first, limit_rule(at, limit, e.kind)),
         kind: e.kind,
@@ -75,7 +76,7 @@ pub fn type_range(
         (expression_first t.now (expression_of e) first)) }
 {
     let at = place_of(&e);
-    let e = type_expression(alloc, t, e, first)?;
+    let e = take!(type_expression(alloc, t, e, first));
     Ok(Typed {
         first: lesser(e.first, range_rule(t, at, e.kind)),
         kind: e.kind,
@@ -91,7 +92,7 @@ pub fn type_case(alloc: Global, t: &Tables, e: NamedExpr, first: Found) -> Resul
         (expression_first t.now (expression_of e) first)) }
 {
     let at = place_of(&e);
-    let e = type_expression(alloc, t, e, first)?;
+    let e = take!(type_expression(alloc, t, e, first));
     Ok(Typed {
         first: lesser(e.first, selector_rule(t, at, e.kind)),
         kind: e.kind,
@@ -113,7 +114,7 @@ pub fn type_assigned(
         (expression_first t.now (expression_of e) first)) }
 {
     let at = place_of(&e);
-    let e = type_expression(alloc, t, e, first)?;
+    let e = take!(type_expression(alloc, t, e, first));
     Ok(Typed {
         first: lesser(e.first, assign_rule(at, v, e.kind)),
         kind: e.kind,
@@ -134,7 +135,7 @@ pub fn read_value(
         (expression_first t.now (expression_of e) first)) }
 {
     let at = place_of(&e);
-    let e = type_expression(alloc, t, e, first)?;
+    let e = take!(type_expression(alloc, t, e, first));
     Ok(Typed {
         first: lesser(e.first, read_rule(at, e.kind)),
         kind: e.kind,
@@ -155,7 +156,7 @@ pub fn write_value(
         (expression_first t.now (expression_of e) first)) }
 {
     let at = place_of(&e);
-    let e = type_expression(alloc, t, e, first)?;
+    let e = take!(type_expression(alloc, t, e, first));
     Ok(Typed {
         first: lesser(e.first, write_rule(at, e.kind)),
         kind: e.kind,
@@ -176,7 +177,7 @@ pub fn channel_value(
         (expression_first t.now (expression_of e) first)) }
 {
     let at = place_of(&e);
-    let e = type_expression(alloc, t, e, first)?;
+    let e = take!(type_expression(alloc, t, e, first));
     Ok(Typed {
         first: lesser(e.first, channel_rule(t, at, e.kind)),
         kind: e.kind,
@@ -198,7 +199,7 @@ pub fn message_value(
         (expression_first t.now (expression_of e) first)) }
 {
     let at = place_of(&e);
-    let e = type_expression(alloc, t, e, first)?;
+    let e = take!(type_expression(alloc, t, e, first));
     Ok(Typed {
         first: lesser(e.first, message_rule(t, at, channel, e.kind)),
         kind: e.kind,
@@ -219,7 +220,7 @@ pub fn type_width(
         (at_node (width_rule at (expression_kind t.now (expression_of e)))
         (expression_first t.now (expression_of e) first)) }
 {
-    let e = type_expression(alloc, t, e, first)?;
+    let e = take!(type_expression(alloc, t, e, first));
     Ok(Typed {
         first: lesser(e.first, width_rule(at, e.kind)),
         kind: e.kind,

@@ -11,6 +11,7 @@ ghost use Rattle.sp_types.specs.CheckedTree.{constant_numbers};
 use crate::rules::choice_rule;
 use crate::seen::Seen;
 use crate::tables::{Ordinal, Tables, ordinal_kind};
+use crate::take;
 use crate::values::number_or;
 use crate::written::{const_rule, const_value};
 use sp_base::{Halt, List, Place, Rule};
@@ -48,8 +49,8 @@ fn check_choice(
     ensures { Answers result (Ok (choice_first t.now k before.now c.now first)) }
 {
     let known = t.constants.items();
-    let long = const_rule(known, c)?;
-    let o = const_value(known, c)?;
+    let long = take!(const_rule(known, c));
+    let o = take!(const_value(known, c));
     let other = choice_rule(c.at, k, ordinal_kind(o));
     let first = lesser(lesser(first, long), other);
     Ok(lesser(first, repeat_rule(c.at, before, o)))
@@ -68,9 +69,9 @@ fn check_constants(
     let mut before = before;
     let mut first = first;
     for c in cs {
-        first = check_choice(t, k, &before, c, first)?;
-        let o = const_value(t.constants.items(), c)?;
-        before = with_constant(o, before)?;
+        first = take!(check_choice(t, k, &before, c, first));
+        let o = take!(const_value(t.constants.items(), c));
+        before = take!(with_constant(o, before));
     }
     Ok((before, first))
 }
@@ -88,7 +89,7 @@ pub fn check_choices(
     let mut before = Seen::new(alloc);
     let mut first = first;
     for x in xs {
-        let (seen, found) = check_constants(t, k, before, x.constants.items(), first)?;
+        let (seen, found) = take!(check_constants(t, k, before, x.constants.items(), first));
         before = seen;
         first = found;
     }
@@ -101,7 +102,7 @@ pub fn constant_numbers(alloc: Global, t: &Tables, cs: &[NamedConst]) -> Result<
 {
     let mut out = Vec::new(alloc);
     for c in cs {
-        let o = const_value(t.constants.items(), c)?;
+        let o = take!(const_value(t.constants.items(), c));
         out.push(number_or(0, o))?;
     }
     Ok(List::of(out))

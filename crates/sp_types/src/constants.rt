@@ -6,6 +6,7 @@ ghost use Rattle.sp_types.specs.Tables.{constant_by, constants_from};
 
 use crate::numbers::type_number;
 use crate::tables::Ordinal;
+use crate::take;
 use crate::written::const_value;
 use sp_base::{Halt, List};
 use sp_tree::NamedConstant;
@@ -37,7 +38,7 @@ pub fn constants_of(
 {
     let mut known = Vec::new(alloc);
     for c in constants {
-        let o = constant_by(numbers, known.as_slice(), c)?;
+        let o = take!(constant_by(numbers, known.as_slice(), c));
         known.push(o)?;
     }
     Ok(List::of(known))

@@ -5,6 +5,7 @@ ghost use Rattle.sp_tree.specs.Found.{Answers};
 ghost use Rattle.sp_types.specs.Tables.{number_by, next_by, numbers_from, type_number};
 
 use crate::counting::sum;
+use crate::take;
 use sp_base::{Halt, List};
 use sp_tree::{NamedKind, NamedKindForm};
 use std::alloc::Global;
@@ -47,7 +48,7 @@ pub fn numbers_of(alloc: Global, kinds: &[NamedKind]) -> Result<List<u32>, Halt>
     for k in kinds {
         let number = number_by(known.as_slice(), next, &k.form);
         known.push(number)?;
-        next = next_by(next, &k.form)?;
+        next = take!(next_by(next, &k.form));
     }
     Ok(List::of(known))
 }

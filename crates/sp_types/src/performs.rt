@@ -22,6 +22,7 @@ use crate::checks::{channel_value, message_value, type_assigned};
 use crate::counting::{parts_count, sum};
 use crate::expressions::{type_actuals, type_variable};
 use crate::tables::Tables;
+use crate::take;
 use crate::typed::{Typed, Walked};
 use sp_base::{Halt, List, Place};
 use sp_tree::{Expr, Form, Found, NamedArg, NamedExpr, NamedVar, StandardProcedure, Stmt, Var};
@@ -41,8 +42,8 @@ pub fn type_assign(
         (checked_statement_form t.now at (Assign (variable_of v) (expression_of e)))
         (statement_form_first t.now (Assign (variable_of v) (expression_of e)) first) }
 {
-    let v = type_variable(alloc, t, v, first)?;
-    let e = type_assigned(alloc, t, e, v.kind, v.first)?;
+    let v = take!(type_variable(alloc, t, v, first));
+    let e = take!(type_assigned(alloc, t, e, v.kind, v.first));
     Ok(Walked {
         first: e.first,
         tree: Form::Assign(v.tree, e.tree),
@@ -62,7 +63,7 @@ pub fn type_call(
         (checked_statement_form t.now at (Call f (arguments (map argument_of args))))
         (statement_form_first t.now (Call f (arguments (map argument_of args))) first) }
 {
-    let args = type_actuals(alloc, t, args, t.formals(f), first)?;
+    let args = take!(type_actuals(alloc, t, args, t.formals(f), first));
     Ok(Walked {
         first: args.first,
         tree: Form::Call(f, args.tree),
@@ -81,7 +82,7 @@ fn type_value(
         (message_first t.now kind (argument_of a) first) }
 {
     let NamedArg { value, width: _ } = a;
-    let e = message_value(alloc, t, value, kind, first)?;
+    let e = take!(message_value(alloc, t, value, kind, first));
     Ok(Walked {
         first: e.first,
         tree: e.tree,
@@ -100,7 +101,7 @@ fn type_received(
         (message_first t.now kind (argument_of a) first) }
 {
     let NamedArg { value, width: _ } = a;
-    let e = message_value(alloc, t, value, kind, first)?;
+    let e = take!(message_value(alloc, t, value, kind, first));
     Ok(Walked {
         first: e.first,
         tree: target(alloc, e.tree),
@@ -122,7 +123,7 @@ fn type_values(
     let mut out = Vec::new(alloc);
     let mut first = first;
     for x in xs {
-        let y = type_value(alloc, t, x, kind, first)?;
+        let y = take!(type_value(alloc, t, x, kind, first));
         first = y.first;
         out.push(y.tree)?;
     }
@@ -147,7 +148,7 @@ fn type_variables(
     let mut out = Vec::new(alloc);
     let mut first = first;
     for x in xs {
-        let y = type_received(alloc, t, x, kind, first)?;
+        let y = take!(type_received(alloc, t, x, kind, first));
         first = y.first;
         out.push(y.tree)?;
     }
@@ -246,10 +247,10 @@ fn type_send(
             first,
         }),
         Some(a) => {
-            let channel = type_channel(alloc, t, a, first)?;
-            let values = type_values(alloc, t, xs, channel.kind, channel.first)?;
+            let channel = take!(type_channel(alloc, t, a, first));
+            let values = take!(type_values(alloc, t, xs, channel.kind, channel.first));
             Ok(Walked {
-                tree: sent(t.next, at, channel.tree, values.tree)?,
+                tree: take!(sent(t.next, at, channel.tree, values.tree)),
                 first: values.first,
             })
         }
@@ -275,10 +276,10 @@ fn type_receive(
             first,
         }),
         Some(a) => {
-            let channel = type_channel(alloc, t, a, first)?;
-            let variables = type_variables(alloc, t, xs, channel.kind, channel.first)?;
+            let channel = take!(type_channel(alloc, t, a, first));
+            let variables = take!(type_variables(alloc, t, xs, channel.kind, channel.first));
             Ok(Walked {
-                tree: received(t.next, at, channel.tree, variables.tree)?,
+                tree: take!(received(t.next, at, channel.tree, variables.tree)),
                 first: variables.first,
             })
         }
@@ -307,7 +308,7 @@ fn numbered(alloc: Global, n: u32, at: Place, forms: List<Form>) -> Result<List<
             at,
             form,
         })?;
-        n = sum(n, 1)?;
+        n = take!(sum(n, 1));
     }
     Ok(List::of(out))
 }
@@ -324,7 +325,7 @@ fn expanded(alloc: Global, n: u32, at: Place, forms: List<Form>) -> Result<Form,
                 Ok(last)
             } else {
                 forms.push(last)?;
-                let ss = numbered(alloc, n, at, List::of(forms))?;
+                let ss = take!(numbered(alloc, n, at, List::of(forms)));
                 Ok(Form::Sequence(ss))
             }
         }
@@ -342,7 +343,7 @@ fn joined(
         (Ok (expanded t.now.next at (map checked.statement_form_of forms.tree), forms.first)) }
 {
     Ok(Walked {
-        tree: expanded(alloc, t.next, at, forms.tree)?,
+        tree: take!(expanded(alloc, t.next, at, forms.tree)),
         first: forms.first,
     })
 }
@@ -359,7 +360,7 @@ fn type_read(
         (expanded t.now.next at (singles t.now procedure.Read (arguments (map argument_of args))))
         (perform_first t.now procedure.Read (arguments (map argument_of args)) first) }
 {
-    let forms = type_reads(alloc, t, args, first)?;
+    let forms = take!(type_reads(alloc, t, args, first));
     joined(alloc, t, forms, at)
 }
 
@@ -375,9 +376,9 @@ fn type_readln(
         (expanded t.now.next at (singles t.now procedure.Readln (arguments (map argument_of args))))
         (perform_first t.now procedure.Readln (arguments (map argument_of args)) first) }
 {
-    let forms = type_reads(alloc, t, args, first)?;
+    let forms = take!(type_reads(alloc, t, args, first));
     let forms = Walked {
-        tree: behind(forms.tree, Form::ReadLine)?,
+        tree: take!(behind(forms.tree, Form::ReadLine)),
         first: forms.first,
     };
     joined(alloc, t, forms, at)
@@ -395,7 +396,7 @@ fn type_write(
         (expanded t.now.next at (singles t.now procedure.Write (arguments (map argument_of args))))
         (perform_first t.now procedure.Write (arguments (map argument_of args)) first) }
 {
-    let forms = type_writes(alloc, t, args, first)?;
+    let forms = take!(type_writes(alloc, t, args, first));
     joined(alloc, t, forms, at)
 }
 
@@ -411,9 +412,9 @@ fn type_writeln(
         (expanded t.now.next at (singles t.now procedure.Writeln (arguments (map argument_of args))))
         (perform_first t.now procedure.Writeln (arguments (map argument_of args)) first) }
 {
-    let forms = type_writes(alloc, t, args, first)?;
+    let forms = take!(type_writes(alloc, t, args, first));
     let forms = Walked {
-        tree: behind(forms.tree, Form::WriteLine)?,
+        tree: take!(behind(forms.tree, Form::WriteLine)),
         first: forms.first,
     };
     joined(alloc, t, forms, at)
@@ -431,7 +432,7 @@ fn type_open(
         (expanded t.now.next at (singles t.now procedure.Open (arguments (map argument_of args))))
         (perform_first t.now procedure.Open (arguments (map argument_of args)) first) }
 {
-    let forms = type_opens(alloc, t, args, first)?;
+    let forms = take!(type_opens(alloc, t, args, first));
     joined(alloc, t, forms, at)
 }
 
@@ -473,8 +474,8 @@ pub fn type_perform(
         (statement_form_first t.old (Perform p (arguments (map argument_of args))) first) }
     ensures after { OnOk result (t.new ≡ form_after t.old (Perform p (arguments (map argument_of args)))) }
 {
-    let count = parts_count(p, args.items())?;
-    let form = type_call_of_standard(alloc, t, p, args, at, first)?;
+    let count = take!(parts_count(p, args.items()));
+    let form = take!(type_call_of_standard(alloc, t, p, args, at, first));
     let Ok(()) = t.count(count) else {
         drop(form.tree);
         return Err(Halt::Memory);

@@ -22,6 +22,7 @@ use crate::numbers::numbers_of;
 use crate::sizes::sizes_of;
 use crate::tables::{Ordinal, Tables};
 use crate::tabling::{kinds_in, tables_of};
+use crate::take;
 use crate::typed::Walked;
 use crate::values::or_zero;
 use sp_base::{Halt, List, Place};
@@ -73,8 +74,8 @@ fn typed_variables(
     let mut out = Vec::new(alloc);
     let mut i = 0;
     for x in variables.into_vec() {
-        push_variable(&mut out, kinds, i, x)?;
-        i = sum(i, 1)?;
+        take!(push_variable(&mut out, kinds, i, x));
+        i = take!(sum(i, 1));
     }
     Ok(List::of(out))
 }
@@ -87,7 +88,7 @@ fn check_declared(
 ) -> Result<Found, Halt>
     ensures { Answers result (Ok (kinds_first known.now kinds.now (constants_first known.now constants.now None))) }
 {
-    let first = check_constants(known, constants, None)?;
+    let first = take!(check_constants(known, constants, None));
     check_kinds(known, kinds, first)
 }
 
@@ -108,7 +109,7 @@ fn type_bodies(
     ensures after { OnOk result (t.new ≡ blocks_after t.old (starts_of (map plain.block_of blocks))
         (map plain.block_of blocks)) }
 {
-    let bodies = bodies(alloc, blocks.items())?;
+    let bodies = take!(bodies(alloc, blocks.items()));
     type_blocks(
         blocks,
         alloc,
@@ -135,8 +136,8 @@ fn checked_tables(
           blocks = map checked.block_of blocks;
         })) }
 {
-    let variables = typed_variables(alloc, t.variables.items(), variables)?;
-    let kinds = kinds_in(alloc, t.kinds)?;
+    let variables = take!(typed_variables(alloc, t.variables.items(), variables));
+    let kinds = take!(kinds_in(alloc, t.kinds));
     Ok(Checked {
         kinds,
         variables,
@@ -159,7 +160,7 @@ fn type_tabled(
         (typed_blocks numbers.now cells.now t variables (map plain.block_of blocks) first) }
 {
     let mut t = t;
-    let w = type_bodies(
+    let w = take!(type_bodies(
         alloc,
         &mut t,
         numbers,
@@ -167,10 +168,10 @@ fn type_tabled(
         variables.items(),
         blocks,
         first,
-    )?;
+    ));
     match w.first {
         Some(r) => Err(Halt::Refused(r)),
-        None => Ok(checked_tables(alloc, t, variables, w.tree)?),
+        None => checked_tables(alloc, t, variables, w.tree),
     }
 }
 
@@ -190,16 +191,16 @@ fn type_kinds(
         (tabled numbers.now known kinds variables (map plain.block_of blocks))
         variables (map plain.block_of blocks) first) }
 {
-    let cells = sizes_of(alloc, kinds.items())?;
+    let cells = take!(sizes_of(alloc, kinds.items()));
     let first = check_cells(places, cells.items(), first);
-    let t = tables_of(
+    let t = take!(tables_of(
         alloc,
         numbers,
         known,
         kinds,
         variables.items(),
         blocks.items(),
-    )?;
+    ));
     type_tabled(alloc, t, numbers, cells.items(), variables, blocks, first)
 }
 
@@ -214,11 +215,11 @@ pub fn type_check(alloc: Global, named: Named) -> Result<Checked, Halt>
         variables,
         blocks,
     } = named;
-    let numbers = numbers_of(alloc, kinds.items())?;
-    let known = constants_of(alloc, numbers.items(), constants.items())?;
-    let first = check_declared(known.items(), constants.items(), kinds.items())?;
-    let places = places_of(alloc, kinds.items())?;
-    let kinds = kinds_of(alloc, numbers.items(), known.items(), kinds)?;
+    let numbers = take!(numbers_of(alloc, kinds.items()));
+    let known = take!(constants_of(alloc, numbers.items(), constants.items()));
+    let first = take!(check_declared(known.items(), constants.items(), kinds.items()));
+    let places = take!(places_of(alloc, kinds.items()));
+    let kinds = take!(kinds_of(alloc, numbers.items(), known.items(), kinds));
     type_kinds(
         alloc,
         numbers.items(),

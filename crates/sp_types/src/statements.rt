@@ -22,6 +22,7 @@ use crate::choices::{check_choices, constant_numbers};
 use crate::performs::{type_assign, type_call, type_perform};
 use crate::rules::range_rule;
 use crate::tables::Tables;
+use crate::take;
 use crate::typed::Walked;
 use sp_base::{Boxed, Halt, List, Place};
 use sp_tree::{
@@ -48,7 +49,7 @@ pub fn type_statement(
         drop(form);
         return Err(Halt::Memory);
     };
-    let Walked { tree, first } = type_statement_form(form, alloc, t, at, first)?;
+    let Walked { tree, first } = take!(type_statement_form(form, alloc, t, at, first));
     Ok(Walked {
         tree: Stmt {
             number,
@@ -70,7 +71,7 @@ fn type_boxed(
         (statement_first t.old (statement_of s) first) }
     ensures after { OnOk result (t.new ≡ statement_after t.old (statement_of s)) }
 {
-    let Walked { tree, first } = type_statement(s.into_inner(), alloc, t, first)?;
+    let Walked { tree, first } = take!(type_statement(s.into_inner(), alloc, t, first));
     let tree = Boxed::new(alloc, tree)?;
     Ok(Walked { tree, first })
 }
@@ -96,15 +97,15 @@ fn type_statement_form(
         NamedForm::Call(f, args) => type_call(alloc, t, f, args, at, first),
         NamedForm::Standard(p, args) => type_perform(alloc, t, p, args, at, first),
         NamedForm::Sequence(ss) => {
-            let Walked { tree, first } = type_statements(ss, alloc, t, first)?;
+            let Walked { tree, first } = take!(type_statements(ss, alloc, t, first));
             Ok(Walked {
                 tree: Form::Sequence(tree),
                 first,
             })
         }
         NamedForm::If(e, s, o) => {
-            let e = type_condition(alloc, t, e, first)?;
-            let s = type_boxed(s, alloc, t, e.first)?;
+            let e = take!(type_condition(alloc, t, e, first));
+            let s = take!(type_boxed(s, alloc, t, e.first));
             match o {
                 None => Ok(Walked {
                     tree: Form::If(e.tree, s.tree, None),
@@ -114,8 +115,8 @@ fn type_statement_form(
             }
         }
         NamedForm::While(e, s) => {
-            let e = type_condition(alloc, t, e, first)?;
-            let s = type_boxed(s, alloc, t, e.first)?;
+            let e = take!(type_condition(alloc, t, e, first));
+            let s = take!(type_boxed(s, alloc, t, e.first));
             Ok(Walked {
                 tree: Form::While(e.tree, s.tree),
                 first: s.first,
@@ -132,7 +133,7 @@ fn type_statement_form(
             body,
         } => type_for(body, alloc, t, variable, at, from, down, to, first),
         NamedForm::Parallel(bs) => {
-            let Walked { tree, first } = type_branches(bs, alloc, t, at, first)?;
+            let Walked { tree, first } = take!(type_branches(bs, alloc, t, at, first));
             Ok(Walked {
                 tree: Form::Parallel(tree),
                 first,
@@ -145,7 +146,7 @@ fn type_statement_form(
             body,
         } => type_forall(body, alloc, t, index, from, to, first),
         NamedForm::Assume(e) => {
-            let e = type_condition(alloc, t, e, first)?;
+            let e = take!(type_condition(alloc, t, e, first));
             Ok(Walked {
                 tree: Form::Assume(e.tree),
                 first: e.first,
@@ -169,9 +170,9 @@ fn type_repeat(
         (statement_form_first t.old (Repeat (statements (map statement_of ss)) (expression_of e)) first) }
     ensures after { OnOk result (t.new ≡ statements_after (counted t.old) (statements (map statement_of ss))) }
 {
-    let ss = type_sequence(ss, alloc, t, at, first)?;
+    let ss = take!(type_sequence(ss, alloc, t, at, first));
     let s = Boxed::new(alloc, ss.tree)?;
-    let e = type_condition(alloc, t, e, ss.first)?;
+    let e = take!(type_condition(alloc, t, e, ss.first));
     Ok(Walked {
         tree: Form::Repeat(s, e.tree),
         first: e.first,
@@ -193,9 +194,9 @@ fn type_choices(
         (statement_form_first t.old (Case (expression_of e) (arms (map arm_of choices))) first) }
     ensures after { OnOk result (t.new ≡ arms_after t.old (arms (map arm_of choices))) }
 {
-    let e = type_case(alloc, t, e, first)?;
-    let first = check_choices(alloc, t, e.kind, choices.items(), e.first)?;
-    let choices = type_arms(choices, alloc, t, first)?;
+    let e = take!(type_case(alloc, t, e, first));
+    let first = take!(check_choices(alloc, t, e.kind, choices.items(), e.first));
+    let choices = take!(type_arms(choices, alloc, t, first));
     Ok(Walked {
         first: choices.first,
         tree: Form::Case(e.tree, choices.tree),
@@ -220,10 +221,10 @@ fn type_forall(
     ensures after { OnOk result (t.new ≡ form_after t.old
         (Forall index (expression_of from) (expression_of to) (statement_of body))) }
 {
-    let from = type_range(alloc, t, from, first)?;
-    let to = type_limit(alloc, t, to, from.kind, from.first)?;
+    let from = take!(type_range(alloc, t, from, first));
+    let to = take!(type_limit(alloc, t, to, from.kind, from.first));
     t.index(index, from.kind);
-    let body = type_boxed(body, alloc, t, to.first)?;
+    let body = take!(type_boxed(body, alloc, t, to.first));
     Ok(Walked {
         first: body.first,
         tree: Form::Forall {
@@ -250,7 +251,7 @@ fn type_else(
         (statement_first t.old (statement_of o) first) }
     ensures after { OnOk result (t.new ≡ statement_after t.old (statement_of o)) }
 {
-    let o = type_boxed(o, alloc, t, first)?;
+    let o = take!(type_boxed(o, alloc, t, first));
     Ok(Walked {
         tree: else_form(e, s, o.tree),
         first: o.first,
@@ -287,9 +288,9 @@ fn type_for(
 {
     let kind = t.variable_kind(variable);
     let broken = range_rule(t, at, kind);
-    let from = type_limit(alloc, t, from, kind, lesser(first, broken))?;
-    let to = type_limit(alloc, t, to, kind, from.first)?;
-    let body = type_boxed(body, alloc, t, to.first)?;
+    let from = take!(type_limit(alloc, t, from, kind, lesser(first, broken)));
+    let to = take!(type_limit(alloc, t, to, kind, from.first));
+    let body = take!(type_boxed(body, alloc, t, to.first));
     Ok(Walked {
         first: body.first,
         tree: Form::For {
@@ -317,7 +318,7 @@ fn type_statements(
     let mut out = Vec::new(alloc);
     let mut first = first;
     for s in ss.into_vec() {
-        let y = type_statement(s, alloc, t, first)?;
+        let y = take!(type_statement(s, alloc, t, first));
         first = y.first;
         out.push(y.tree)?;
     }
@@ -354,8 +355,8 @@ fn type_sequence(
 {
     let number = t.next;
     let at = first_place(at, ss.items());
-    t.count(1)?;
-    let Walked { tree, first } = type_statements(ss, alloc, t, first)?;
+    take!(t.count(1));
+    let Walked { tree, first } = take!(type_statements(ss, alloc, t, first));
     Ok(Walked {
         tree: Stmt {
             number,
@@ -382,7 +383,7 @@ fn type_branches(
     let mut first = first;
     for b in bs.into_vec() {
         let NamedBranch { statements } = b;
-        let y = type_sequence(statements, alloc, t, at, first)?;
+        let y = take!(type_sequence(statements, alloc, t, at, first));
         first = y.first;
         out.push(y.tree)?;
     }
@@ -406,7 +407,7 @@ fn type_arms(
     let mut out = Vec::new(alloc);
     let mut first = first;
     for x in xs.into_vec() {
-        let y = type_arm(x, alloc, t, first)?;
+        let y = take!(type_arm(x, alloc, t, first));
         first = y.first;
         out.push(y.tree)?;
     }
@@ -426,7 +427,7 @@ fn type_arm(a: NamedArm, alloc: Global, t: &mut Tables, first: Found) -> Result<
         drop(body);
         return Err(Halt::Memory);
     };
-    let Walked { tree, first } = type_statement(body, alloc, t, first)?;
+    let Walked { tree, first } = take!(type_statement(body, alloc, t, first));
     Ok(Walked {
         tree: Arm {
             constants,

@@ -8,6 +8,7 @@ ghost use Rattle.sp_types.specs.Tables.{answer_variable, type_of, types_of, role
 use crate::entries::KindEntry;
 use crate::numbers::type_number;
 use crate::tables::{Ordinal, Signature, Tables};
+use crate::take;
 use sp_base::{Halt, List};
 use sp_tree::{KindOf, NamedAnswer, NamedBlock, Role, Variable};
 use std::alloc::Global;
@@ -75,7 +76,7 @@ fn entries_of(alloc: Global, kinds: List<KindOf>) -> Result<List<KindEntry>, Hal
 {
     let mut out = Vec::new(alloc);
     for k in kinds.into_vec() {
-        out.push(KindEntry::of(alloc, k)?)?;
+        out.push(take!(KindEntry::of(alloc, k)))?;
     }
     Ok(List::of(out))
 }
@@ -109,10 +110,10 @@ pub fn tables_of(
       next = 0;
     })) }
 {
-    let kinds = entries_of(alloc, kinds)?;
-    let types = types_of(alloc, numbers, variables)?;
-    let roles = roles_of(alloc, variables)?;
-    let blocks = signatures(alloc, blocks)?;
+    let kinds = take!(entries_of(alloc, kinds));
+    let types = take!(types_of(alloc, numbers, variables));
+    let roles = take!(roles_of(alloc, variables));
+    let blocks = take!(signatures(alloc, blocks));
     Ok(Tables {
         constants,
         kinds,

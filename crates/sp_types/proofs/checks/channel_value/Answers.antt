@@ -6,4 +6,4 @@ use Rattle.sp_types.proofs.checks.channel_value.Goals as goal
 
 pub returns : goal.returns
 returns c = ruled (λ (e : k.Expression). e) (λ (j : Option ℕ). j) (channel_rule c.args.t.now) _ _ _ _ _ _ _ _ _ _
-    c.place_of-at.ensures c.in_ok-e.ensures c.channel_rule.ensures c.lesser.ensures
+    c.place_of-at.ensures c.in-Ok.ensures c.channel_rule.ensures c.lesser.ensures

@@ -6,4 +6,4 @@ use Rattle.sp_types.proofs.checks.read_value.Goals as goal
 
 pub returns : goal.returns
 returns c = ruled (λ (e : k.Expression). e) (λ (j : Option ℕ). j) read_rule _ _ _ _ _ _ _ _ _ _ c.place_of-at.ensures
-    c.in_ok-e.ensures c.read_rule.ensures c.lesser.ensures
+    c.in-Ok.ensures c.read_rule.ensures c.lesser.ensures

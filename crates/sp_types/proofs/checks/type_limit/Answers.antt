@@ -6,4 +6,4 @@ use Rattle.sp_types.proofs.checks.type_limit.Goals as goal
 
 pub returns : goal.returns
 returns c = ruled (λ (e : k.Expression). e) (λ (j : Option ℕ). j) (λ p j. limit_rule p c.args.limit j) _ _ _ _ _ _ _ _ _
-    _ c.place_of-at.ensures c.in_ok-e.ensures c.limit_rule.ensures c.lesser.ensures
+    _ c.place_of-at.ensures c.in-Ok.ensures c.limit_rule.ensures c.lesser.ensures

@@ -24,40 +24,42 @@ returns c =
     let ks = c.args.named.kinds in
     let xs = c.args.named.variables in
     let bs = map plain.block_of c.args.named.blocks in
-    let numbers = c.in_ok-numbers.numbers in
-    let known = c.in_ok-known.known in
-    let kinds = c.in_ok-kinds.kinds in
+    let numbers = c.in-Ok.value in
+    let known = c.in-Ok-constants_of.value in
+    let kinds = c.in-Ok-kinds_of.value in
+    let found = c.in-Ok-check_declared.value in
+    let places = c.in-Ok-places_of.value in
     let numbers_are : ok (numbers_from [] 0 ks) ≡ ok numbers =
-    subst (λ (r : List NamedKind). ok (numbers_from [] 0 r) ≡ ok numbers) c.items.ensures c.in_ok-numbers.ensures in
+    subst (λ (r : List NamedKind). ok (numbers_from [] 0 r) ≡ ok numbers) c.items.ensures c.in-Ok.ensures in
     let known_are : ok (constants_from numbers [] cs) ≡ ok known =
     subst (λ (m : List ℕ). ok (constants_from m [] cs) ≡ ok known) c.items-2.ensures
     (subst (λ (r : List NamedConstant). ok (constants_from c.items-2.result.now [] r) ≡ ok known) c.items-3.ensures
-    c.in_ok-known.ensures) in
-    let found_is : ok (kinds_first known ks (constants_first known cs None)) ≡ ok c.in_ok-first.first =
-    subst (λ (m : List (Option Ordinal)). ok (kinds_first m ks (constants_first m cs None)) ≡ ok c.in_ok-first.first)
+    c.in-Ok-constants_of.ensures) in
+    let found_is : ok (kinds_first known ks (constants_first known cs None)) ≡ ok found =
+    subst (λ (m : List (Option Ordinal)). ok (kinds_first m ks (constants_first m cs None)) ≡ ok found)
     c.items-4.ensures
     (subst (λ (r : List NamedConstant). ok (kinds_first c.items-4.result.now ks
-    (constants_first c.items-4.result.now r None)) ≡ ok c.in_ok-first.first) c.items-5.ensures
+    (constants_first c.items-4.result.now r None)) ≡ ok found) c.items-5.ensures
     (subst (λ (r : List NamedKind). ok (kinds_first c.items-4.result.now r
-    (constants_first c.items-4.result.now c.items-5.result.now None)) ≡ ok c.in_ok-first.first) c.items-6.ensures
-    c.in_ok-first.ensures)) in
-    let places_are : ok (places_of ks) ≡ ok c.in_ok-places.places =
-    subst (λ (r : List NamedKind). ok (places_of r) ≡ ok c.in_ok-places.places) c.items-7.ensures
-    c.in_ok-places.ensures in
+    (constants_first c.items-4.result.now c.items-5.result.now None)) ≡ ok found) c.items-6.ensures
+    c.in-Ok-check_declared.ensures)) in
+    let places_are : ok (places_of ks) ≡ ok places =
+    subst (λ (r : List NamedKind). ok (places_of r) ≡ ok places) c.items-7.ensures
+    c.in-Ok-places_of.ensures in
     let kinds_are : ok (kinds_from numbers known ks) ≡ ok kinds =
     subst (λ (m : List ℕ). ok (kinds_from m known ks) ≡ ok kinds) c.items-8.ensures
     (subst (λ (m : List (Option Ordinal)). ok (kinds_from c.items-8.result.now m ks) ≡ ok kinds) c.items-9.ensures
-    c.in_ok-kinds.ensures) in
+    c.in-Ok-kinds_of.ensures) in
     let typed_is : AnswersAs checked.program_of c.type_kinds.result
-    (typed_kinds numbers (sizes kinds) c.in_ok-places.places (tabled numbers known kinds xs bs) xs bs
-    c.in_ok-first.first) =
+    (typed_kinds numbers (sizes kinds) places (tabled numbers known kinds xs bs) xs bs
+    found) =
     subst (λ (m : List ℕ). AnswersAs checked.program_of c.type_kinds.result
-    (typed_kinds m (sizes kinds) c.in_ok-places.places (tabled m known kinds xs bs) xs bs c.in_ok-first.first))
+    (typed_kinds m (sizes kinds) places (tabled m known kinds xs bs) xs bs found))
     c.items-10.ensures
     (subst (λ (m : List Place). AnswersAs checked.program_of c.type_kinds.result
     (typed_kinds c.items-10.result.now (sizes kinds) m (tabled c.items-10.result.now known kinds xs bs) xs bs
-    c.in_ok-first.first)) c.items-11.ensures c.type_kinds.ensures) in
+    found)) c.items-11.ensures c.type_kinds.ensures) in
     subst (λ (d : Result k.Program Refusal). AnswersAs checked.program_of c.type_kinds.result d)
-    (program_typed (plain.program_of c.args.named) numbers known c.in_ok-first.first c.in_ok-places.places kinds
+    (program_typed (plain.program_of c.args.named) numbers known found places kinds
     numbers_are known_are found_is places_are kinds_are)
     typed_is

@@ -19,23 +19,25 @@ pub returns : goal.returns
 returns c =
     let numbers = c.args.numbers.now in
     let bs = map plain.block_of c.args.blocks in
-    let cells_are : ok (capped_sizes c.args.kinds) ≡ ok c.in_ok-cells.cells =
-    subst (λ (ks : List KindOf). ok (capped_sizes ks) ≡ ok c.in_ok-cells.cells) c.items.ensures c.in_ok-cells.ensures in
-    let found_is : c.check_cells-first.result ≡ cells_first c.args.places.now c.in_ok-cells.cells c.args.first =
+    let cells = c.in-Ok.value in
+    let tables = c.in-Ok-tables_of.value in
+    let cells_are : ok (capped_sizes c.args.kinds) ≡ ok cells =
+    subst (λ (ks : List KindOf). ok (capped_sizes ks) ≡ ok cells) c.items.ensures c.in-Ok.ensures in
+    let found_is : c.check_cells-first.result ≡ cells_first c.args.places.now cells c.args.first =
     subst (λ (cs : List ℕ). c.check_cells-first.result ≡ cells_first c.args.places.now cs c.args.first)
     c.items-2.ensures c.check_cells-first.ensures in
-    let tables_are : ok (tabled numbers c.args.known c.args.kinds c.args.variables bs) ≡ ok c.in_ok-t.t =
-    subst (λ (xs : List variable.Variable). ok (tabled numbers c.args.known c.args.kinds xs bs) ≡ ok c.in_ok-t.t)
+    let tables_are : ok (tabled numbers c.args.known c.args.kinds c.args.variables bs) ≡ ok tables =
+    subst (λ (xs : List variable.Variable). ok (tabled numbers c.args.known c.args.kinds xs bs) ≡ ok tables)
     c.items-3.ensures
     (subst (λ (xs : List NamedBlock). ok (tabled numbers c.args.known c.args.kinds c.items-3.result.now
-    (map plain.block_of xs)) ≡ ok c.in_ok-t.t) c.items-4.ensures c.in_ok-t.ensures) in
+    (map plain.block_of xs)) ≡ ok tables) c.items-4.ensures c.in-Ok-tables_of.ensures) in
     let typed_is : AnswersAs checked.program_of c.type_tabled.result
-    (typed_blocks numbers c.in_ok-cells.cells c.in_ok-t.t c.args.variables bs c.check_cells-first.result) =
+    (typed_blocks numbers cells tables c.args.variables bs c.check_cells-first.result) =
     subst (λ (cs : List ℕ). AnswersAs checked.program_of c.type_tabled.result
-    (typed_blocks numbers cs c.in_ok-t.t c.args.variables bs c.check_cells-first.result)) c.items-5.ensures
+    (typed_blocks numbers cs tables c.args.variables bs c.check_cells-first.result)) c.items-5.ensures
     c.type_tabled.ensures in
     subst (λ (d : Result k.Program Refusal). AnswersAs checked.program_of c.type_tabled.result d)
     (kinds_typed numbers c.args.kinds c.args.places.now (tabled numbers c.args.known c.args.kinds c.args.variables bs)
-    c.in_ok-t.t c.args.variables bs c.args.first c.check_cells-first.result c.in_ok-cells.cells cells_are found_is
+    tables c.args.variables bs c.args.first c.check_cells-first.result cells cells_are found_is
     tables_are)
     typed_is

@@ -6,7 +6,7 @@ pub loop-x-preserved : goal.loop-x-preserved
 loop-x-preserved c = (
   tt,
   tt,
-  variables_step c.args.kinds.now c.loop-x.i c.in_ok-i.i c.in-Some.x (into_iter_items c.next.new.self)
+  variables_step c.args.kinds.now c.loop-x.i c.in-Ok-sum.value c.in-Some.x (into_iter_items c.next.new.self)
       (into_iter_items c.loop-x.x-iterator) c.loop-x.out.items c.push_variable.new.out.items _ c.loop-x.invariant.2
-      c.in-Some.ensures.steps.0 c.in_ok-push_variable.ensures.after c.in_ok-i.ensures,
+      c.in-Some.ensures.steps.0 c.in-Ok.ensures.after c.in-Ok-sum.ensures,
 )
