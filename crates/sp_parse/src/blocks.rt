@@ -17,6 +17,7 @@ use crate::names::name;
 use crate::operators::is;
 use crate::source::{Source, cut, expect, misplaced};
 use crate::statements::compound;
+use crate::take;
 use crate::types::type_name;
 use sp_base::{Boxed, Halt, List};
 use sp_tree::{Kind, MAX_NESTING, SynBlock, SynPart, Syntax, Token, sign, word};
@@ -80,12 +81,12 @@ fn parts<'t>(
     let mut all = List::new(source.alloc);
     let mut rest = tokens;
     'more: loop {
-        let (first, after) = cut(source, rest)?;
+        let (first, after) = take!(cut(source, rest));
         if is(first, Kind::Word(word::BEGIN)) {
-            let (statements, left) = compound(source, after, depth)?;
+            let (statements, left) = take!(compound(source, after, depth));
             return Ok((whole_block(all, first.at, statements), left));
         }
-        let (more, left) = declarations(source, rest, depth, all)?;
+        let (more, left) = take!(declarations(source, rest, depth, all));
         all = more;
         rest = left;
     }
@@ -104,7 +105,7 @@ fn declarations<'t>(
     requires other { BeginsOther tokens.now ABegin }
     ensures { Declares source.now depth all tokens.now result }
 {
-    let (first, rest) = cut(source, tokens)?;
+    let (first, rest) = take!(cut(source, tokens));
     if is(first, Kind::Word(word::CONST)) {
         return constants(source, rest, all);
     }
@@ -115,12 +116,12 @@ fn declarations<'t>(
         return variables(source, rest, all);
     }
     if is(first, Kind::Word(word::PROCEDURE)) {
-        let (next, rest) = procedure(source, rest, depth)?;
+        let (next, rest) = take!(procedure(source, rest, depth));
         all.push(next)?;
         return Ok((all, rest));
     }
     if is(first, Kind::Word(word::FUNCTION)) {
-        let (next, rest) = function(source, rest, depth)?;
+        let (next, rest) = take!(function(source, rest, depth));
         all.push(next)?;
         return Ok((all, rest));
     }
@@ -138,9 +139,9 @@ fn procedure<'t>(
     requires { Ready source.now tokens.now }
     ensures { Reads source.now (grammar.procedure depth) part_of tokens.now result }
 {
-    let (called, rest) = name(source, tokens)?;
-    let (given, rest) = formals(source, rest)?;
-    let (inner, rest) = body(source, rest, depth)?;
+    let (called, rest) = take!(name(source, tokens));
+    let (given, rest) = take!(formals(source, rest));
+    let (inner, rest) = take!(body(source, rest, depth));
     let made = procedure_declaration(called, given, None, inner);
     Ok((made, rest))
 }
@@ -156,10 +157,10 @@ fn body<'t>(
     requires { Ready source.now tokens.now }
     ensures { Reads source.now (grammar.body depth) block_of tokens.now result }
 {
-    let rest = expect(source, tokens, Kind::Sign(sign::SEMICOLON))?;
-    let (inner, rest) = block(source, rest, depth)?;
+    let rest = take!(expect(source, tokens, Kind::Sign(sign::SEMICOLON)));
+    let (inner, rest) = take!(block(source, rest, depth));
     let boxed = Boxed::new(source.alloc, inner)?;
-    let rest = expect(source, rest, Kind::Sign(sign::SEMICOLON))?;
+    let rest = take!(expect(source, rest, Kind::Sign(sign::SEMICOLON)));
     Ok((boxed, rest))
 }
 
@@ -174,10 +175,10 @@ fn function<'t>(
     requires { Ready source.now tokens.now }
     ensures { Reads source.now (grammar.function depth) part_of tokens.now result }
 {
-    let (called, rest) = name(source, tokens)?;
-    let (given, rest) = formals(source, rest)?;
-    let (answer, rest) = type_name(source, rest)?;
-    let (inner, rest) = body(source, rest, depth)?;
+    let (called, rest) = take!(name(source, tokens));
+    let (given, rest) = take!(formals(source, rest));
+    let (answer, rest) = take!(type_name(source, rest));
+    let (inner, rest) = take!(body(source, rest, depth));
     let made = procedure_declaration(called, given, Some(answer), inner);
     Ok((made, rest))
 }
@@ -188,8 +189,8 @@ fn outer_block<'t>(source: &Source, tokens: &'t [Token]) -> Result<(SynBlock, &'
     requires { Ready source.now tokens.now }
     ensures { Reads source.now grammar.outer_block block_of tokens.now result }
 {
-    let rest = expect(source, tokens, Kind::Sign(sign::SEMICOLON))?;
-    let (whole, rest) = block(source, rest, 0)?;
+    let rest = take!(expect(source, tokens, Kind::Sign(sign::SEMICOLON)));
+    let (whole, rest) = take!(block(source, rest, 0));
     match expect(source, rest, Kind::Sign(sign::DOT)) {
         Ok(rest) => Ok((whole, rest)),
         Err(e) => {
@@ -205,9 +206,9 @@ fn titled<'t>(source: &Source, tokens: &'t [Token]) -> Result<(Syntax, &'t [Toke
     requires { Ready source.now tokens.now }
     ensures { Reads source.now grammar.program program_of tokens.now result }
 {
-    let (called, rest) = name(source, tokens)?;
-    let (listed, rest) = heading(source, rest)?;
-    let (whole, rest) = outer_block(source, rest)?;
+    let (called, rest) = take!(name(source, tokens));
+    let (listed, rest) = take!(heading(source, rest));
+    let (whole, rest) = take!(outer_block(source, rest));
     Ok((
         Syntax {
             name: called,
@@ -224,7 +225,7 @@ pub fn program<'t>(source: &Source, tokens: &'t [Token]) -> Result<(Syntax, &'t 
     requires { Ready source.now tokens.now }
     ensures { Reads source.now (single AProgram) program_of tokens.now result }
 {
-    let (first, rest) = cut(source, tokens)?;
+    let (first, rest) = take!(cut(source, tokens));
     if is(first, Kind::Word(word::PROGRAM)) {
         return titled(source, rest);
     }

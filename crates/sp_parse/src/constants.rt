@@ -9,6 +9,7 @@ ghost use Rattle.sp_parse.specs.BlockProductions as grammar;
 use crate::operators::is;
 use crate::source::{Source, cut, expect, misplaced};
 use crate::spelled::{name_at, number_at, quoted_at};
+use crate::take;
 use sp_base::{Halt, Place};
 use sp_tree::{Kind, SynConst, SynValue, Token, sign};
 
@@ -18,7 +19,7 @@ fn value<'t>(source: &Source, tokens: &'t [Token]) -> Result<(SynValue, &'t [Tok
     requires { Ready source.now tokens.now }
     ensures { Reads source.now (single AValue) itself tokens.now result }
 {
-    let (first, rest) = cut(source, tokens)?;
+    let (first, rest) = take!(cut(source, tokens));
     match first.kind {
         Kind::Number => Ok((SynValue::Number(number_at(source, first)), rest)),
         Kind::Name => Ok((SynValue::Named(name_at(source, first)?), rest)),
@@ -43,10 +44,10 @@ pub fn constant<'t>(source: &Source, tokens: &'t [Token]) -> Result<(SynConst, &
     requires { Ready source.now tokens.now }
     ensures { Reads source.now (single AConstant) itself tokens.now result }
 {
-    let (first, rest) = cut(source, tokens)?;
+    let (first, rest) = take!(cut(source, tokens));
     let at = first.at;
     if is(first, Kind::Sign(sign::PLUS)) {
-        let (value, rest) = value(source, rest)?;
+        let (value, rest) = take!(value(source, rest));
         return Ok((
             SynConst {
                 at,
@@ -57,7 +58,7 @@ pub fn constant<'t>(source: &Source, tokens: &'t [Token]) -> Result<(SynConst, &
         ));
     }
     if is(first, Kind::Sign(sign::MINUS)) {
-        let (value, rest) = value(source, rest)?;
+        let (value, rest) = take!(value(source, rest));
         return Ok((
             SynConst {
                 at,
@@ -91,7 +92,7 @@ pub fn constant_then<'t>(
     requires { Ready source.now tokens.now }
     ensures { Reads source.now (grammar.constant_then kind) itself tokens.now result }
 {
-    let (value, rest) = constant(source, tokens)?;
-    let rest = expect(source, rest, kind)?;
+    let (value, rest) = take!(constant(source, tokens));
+    let rest = take!(expect(source, rest, kind));
     Ok((value, rest))
 }

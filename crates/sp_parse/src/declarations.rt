@@ -12,6 +12,7 @@ use crate::constants::constant_then;
 use crate::made_blocks::{constant_declaration, type_declaration, variable_declaration};
 use crate::names::name_then;
 use crate::source::{Source, expect, pass};
+use crate::take;
 use crate::types::{group, type_of};
 use sp_base::{Halt, List};
 use sp_tree::{Kind, SynKind, SynPart, Token, sign};
@@ -22,8 +23,8 @@ fn one_constant<'t>(source: &Source, tokens: &'t [Token]) -> Result<(SynPart, &'
     requires { Ready source.now tokens.now }
     ensures { Reads source.now grammar.one_constant part_of tokens.now result }
 {
-    let (called, rest) = name_then(source, tokens, Kind::Sign(sign::EQUAL))?;
-    let (value, rest) = constant_then(source, rest, Kind::Sign(sign::SEMICOLON))?;
+    let (called, rest) = take!(name_then(source, tokens, Kind::Sign(sign::EQUAL)));
+    let (value, rest) = take!(constant_then(source, rest, Kind::Sign(sign::SEMICOLON)));
     Ok((constant_declaration(called, value), rest))
 }
 
@@ -33,8 +34,8 @@ fn one_type<'t>(source: &Source, tokens: &'t [Token]) -> Result<(SynPart, &'t [T
     requires { Ready source.now tokens.now }
     ensures { Reads source.now grammar.one_type part_of tokens.now result }
 {
-    let (called, rest) = name_then(source, tokens, Kind::Sign(sign::EQUAL))?;
-    let (kind, rest) = definition(source, rest)?;
+    let (called, rest) = take!(name_then(source, tokens, Kind::Sign(sign::EQUAL)));
+    let (kind, rest) = take!(definition(source, rest));
     Ok((type_declaration(called, kind), rest))
 }
 
@@ -44,7 +45,7 @@ fn definition<'t>(source: &Source, tokens: &'t [Token]) -> Result<(SynKind, &'t 
     requires { Ready source.now tokens.now }
     ensures { Reads source.now grammar.definition itself tokens.now result }
 {
-    let (kind, rest) = type_of(source, tokens)?;
+    let (kind, rest) = take!(type_of(source, tokens));
     match expect(source, rest, Kind::Sign(sign::SEMICOLON)) {
         Ok(rest) => Ok((kind, rest)),
         Err(e) => {
@@ -60,8 +61,8 @@ fn one_group<'t>(source: &Source, tokens: &'t [Token]) -> Result<(SynPart, &'t [
     requires { Ready source.now tokens.now }
     ensures { Reads source.now grammar.one_group part_of tokens.now result }
 {
-    let (of, rest) = group(source, tokens)?;
-    let rest = expect(source, rest, Kind::Sign(sign::SEMICOLON))?;
+    let (of, rest) = take!(group(source, tokens));
+    let rest = take!(expect(source, rest, Kind::Sign(sign::SEMICOLON)));
     Ok((variable_declaration(of), rest))
 }
 
@@ -77,9 +78,9 @@ pub fn constants<'t>(
 {
     let mut rest = tokens;
     'more: loop {
-        let (next, left) = one_constant(source, rest)?;
+        let (next, left) = take!(one_constant(source, rest));
         all.push(next)?;
-        let Some(_) = pass(source, left, Kind::Name)? else {
+        let Some(_) = take!(pass(source, left, Kind::Name)) else {
             return Ok((all, left));
         };
         rest = left;
@@ -98,9 +99,9 @@ pub fn types<'t>(
 {
     let mut rest = tokens;
     'more: loop {
-        let (next, left) = one_type(source, rest)?;
+        let (next, left) = take!(one_type(source, rest));
         all.push(next)?;
-        let Some(_) = pass(source, left, Kind::Name)? else {
+        let Some(_) = take!(pass(source, left, Kind::Name)) else {
             return Ok((all, left));
         };
         rest = left;
@@ -119,9 +120,9 @@ pub fn variables<'t>(
 {
     let mut rest = tokens;
     'more: loop {
-        let (next, left) = one_group(source, rest)?;
+        let (next, left) = take!(one_group(source, rest));
         all.push(next)?;
-        let Some(_) = pass(source, left, Kind::Name)? else {
+        let Some(_) = take!(pass(source, left, Kind::Name)) else {
             return Ok((all, left));
         };
         rest = left;

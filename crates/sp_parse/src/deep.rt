@@ -11,6 +11,7 @@ ghost use Rattle.sp_parse.specs.Reads.{Ready, Halts, Reads};
 use crate::made_statements::empty_statement;
 use crate::operators::{begins_factor, begins_form, begins_simple};
 use crate::source::{Source, cut, misplaced};
+use crate::take;
 use sp_base::{Halt, Refusal, Rule};
 use sp_tree::{SynStmt, Token};
 
@@ -65,7 +66,7 @@ pub fn deep_statement<'t>(
     requires { Ready source.now tokens.now }
     ensures { (d : ℕ) → 200 ≤ d → Reads source.now (single (AStatement d)) statement_of tokens.now result }
 {
-    let (first, _) = cut(source, tokens)?;
+    let (first, _) = take!(cut(source, tokens));
     if begins_form(first) {
         return Err(too_deep(first));
     }

@@ -16,6 +16,7 @@ use crate::names::name;
 use crate::operators::{adding, is, multiplying, relational, sign_of};
 use crate::source::{Source, cut, expect, misplaced, pass};
 use crate::spelled::{name_at, number_at, quoted_at};
+use crate::take;
 use sp_base::{Halt, List, Place};
 use sp_tree::{Kind, MAX_NESTING, Name, SynArg, SynExpr, SynSelector, Token, UnaryOp, sign, word};
 
@@ -33,11 +34,11 @@ pub fn expression<'t>(
     if depth >= MAX_NESTING {
         return Err(deep_expression(source, tokens));
     }
-    let (left, rest) = simple(source, tokens, depth + 1)?;
-    let Some((op, after)) = relational(source, rest)? else {
+    let (left, rest) = take!(simple(source, tokens, depth + 1));
+    let Some((op, after)) = take!(relational(source, rest)) else {
         return Ok((left, rest));
     };
-    let (right, rest) = simple(source, after, depth + 1)?;
+    let (right, rest) = take!(simple(source, after, depth + 1));
     Ok((binary(source.alloc, op, left, right)?, rest))
 }
 
@@ -52,8 +53,8 @@ pub fn expression_then<'t>(
     requires { Ready source.now tokens.now }
     ensures { Reads source.now (grammar.expression_then depth kind) expression_of tokens.now result }
 {
-    let (value, rest) = expression(source, tokens, depth)?;
-    let rest = expect(source, rest, kind)?;
+    let (value, rest) = take!(expression(source, tokens, depth));
+    let rest = take!(expect(source, rest, kind));
     Ok((value, rest))
 }
 
@@ -68,9 +69,9 @@ fn simple<'t>(
     requires { Ready source.now tokens.now }
     ensures { Reads source.now (single (ASimple depth)) expression_of tokens.now result }
 {
-    let (mut sum, mut rest) = first_term(source, tokens, depth)?;
-    'more: while let Some((op, after)) = adding(source, rest)? {
-        let (next, left) = term(source, after, depth)?;
+    let (mut sum, mut rest) = take!(first_term(source, tokens, depth));
+    'more: while let Some((op, after)) = take!(adding(source, rest)) {
+        let (next, left) = take!(term(source, after, depth));
         sum = binary(source.alloc, op, sum, next)?;
         rest = left;
     }
@@ -88,11 +89,11 @@ fn first_term<'t>(
     requires { Ready source.now tokens.now }
     ensures { ReadsSoFar source.now (single (ASimple depth)) (MoreTerms depth) grammar.continued tokens.now result }
 {
-    let (first, behind) = cut(source, tokens)?;
+    let (first, behind) = take!(cut(source, tokens));
     let Some(op) = sign_of(first) else {
         return term(source, tokens, depth);
     };
-    let (a, rest) = term(source, behind, depth)?;
+    let (a, rest) = take!(term(source, behind, depth));
     Ok((unary(source.alloc, first.at, op, a)?, rest))
 }
 
@@ -107,9 +108,9 @@ fn term<'t>(
     requires { Ready source.now tokens.now }
     ensures { Reads source.now (grammar.term depth) expression_of tokens.now result }
 {
-    let (mut product, mut rest) = factor(source, tokens, depth)?;
-    'more: while let Some((op, after)) = multiplying(source, rest)? {
-        let (next, left) = factor(source, after, depth)?;
+    let (mut product, mut rest) = take!(factor(source, tokens, depth));
+    'more: while let Some((op, after)) = take!(multiplying(source, rest)) {
+        let (next, left) = take!(factor(source, after, depth));
         product = binary(source.alloc, op, product, next)?;
         rest = left;
     }
@@ -127,7 +128,7 @@ fn factor<'t>(
     requires { Ready source.now tokens.now }
     ensures { Reads source.now (single (AFactor depth)) expression_of tokens.now result }
 {
-    let (first, rest) = cut(source, tokens)?;
+    let (first, rest) = take!(cut(source, tokens));
     let at = first.at;
     if is(first, Kind::Number) {
         return Ok((number_expression(at, number_at(source, first)), rest));
@@ -140,8 +141,8 @@ fn factor<'t>(
         return reference(source, rest, depth, at, name);
     }
     if is(first, Kind::Sign(sign::OPEN)) {
-        let (inner, rest) = expression(source, rest, depth)?;
-        let rest = expect(source, rest, Kind::Sign(sign::CLOSE))?;
+        let (inner, rest) = take!(expression(source, rest, depth));
+        let rest = take!(expect(source, rest, Kind::Sign(sign::CLOSE)));
         return Ok((moved(at, inner), rest));
     }
     if is(first, Kind::Word(word::NOT)) {
@@ -165,7 +166,7 @@ fn negation<'t>(
     if depth >= MAX_NESTING {
         return Err(deep_factor(source, tokens));
     }
-    let (a, rest) = factor(source, tokens, depth + 1)?;
+    let (a, rest) = take!(factor(source, tokens, depth + 1));
     Ok((unary(source.alloc, at, UnaryOp::Not, a)?, rest))
 }
 
@@ -182,11 +183,11 @@ fn reference<'t>(
     requires { Ready source.now tokens.now }
     ensures { Reads source.now (grammar.reference depth at name) expression_of tokens.now result }
 {
-    let Some(inner) = pass(source, tokens, Kind::Sign(sign::OPEN))? else {
-        let (of, rest) = selectors(source, tokens, depth)?;
+    let Some(inner) = take!(pass(source, tokens, Kind::Sign(sign::OPEN))) else {
+        let (of, rest) = take!(selectors(source, tokens, depth));
         return Ok((read_expression(at, variable(name, of)), rest));
     };
-    let (args, rest) = arguments(source, inner, depth)?;
+    let (args, rest) = take!(arguments(source, inner, depth));
     Ok((call_expression(at, name, args), rest))
 }
 
@@ -204,16 +205,16 @@ pub fn selectors<'t>(
     let mut all = List::new(source.alloc);
     let mut rest = tokens;
     'more: loop {
-        if let Some(inner) = pass(source, rest, Kind::Sign(sign::OPEN_INDEX))? {
-            let (more, left) = indices(source, inner, depth, all)?;
+        if let Some(inner) = take!(pass(source, rest, Kind::Sign(sign::OPEN_INDEX))) {
+            let (more, left) = take!(indices(source, inner, depth, all));
             all = more;
             rest = left;
             continue;
         }
-        let Some(after) = pass(source, rest, Kind::Sign(sign::DOT))? else {
+        let Some(after) = take!(pass(source, rest, Kind::Sign(sign::DOT))) else {
             return Ok((all, rest));
         };
-        let (name, left) = name(source, after)?;
+        let (name, left) = take!(name(source, after));
         all.push(field(name))?;
         rest = left;
     }
@@ -234,10 +235,10 @@ fn indices<'t>(
     let mut all = before;
     let mut rest = tokens;
     'more: loop {
-        let (next, left) = expression(source, rest, depth)?;
+        let (next, left) = take!(expression(source, rest, depth));
         all.push(index(next))?;
-        let Some(after) = pass(source, left, Kind::Sign(sign::COMMA))? else {
-            let rest = expect(source, left, Kind::Sign(sign::CLOSE_INDEX))?;
+        let Some(after) = take!(pass(source, left, Kind::Sign(sign::COMMA))) else {
+            let rest = take!(expect(source, left, Kind::Sign(sign::CLOSE_INDEX)));
             return Ok((all, rest));
         };
         rest = after;
@@ -258,10 +259,10 @@ pub fn arguments<'t>(
     let mut all = List::new(source.alloc);
     let mut rest = tokens;
     'more: loop {
-        let (next, left) = argument(source, rest, depth)?;
+        let (next, left) = take!(argument(source, rest, depth));
         all.push(next)?;
-        let Some(after) = pass(source, left, Kind::Sign(sign::COMMA))? else {
-            let rest = expect(source, left, Kind::Sign(sign::CLOSE))?;
+        let Some(after) = take!(pass(source, left, Kind::Sign(sign::COMMA))) else {
+            let rest = take!(expect(source, left, Kind::Sign(sign::CLOSE)));
             return Ok((all, rest));
         };
         rest = after;
@@ -279,10 +280,10 @@ fn argument<'t>(
     requires { Ready source.now tokens.now }
     ensures { Reads source.now (grammar.argument depth) argument_of tokens.now result }
 {
-    let (value, rest) = expression(source, tokens, depth)?;
-    let Some(after) = pass(source, rest, Kind::Sign(sign::COLON))? else {
+    let (value, rest) = take!(expression(source, tokens, depth));
+    let Some(after) = take!(pass(source, rest, Kind::Sign(sign::COLON))) else {
         return Ok((make_argument(value, None), rest));
     };
-    let (width, rest) = expression(source, after, depth)?;
+    let (width, rest) = take!(expression(source, after, depth));
     Ok((make_argument(value, Some(width)), rest))
 }

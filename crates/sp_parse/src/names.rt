@@ -7,6 +7,7 @@ ghost use Rattle.sp_parse.specs.BlockProductions as grammar;
 
 use crate::source::{Source, cut, expect, misplaced, pass};
 use crate::spelled::name_at;
+use crate::take;
 use sp_base::{Halt, List};
 use sp_tree::{Kind, Name, Token, sign};
 
@@ -16,7 +17,7 @@ pub fn name<'t>(source: &Source, tokens: &'t [Token]) -> Result<(Name, &'t [Toke
     requires { Ready source.now tokens.now }
     ensures { Reads source.now (single AName) itself tokens.now result }
 {
-    let (first, rest) = cut(source, tokens)?;
+    let (first, rest) = take!(cut(source, tokens));
     match first.kind {
         Kind::Name => Ok((name_at(source, first)?, rest)),
         _ => Err(misplaced(first)),
@@ -33,8 +34,8 @@ pub fn name_then<'t>(
     requires { Ready source.now tokens.now }
     ensures { Reads source.now (grammar.name_then kind) itself tokens.now result }
 {
-    let (name, rest) = name(source, tokens)?;
-    let rest = expect(source, rest, kind)?;
+    let (name, rest) = take!(name(source, tokens));
+    let rest = take!(expect(source, rest, kind));
     Ok((name, rest))
 }
 
@@ -47,9 +48,9 @@ pub fn names<'t>(source: &Source, tokens: &'t [Token]) -> Result<(List<Name>, &'
     let mut all = List::new(source.alloc);
     let mut rest = tokens;
     'more: loop {
-        let (next, left) = name(source, rest)?;
+        let (next, left) = take!(name(source, rest));
         all.push(next)?;
-        let Some(after) = pass(source, left, Kind::Sign(sign::COMMA))? else {
+        let Some(after) = take!(pass(source, left, Kind::Sign(sign::COMMA))) else {
             return Ok((all, left));
         };
         rest = after;

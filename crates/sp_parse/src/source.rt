@@ -17,6 +17,17 @@ pub struct Source<'a> {
     pub end: Place,
 }
 
+/// The value; where there is none, the function around ends so.
+#[macro_export]
+macro_rules! take {
+    ($result:expr) => {
+        match $result {
+            Ok(value) => value,
+            Err(halt) => return Err(halt),
+        }
+    };
+}
+
 /// The first token and the others. Where none is left, the text ends too early.
 pub fn cut<'t>(source: &Source, tokens: &'t [Token]) -> Result<(Token, &'t [Token]), Halt>
     requires { Ready source.now tokens.now }
@@ -40,7 +51,7 @@ pub fn pass<'t>(
     requires { Ready source.now tokens.now }
     ensures { Passes source.now kind tokens.now result }
 {
-    let (first, rest) = cut(source, tokens)?;
+    let (first, rest) = take!(cut(source, tokens));
     if first.kind == kind {
         return Ok(Some(rest));
     }
@@ -52,7 +63,7 @@ pub fn expect<'t>(source: &Source, tokens: &'t [Token], kind: Kind) -> Result<&'
     requires { Ready source.now tokens.now }
     ensures { Expects source.now kind tokens.now result }
 {
-    let (first, rest) = cut(source, tokens)?;
+    let (first, rest) = take!(cut(source, tokens));
     if first.kind == kind {
         return Ok(rest);
     }

@@ -21,6 +21,7 @@ use crate::names::name_then;
 use crate::operators::{begins_selector, is};
 use crate::source::{Source, cut, expect, misplaced, pass};
 use crate::spelled::name_at;
+use crate::take;
 use sp_base::{Boxed, Halt, List, Place};
 use sp_tree::{Kind, MAX_NESTING, Name, SynArm, SynBranch, SynConst, SynStmt, Token, sign, word};
 
@@ -39,7 +40,7 @@ fn statement<'t>(
     if depth >= MAX_NESTING {
         return deep_statement(source, tokens);
     }
-    let (first, rest) = cut(source, tokens)?;
+    let (first, rest) = take!(cut(source, tokens));
     let at = first.at;
     if is(first, Kind::Name) {
         let name = name_at(source, first)?;
@@ -86,7 +87,7 @@ fn boxed_statement<'t>(
     requires { Ready source.now tokens.now }
     ensures { Reads source.now (single (AStatement depth)) statement_of tokens.now result }
 {
-    let (body, rest) = statement(source, tokens, depth)?;
+    let (body, rest) = take!(statement(source, tokens, depth));
     Ok((Boxed::new(source.alloc, body)?, rest))
 }
 
@@ -102,13 +103,13 @@ fn after_name<'t>(
     requires { Ready source.now tokens.now }
     ensures { Reads source.now (grammar.after_name depth at name) statement_of tokens.now result }
 {
-    let (first, rest) = cut(source, tokens)?;
+    let (first, rest) = take!(cut(source, tokens));
     if is(first, Kind::Sign(sign::OPEN)) {
-        let (args, rest) = arguments(source, rest, depth)?;
+        let (args, rest) = take!(arguments(source, rest, depth));
         return Ok((call_statement(at, name, args), rest));
     }
     if is(first, Kind::Sign(sign::BECOMES)) {
-        let (value, rest) = expression(source, rest, depth)?;
+        let (value, rest) = take!(expression(source, rest, depth));
         let to = variable(name, List::new(source.alloc));
         return Ok((assign_statement(at, to, value), rest));
     }
@@ -130,9 +131,9 @@ fn target<'t>(
     requires { Ready source.now tokens.now }
     ensures { Reads source.now (grammar.assignment depth at name) statement_of tokens.now result }
 {
-    let (of, rest) = selectors(source, tokens, depth)?;
-    let rest = expect(source, rest, Kind::Sign(sign::BECOMES))?;
-    let (value, rest) = expression(source, rest, depth)?;
+    let (of, rest) = take!(selectors(source, tokens, depth));
+    let rest = take!(expect(source, rest, Kind::Sign(sign::BECOMES)));
+    let (value, rest) = take!(expression(source, rest, depth));
     Ok((assign_statement(at, variable(name, of), value), rest))
 }
 
@@ -147,8 +148,8 @@ pub fn compound<'t>(
     requires { Ready source.now tokens.now }
     ensures { Reads source.now (grammar.compound depth) statements_of tokens.now result }
 {
-    let (all, rest) = statements(source, tokens, depth)?;
-    let rest = expect(source, rest, Kind::Word(word::END))?;
+    let (all, rest) = take!(statements(source, tokens, depth));
+    let rest = take!(expect(source, rest, Kind::Word(word::END)));
     Ok((all, rest))
 }
 
@@ -166,9 +167,9 @@ fn statements<'t>(
     let mut all = List::new(source.alloc);
     let mut rest = tokens;
     'more: loop {
-        let (next, left) = statement(source, rest, depth)?;
+        let (next, left) = take!(statement(source, rest, depth));
         all.push(next)?;
-        let Some(after) = pass(source, left, Kind::Sign(sign::SEMICOLON))? else {
+        let Some(after) = take!(pass(source, left, Kind::Sign(sign::SEMICOLON))) else {
             return Ok((all, left));
         };
         rest = after;
@@ -187,7 +188,7 @@ fn sequence<'t>(
     requires { Ready source.now tokens.now }
     ensures { Reads source.now (grammar.compound_statement depth at) statement_of tokens.now result }
 {
-    let (all, rest) = compound(source, tokens, depth)?;
+    let (all, rest) = take!(compound(source, tokens, depth));
     Ok((sequence_statement(at, all), rest))
 }
 
@@ -203,9 +204,9 @@ fn choice<'t>(
     requires { Ready source.now tokens.now }
     ensures { Reads source.now (grammar.if_statement depth at) statement_of tokens.now result }
 {
-    let (test, rest) = expression_then(source, tokens, depth, Kind::Word(word::THEN))?;
-    let (body, rest) = boxed_statement(source, rest, depth)?;
-    let (other, rest) = otherwise(source, rest, depth)?;
+    let (test, rest) = take!(expression_then(source, tokens, depth, Kind::Word(word::THEN)));
+    let (body, rest) = take!(boxed_statement(source, rest, depth));
+    let (other, rest) = take!(otherwise(source, rest, depth));
     Ok((if_statement(at, test, body, other), rest))
 }
 
@@ -220,10 +221,10 @@ fn otherwise<'t>(
     requires { Ready source.now tokens.now }
     ensures { Reads source.now (single (AnElse depth)) other_of tokens.now result }
 {
-    let Some(after) = pass(source, tokens, Kind::Word(word::ELSE))? else {
+    let Some(after) = take!(pass(source, tokens, Kind::Word(word::ELSE))) else {
         return Ok((None, tokens));
     };
-    let (body, rest) = boxed_statement(source, after, depth)?;
+    let (body, rest) = take!(boxed_statement(source, after, depth));
     Ok((Some(body), rest))
 }
 
@@ -239,8 +240,8 @@ fn while_loop<'t>(
     requires { Ready source.now tokens.now }
     ensures { Reads source.now (grammar.while_statement depth at) statement_of tokens.now result }
 {
-    let (test, rest) = expression_then(source, tokens, depth, Kind::Word(word::DO))?;
-    let (body, rest) = boxed_statement(source, rest, depth)?;
+    let (test, rest) = take!(expression_then(source, tokens, depth, Kind::Word(word::DO)));
+    let (body, rest) = take!(boxed_statement(source, rest, depth));
     Ok((while_statement(at, test, body), rest))
 }
 
@@ -256,9 +257,9 @@ fn repeat_loop<'t>(
     requires { Ready source.now tokens.now }
     ensures { Reads source.now (grammar.repeat_statement depth at) statement_of tokens.now result }
 {
-    let (body, rest) = statements(source, tokens, depth)?;
-    let rest = expect(source, rest, Kind::Word(word::UNTIL))?;
-    let (test, rest) = expression(source, rest, depth)?;
+    let (body, rest) = take!(statements(source, tokens, depth));
+    let rest = take!(expect(source, rest, Kind::Word(word::UNTIL)));
+    let (test, rest) = take!(expression(source, rest, depth));
     Ok((repeat_statement(at, body, test), rest))
 }
 
@@ -274,9 +275,9 @@ fn for_loop<'t>(
     requires { Ready source.now tokens.now }
     ensures { Reads source.now (grammar.for_statement depth at) statement_of tokens.now result }
 {
-    let (name, rest) = name_then(source, tokens, Kind::Sign(sign::BECOMES))?;
-    let (bounds, rest) = bounds(source, rest, depth)?;
-    let (body, rest) = boxed_statement(source, rest, depth)?;
+    let (name, rest) = take!(name_then(source, tokens, Kind::Sign(sign::BECOMES)));
+    let (bounds, rest) = take!(bounds(source, rest, depth));
+    let (body, rest) = take!(boxed_statement(source, rest, depth));
     Ok((for_statement(at, name, bounds, body), rest))
 }
 
@@ -290,9 +291,9 @@ fn bounds<'t>(
     requires { Ready source.now tokens.now }
     ensures { Reads source.now (grammar.bounds depth) bounds_of tokens.now result }
 {
-    let (from, rest) = expression(source, tokens, depth)?;
-    let (down, rest) = direction(source, rest)?;
-    let (to, rest) = expression_then(source, rest, depth, Kind::Word(word::DO))?;
+    let (from, rest) = take!(expression(source, tokens, depth));
+    let (down, rest) = take!(direction(source, rest));
+    let (to, rest) = take!(expression_then(source, rest, depth, Kind::Word(word::DO)));
     Ok((Bounds { from, down, to }, rest))
 }
 
@@ -302,7 +303,7 @@ fn direction<'t>(source: &Source, tokens: &'t [Token]) -> Result<(bool, &'t [Tok
     requires { Ready source.now tokens.now }
     ensures { Reads source.now (single ADirection) itself tokens.now result }
 {
-    let (first, rest) = cut(source, tokens)?;
+    let (first, rest) = take!(cut(source, tokens));
     if is(first, Kind::Word(word::TO)) {
         return Ok((false, rest));
     }
@@ -324,10 +325,10 @@ fn forall<'t>(
     requires { Ready source.now tokens.now }
     ensures { Reads source.now (grammar.forall_statement depth at) statement_of tokens.now result }
 {
-    let (name, rest) = name_then(source, tokens, Kind::Sign(sign::BECOMES))?;
-    let (from, rest) = expression_then(source, rest, depth, Kind::Word(word::TO))?;
-    let (to, rest) = expression_then(source, rest, depth, Kind::Word(word::DO))?;
-    let (body, rest) = boxed_statement(source, rest, depth)?;
+    let (name, rest) = take!(name_then(source, tokens, Kind::Sign(sign::BECOMES)));
+    let (from, rest) = take!(expression_then(source, rest, depth, Kind::Word(word::TO)));
+    let (to, rest) = take!(expression_then(source, rest, depth, Kind::Word(word::DO)));
+    let (body, rest) = take!(boxed_statement(source, rest, depth));
     Ok((forall_statement(at, name, from, to, body), rest))
 }
 
@@ -343,8 +344,8 @@ fn case_choice<'t>(
     requires { Ready source.now tokens.now }
     ensures { Reads source.now (grammar.case_statement depth at) statement_of tokens.now result }
 {
-    let (test, rest) = expression_then(source, tokens, depth, Kind::Word(word::OF))?;
-    let (all, rest) = arms(source, rest, depth)?;
+    let (test, rest) = take!(expression_then(source, tokens, depth, Kind::Word(word::OF)));
+    let (all, rest) = take!(arms(source, rest, depth));
     Ok((case_statement(at, test, all), rest))
 }
 
@@ -362,13 +363,13 @@ fn arms<'t>(
     let mut all = List::new(source.alloc);
     let mut rest = tokens;
     'more: loop {
-        let (next, left) = arm(source, rest, depth)?;
+        let (next, left) = take!(arm(source, rest, depth));
         all.push(next)?;
-        let Some(after) = pass(source, left, Kind::Sign(sign::SEMICOLON))? else {
-            let rest = expect(source, left, Kind::Word(word::END))?;
+        let Some(after) = take!(pass(source, left, Kind::Sign(sign::SEMICOLON))) else {
+            let rest = take!(expect(source, left, Kind::Word(word::END)));
             return Ok((all, rest));
         };
-        if let Some(behind) = pass(source, after, Kind::Word(word::END))? {
+        if let Some(behind) = take!(pass(source, after, Kind::Word(word::END))) {
             return Ok((all, behind));
         }
         rest = after;
@@ -382,8 +383,8 @@ fn arm<'t>(source: &Source, tokens: &'t [Token], depth: u32) -> Result<(SynArm, 
     requires { Ready source.now tokens.now }
     ensures { Reads source.now (grammar.arm depth) arm_of tokens.now result }
 {
-    let (constants, rest) = labels(source, tokens)?;
-    let (body, rest) = statement(source, rest, depth)?;
+    let (constants, rest) = take!(labels(source, tokens));
+    let (body, rest) = take!(statement(source, rest, depth));
     Ok((make_arm(constants, body), rest))
 }
 
@@ -396,10 +397,10 @@ fn labels<'t>(source: &Source, tokens: &'t [Token]) -> Result<(List<SynConst>, &
     let mut all = List::new(source.alloc);
     let mut rest = tokens;
     'more: loop {
-        let (next, left) = constant(source, rest)?;
+        let (next, left) = take!(constant(source, rest));
         all.push(next)?;
-        let Some(after) = pass(source, left, Kind::Sign(sign::COMMA))? else {
-            let rest = expect(source, left, Kind::Sign(sign::COLON))?;
+        let Some(after) = take!(pass(source, left, Kind::Sign(sign::COMMA))) else {
+            let rest = take!(expect(source, left, Kind::Sign(sign::COLON)));
             return Ok((all, rest));
         };
         rest = after;
@@ -418,7 +419,7 @@ fn parallel<'t>(
     requires { Ready source.now tokens.now }
     ensures { Reads source.now (grammar.parallel_statement depth at) statement_of tokens.now result }
 {
-    let (all, rest) = branches(source, tokens, depth)?;
+    let (all, rest) = take!(branches(source, tokens, depth));
     Ok((parallel_statement(at, all), rest))
 }
 
@@ -436,10 +437,10 @@ fn branches<'t>(
     let mut all = List::new(source.alloc);
     let mut rest = tokens;
     'more: loop {
-        let (next, left) = statements(source, rest, depth)?;
+        let (next, left) = take!(statements(source, rest, depth));
         all.push(process(next))?;
-        let Some(after) = pass(source, left, Kind::Sign(sign::BAR))? else {
-            let rest = expect(source, left, Kind::Word(word::END))?;
+        let Some(after) = take!(pass(source, left, Kind::Sign(sign::BAR))) else {
+            let rest = take!(expect(source, left, Kind::Word(word::END)));
             return Ok((all, rest));
         };
         rest = after;
@@ -457,6 +458,6 @@ fn assume<'t>(
     requires { Ready source.now tokens.now }
     ensures { Reads source.now (grammar.assume_statement depth at) statement_of tokens.now result }
 {
-    let (test, rest) = expression(source, tokens, depth)?;
+    let (test, rest) = take!(expression(source, tokens, depth));
     Ok((assume_statement(at, test), rest))
 }

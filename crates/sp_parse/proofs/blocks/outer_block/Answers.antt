@@ -6,11 +6,11 @@ use Rattle.sp_parse.proofs.Steps.{has_read, one, expected}
 use Rattle.sp_parse.proofs.Behind.{halts_behind, halts_after}
 use Rattle.sp_parse.proofs.blocks.outer_block.Goals as goal
 
-pub returns-in-Ok : goal.returns-in-Ok
-returns-in-Ok c = has_read c.in-Ok.ensures.first.ready
-    (and (expected c.in_ok-rest.ensures) (and (one c.in_ok-whole.ensures) (and (expected c.in-Ok.ensures) none)))
-    c.in_ok-whole.ensures.same
+pub returns-in-Ok-expect : goal.returns-in-Ok-expect
+returns-in-Ok-expect c = has_read c.in-Ok-expect.ensures.first.ready
+    (and (expected c.in-Ok.ensures) (and (one c.in-Ok-block.ensures) (and (expected c.in-Ok-expect.ensures) none)))
+    c.in-Ok-block.ensures.same
 
-pub returns-in-Err : goal.returns-in-Err
-returns-in-Err c = halts_behind (ABlock 0 ∷ AToken w.Dot ∷ []) c.in_ok-rest.ensures _
-    (halts_after (AToken w.Dot ∷ []) c.in_ok-whole.ensures _ c.in-Err.ensures)
+pub returns-in-Err-expect : goal.returns-in-Err-expect
+returns-in-Err-expect c = halts_behind (ABlock 0 ∷ AToken w.Dot ∷ []) c.in-Ok.ensures _
+    (halts_after (AToken w.Dot ∷ []) c.in-Ok-block.ensures _ c.in-Err-expect.ensures)

@@ -10,9 +10,9 @@ use Rattle.sp_parse.proofs.blocks.program.Goals as goal
 
 pub returns-then-is : goal.returns-then-is
 returns-then-is c = row_result (λ vs. record { name = vs.0; heading = vs.1.0; block = vs.1.1.1.0 }) program_of
-    (λ vs. vs.0) row.program refl (with_at w.Program c.in_ok-first.ensures c.is.ensures c.if-is.true) refl tt
+    (λ vs. vs.0) row.program refl (with_at w.Program c.in-Ok.ensures c.is.ensures c.if-is.true) refl tt
     (λ vs. refl) c.titled.result c.titled.ensures
 
 pub returns : goal.returns
-returns c = fails AProgram c.in_ok-first.ensures
-    (none_if _ (other_at c.in_ok-first.first w.Program c.is.ensures c.if-is.false) refl) refl _ c.misplaced.ensures
+returns c = fails AProgram c.in-Ok.ensures
+    (none_if _ (other_at c.in-Ok.value.0 w.Program c.is.ensures c.if-is.false) refl) refl _ c.misplaced.ensures

@@ -7,13 +7,13 @@ use Rattle.sp_parse.proofs.Declares.{with_is, takes_alone, no_value}
 use Rattle.sp_parse.proofs.constants.value.Goals as goal
 
 pub returns-in-Number : goal.returns-in-Number
-returns-in-Number c = takes_alone row.value_number refl (with_is c.in_ok-first.ensures c.in-Number.is) tt
+returns-in-Number c = takes_alone row.value_number refl (with_is c.in-Ok.ensures c.in-Number.is) tt
     (ap value.Number c.number_at.ensures)
 
 pub returns-in_ok-name_at-in-Name : goal.returns-in_ok-name_at-in-Name
-returns-in_ok-name_at-in-Name c = takes_alone row.value_name refl (with_is c.in_ok-first.ensures c.in-Name.is) tt
+returns-in_ok-name_at-in-Name c = takes_alone row.value_name refl (with_is c.in-Ok.ensures c.in-Name.is) tt
     (ap value.Named c.in_ok-name_at-in-Name.ensures)
 
 pub returns-in_default : goal.returns-in_default
-returns-in_default c = fails AValue c.in_ok-first.ensures
-    (no_value c.in_ok-first.first.kind c.in_default.not-Name c.in_default.not-Number) refl _ c.misplaced.ensures
+returns-in_default c = fails AValue c.in-Ok.ensures
+    (no_value c.in-Ok.value.0.kind c.in_default.not-Name c.in_default.not-Number) refl _ c.misplaced.ensures

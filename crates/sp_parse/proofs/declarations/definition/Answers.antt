@@ -6,9 +6,9 @@ use Rattle.sp_parse.proofs.Steps.{has_read, one, expected}
 use Rattle.sp_parse.proofs.Behind.{halts_after}
 use Rattle.sp_parse.proofs.declarations.definition.Goals as goal
 
-pub returns-in-Ok : goal.returns-in-Ok
-returns-in-Ok c = has_read c.in-Ok.ensures.first.ready
-    (and (one c.in_ok-kind.ensures) (and (expected c.in-Ok.ensures) none)) c.in_ok-kind.ensures.same
+pub returns-in-Ok-expect : goal.returns-in-Ok-expect
+returns-in-Ok-expect c = has_read c.in-Ok-expect.ensures.first.ready
+    (and (one c.in-Ok.ensures) (and (expected c.in-Ok-expect.ensures) none)) c.in-Ok.ensures.same
 
-pub returns-in-Err : goal.returns-in-Err
-returns-in-Err c = halts_after (AToken w.Semicolon ∷ []) c.in_ok-kind.ensures _ c.in-Err.ensures
+pub returns-in-Err-expect : goal.returns-in-Err-expect
+returns-in-Err-expect c = halts_after (AToken w.Semicolon ∷ []) c.in-Ok.ensures _ c.in-Err-expect.ensures

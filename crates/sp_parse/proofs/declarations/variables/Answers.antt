@@ -1,9 +1,8 @@
 use Rattle.std.proofs.Common.{[], ◌∷◌}
-use Rattle.std.proofs.lemmas.Result.{err_from_is_err_and}
 use Rattle.sp_tree.specs.declared.token.Kind.TheVariants as kind
 use Rattle.sp_tree.specs.Words as w
 use Rattle.sp_grammar.specs.Symbols.{AName, MoreNames, AToken, MoreVariables}
-use Rattle.sp_parse.proofs.Steps.{so_far_err, passed, not_passed}
+use Rattle.sp_parse.proofs.Steps.{passed, not_passed}
 use Rattle.sp_parse.proofs.SoFar.{halts_pending}
 use Rattle.sp_parse.proofs.Rounds.{no_item}
 use Rattle.sp_parse.proofs.Declares.{halts_short, name_less}
@@ -17,27 +16,23 @@ pub one_group-requires : goal.one_group-requires
 one_group-requires c = (c.more.invariant 0).ready
 
 pub more-smaller : goal.more-smaller
-more-smaller c = name_less (c.more.invariant 0).ready c.in_ok-next.ensures
+more-smaller c = name_less (c.more.invariant 0).ready c.in-Ok.ensures
 
-pub returns-in_err-next : goal.returns-in_err-next
-returns-in_err-next c = λ d. so_far_err _ _ _ _ _ c.from_residual.result _
-    (err_from_is_err_and c.from_residual.result c.from_residual.ensures.1)
-    (no_item (AName ∷ MoreNames ∷ AToken w.Colon ∷ AName ∷ AToken w.Semicolon ∷ []) (MoreVariables d ∷ [])
-    (c.more.invariant d) _ c.in_err-next.ensures)
+pub returns-in-Err : goal.returns-in-Err
+returns-in-Err c = λ d. no_item (AName ∷ MoreNames ∷ AToken w.Colon ∷ AName ∷ AToken w.Semicolon ∷ [])
+    (MoreVariables d ∷ []) (c.more.invariant d) _ c.in-Err.ensures
 
-pub returns-in_err-pass : goal.returns-in_err-pass
-returns-in_err-pass c = λ d. so_far_err _ _ _ _ _ c.from_residual-in_err-pass.result _
-    (err_from_is_err_and c.from_residual-in_err-pass.result c.from_residual-in_err-pass.ensures.1)
-    (halts_pending (variables_read c.args.all c.more.all c.push.new.self c.more.invariant c.in_ok-next.ensures
-    c.in_ok-push.ensures.ok d) _ (halts_short c.args.source.now kind.Name c.in_ok-next.left.now _ c.in_err-pass.ensures
-    (MoreVariables d)))
+pub returns-in-Err-pass : goal.returns-in-Err-pass
+returns-in-Err-pass c = λ d. halts_pending (variables_read c.args.all c.more.all c.push.new.self c.more.invariant
+    c.in-Ok.ensures c.in_ok-push.ensures.ok d) _ (halts_short c.args.source.now kind.Name c.in-Ok.value.1.now _
+    c.in-Err-pass.ensures (MoreVariables d))
 
 pub returns-in_default : goal.returns-in_default
 returns-in_default c = variables_end c.args.all c.push.new.self
-    (variables_read c.args.all c.more.all c.push.new.self c.more.invariant c.in_ok-next.ensures c.in_ok-push.ensures.ok)
-    (not_passed c.args.source.now kind.Name c.in_ok-next.left.now _ c.in_ok-pass.ensures c.in_default.is)
+    (variables_read c.args.all c.more.all c.push.new.self c.more.invariant c.in-Ok.ensures c.in_ok-push.ensures.ok)
+    (not_passed c.args.source.now kind.Name c.in-Ok.value.1.now _ c.in-Ok-pass.ensures c.in_default.is)
 
 pub more-preserved : goal.more-preserved
 more-preserved c = variables_on c.args.all c.push.new.self
-    (variables_read c.args.all c.more.all c.push.new.self c.more.invariant c.in_ok-next.ensures c.in_ok-push.ensures.ok)
-    (passed c.args.source.now kind.Name c.in_ok-next.left.now _ c.in-Some.field-0 c.in_ok-pass.ensures c.in-Some.is)
+    (variables_read c.args.all c.more.all c.push.new.self c.more.invariant c.in-Ok.ensures c.in_ok-push.ensures.ok)
+    (passed c.args.source.now kind.Name c.in-Ok.value.1.now _ c.in-Some.field-0 c.in-Ok-pass.ensures c.in-Some.is)

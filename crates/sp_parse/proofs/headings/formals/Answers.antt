@@ -9,10 +9,10 @@ use Rattle.sp_parse.proofs.headings.formals.Goals as goal
 
 pub returns-in-Some : goal.returns-in-Some
 returns-in-Some c = row_result (λ vs. vs.0 ∷ vs.1.0) (λ x. x) (λ vs. vs.0) row.formals refl
-    (passed c.args.source.now w.Open c.args.tokens.now _ c.in-Some.after c.in_ok-after.ensures c.in-Some.is) refl tt
+    (passed c.args.source.now w.Open c.args.tokens.now _ c.in-Some.after c.in-Ok.ensures c.in-Some.is) refl tt
     (λ vs. refl) c.some_formals.result c.some_formals.ensures
 
 pub returns-in-None : goal.returns-in-None
-returns-in-None c = let b = (not_passed c.args.source.now w.Open c.args.tokens.now _ c.in_ok-after.ensures
+returns-in-None c = let b = (not_passed c.args.source.now w.Open c.args.tokens.now _ c.in-Ok.ensures
     c.in-None.is) in stands_for_nothing Formals c.requires b.token b.rest b.all (none_if _ b.other refl) refl
     c.new.ensures

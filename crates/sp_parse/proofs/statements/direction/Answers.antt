@@ -9,16 +9,16 @@ use Rattle.sp_parse.proofs.Rows.{with_at, other_at, none_at, row_derives}
 use Rattle.sp_parse.proofs.statements.direction.Goals as goal
 
 pub returns-then-is : goal.returns-then-is
-returns-then-is c = row_derives row.upward refl (with_at w.To c.in_ok-first.ensures c.is.ensures c.if-is.true) tt
-    c.in_ok-first.ensures.ready none refl
+returns-then-is c = row_derives row.upward refl (with_at w.To c.in-Ok.ensures c.is.ensures c.if-is.true) tt
+    c.in-Ok.ensures.ready none refl
 
 pub returns-then-is-2 : goal.returns-then-is-2
 returns-then-is-2 c = row_derives row.downward refl
-    (with_at w.Downto c.in_ok-first.ensures c.is-2.ensures c.if-is-2.true) tt c.in_ok-first.ensures.ready none refl
+    (with_at w.Downto c.in-Ok.ensures c.is-2.ensures c.if-is-2.true) tt c.in-Ok.ensures.ready none refl
 
 pub returns : goal.returns
-returns c = fails sym.ADirection c.in_ok-first.ensures
-    (none_at (rows sym.ADirection) c.in_ok-first.first.kind (
-      other_at c.in_ok-first.first w.To c.is.ensures c.if-is.false,
-      (other_at c.in_ok-first.first w.Downto c.is-2.ensures c.if-is-2.false, tt),
+returns c = fails sym.ADirection c.in-Ok.ensures
+    (none_at (rows sym.ADirection) c.in-Ok.value.0.kind (
+      other_at c.in-Ok.value.0 w.To c.is.ensures c.if-is.false,
+      (other_at c.in-Ok.value.0 w.Downto c.is-2.ensures c.if-is-2.false, tt),
     )) refl _ c.misplaced.ensures

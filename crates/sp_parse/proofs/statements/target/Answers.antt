@@ -5,8 +5,8 @@ use Rattle.sp_parse.proofs.Steps.{has_read, one, expected}
 use Rattle.sp_parse.proofs.statements.target.Goals as goal
 
 pub returns : goal.returns
-returns c = has_read c.in_ok-value.ensures.ready
-    (and (one c.in_ok-of.ensures) (and (expected c.in_ok-rest.ensures) (and (one c.in_ok-value.ensures) none)))
+returns c = has_read c.in-Ok-expression.ensures.ready
+    (and (one c.in-Ok.ensures) (and (expected c.in-Ok-expect.ensures) (and (one c.in-Ok-expression.ensures) none)))
     (c.assign_statement.ensures ∙ (λ i. tree.Does c.args.at
-    (tree.Assign ((c.variable.ensures ∙ ap (tree.Entire c.args.name) c.in_ok-of.ensures.same) i)
-    (c.in_ok-value.ensures.same i))))
+    (tree.Assign ((c.variable.ensures ∙ ap (tree.Entire c.args.name) c.in-Ok.ensures.same) i)
+    (c.in-Ok-expression.ensures.same i))))

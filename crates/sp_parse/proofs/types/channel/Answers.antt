@@ -5,5 +5,5 @@ use Rattle.sp_parse.proofs.Steps.{has_read, expected}
 use Rattle.sp_parse.proofs.types.channel.Goals as goal
 
 pub returns : goal.returns
-returns c = has_read c.in_ok-all.ensures.ready (and (expected c.in_ok-rest.ensures) c.in_ok-all.ensures.derives)
-    (ap kinds.Channel c.in_ok-all.ensures.same)
+returns c = has_read c.in-Ok-listed.ensures.ready (and (expected c.in-Ok.ensures) c.in-Ok-listed.ensures.derives)
+    (ap kinds.Channel c.in-Ok-listed.ensures.same)

@@ -7,6 +7,6 @@ use Rattle.sp_parse.proofs.Rows.{join_all}
 use Rattle.sp_parse.proofs.types.listed.Goals as goal
 
 pub returns : goal.returns
-returns c = has_read c.in_ok-rest.ensures.first.ready
-    (join_all (AName ∷ MoreNames ∷ []) (AToken w.Close ∷ []) c.in_ok-all.ensures.derives
-    (and (expected c.in_ok-rest.ensures) none)) c.in_ok-all.ensures.same
+returns c = has_read c.in-Ok-expect.ensures.first.ready
+    (join_all (AName ∷ MoreNames ∷ []) (AToken w.Close ∷ []) c.in-Ok.ensures.derives
+    (and (expected c.in-Ok-expect.ensures) none)) c.in-Ok.ensures.same

@@ -4,4 +4,4 @@ use Rattle.sp_parse.proofs.Behind.{behind_result}
 use Rattle.sp_parse.proofs.types.type_name.Goals as goal
 
 pub returns : goal.returns
-returns c = behind_result (AName ∷ []) (λ vs. vs.0) (λ x. x) c.in_ok-rest.ensures c.name.result c.name.ensures
+returns c = behind_result (AName ∷ []) (λ vs. vs.0) (λ x. x) c.in-Ok.ensures c.name.result c.name.ensures
