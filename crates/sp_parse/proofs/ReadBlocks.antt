@@ -173,14 +173,6 @@ pub no_more : {source : Source} {ts rest : List Token} {k : Kind} (a : List Symb
     → Halts source (Parts d ∷ []) ts e
 no_more a d before row found y b e h = halts_on a row found refl (untouched d before y) b e h
 
--- the exit of a `?`
-pub declares_err : (source : Source) (d : ℕ) (before : List SynPart) (ts : List Token)
-    (result : Result (List SynPart × Bor (List Token)) Halt) (e : Halt) → (y : Halt) × (result ≡ Err y) × (y ≡ e)
-    → Halts source (Parts d ∷ []) ts e → Declares source d before ts result
-declares_err source d before ts result e p h =
-    let q : result ≡ Err e = p.1 ∙ ap Err p.2 in
-    subst (λ r. Declares source d before ts r) (back_of q) h
-
 pub procedure_same : {n m : Name} {fs gs : List SynFormal} (answer : Option Name) {b e : tree.Block} → n ≡ m → fs ≡ gs
     → b ≡ e → tree.Proc n fs answer b.parts b.body ≡ tree.Proc m gs answer e.parts e.body
 procedure_same {n} {m} {fs} {gs} answer {b} {e} p q r = ap (λ n. tree.Proc n fs answer b.parts b.body) p

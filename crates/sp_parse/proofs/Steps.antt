@@ -1,6 +1,6 @@
 -- Single steps of the machine, and what a part that is read says of it.
 use Rattle.std.proofs.Common.{◌≡◌, ℕ, ◌<◌, ◌≤◌, Bool, true, false, cond, List, [], ◌∷◌, ◌++◌, length, Option, Some}
-use Rattle.std.proofs.Common.{None, Result, Ok, Err, ◌⊎◌, inl, inr, refl, sym as back_of, ap, ◌∙◌, subst, arith, eq-eqb}
+use Rattle.std.proofs.Common.{None, Ok, Err, ◌⊎◌, inl, inr, refl, sym as back_of, ap, ◌∙◌, subst, arith, eq-eqb}
 use borrow.Author.Tests.{eqb-true}
 use Rattle.std.proofs.lemmas.Bool.Decides.{nat_tests}
 use Rattle.std.specs.Borrow.{Bor}
@@ -18,9 +18,8 @@ use Rattle.sp_grammar.specs.Machine.{Why, Bad, Deep, Take, Skip, Fail, allows, s
 use Rattle.sp_grammar.specs.Derives.{Begins as MayBegin, Derives, takes, skips, DerivesAll, none, and}
 use Rattle.sp_grammar.proofs.Run.{at_act, act_takes, act_skips, leads_all}
 use Rattle.sp_parse.specs.declared.source.Source.{Source}
-use Rattle.sp_parse.specs.Productions.{Production}
-use Rattle.sp_parse.specs.Reads.{Within, Ready, breaks, refused_by, HasRead, Halts, Reads, Begins, BeginsOther}
-use Rattle.sp_parse.specs.Reads.{BeginsWith, Passes, Expected, ReadsSoFar}
+use Rattle.sp_parse.specs.Reads.{Within, Ready, breaks, refused_by, HasRead, Halts, Begins, BeginsOther}
+use Rattle.sp_parse.specs.Reads.{BeginsWith, Passes, Expected}
 
 -- a part inside fewer than 200 others is allowed
 pub below : (a b : ℕ) → a < b → (allows (Some b) (Some a) ≡ true)
@@ -181,14 +180,6 @@ pub expect_fails : {source : Source} {ts r : List Token} {t : Token} (k : Kind) 
 expect_fails {t = t} k b n = fails (AToken k) b
     (look_token k t.kind false (kind_is-other k t.kind (kind_is k t.kind) refl n)) refl
 
--- the exit of a `?`
-pub read_err : {X V : Type 0} (source : Source) (p : Production V) (plain : X → V) (ts : List Token)
-    (result : Result (X × Bor (List Token)) Halt) (e : Halt) → (y : Halt) × (result ≡ Err y) × (y ≡ e)
-    → Halts source p.symbols ts e → Reads source p plain ts result
-read_err source p plain ts result e f h =
-    let q : result ≡ Err e = f.1 ∙ ap Err f.2 in
-    subst (λ r. Reads source p plain ts r) (back_of q) h
-
 pub passes_other : {source : Source} {ts r : List Token} {t : Token} (k : Kind) → Begins source ts t r
     → (t.kind ≡ k → ⊥) → BeginsOther ts k
 passes_other {r = r} {t = t} k b n = record {
@@ -206,14 +197,6 @@ passed source k ts o r h e = subst (λ o. Passes source k ts (Ok o)) e h
 pub not_passed : (source : Source) (k : Kind) (ts : List Token) (o : Option (Bor (List Token)))
     → Passes source k ts (Ok o) → o ≡ None → BeginsOther ts k
 not_passed source k ts o h e = subst (λ o. Passes source k ts (Ok o)) e h
-
--- the exit of a `?` where symbols are read so far
-pub so_far_err : {X V : Type 0} (source : Source) (p : Production V) (s : Symbol) (gives : X → Value s → V)
-    (ts : List Token) (result : Result (X × Bor (List Token)) Halt) (e : Halt) → (y : Halt) × (result ≡ Err y) × (y ≡ e)
-    → Halts source p.symbols ts e → ReadsSoFar source p s gives ts result
-so_far_err source p s gives ts result e f h =
-    let q : result ≡ Err e = f.1 ∙ ap Err f.2 in
-    subst (λ r. ReadsSoFar source p s gives ts r) (back_of q) h
 
 -- no token is left for a test
 pub pass_halts : (source : Source) (k : Kind) (ts : List Token) (s : Symbol) (e : Halt) → Passes source k ts (Err e)
