@@ -1,9 +1,10 @@
 use Rattle.std.proofs.Common.{rules, ◌≡◌, ◌+◌, [], ◌∷◌, ◌++◌, ◌∙◌, ap, map, drop, refl, sym, append_assoc, append-nil}
 use Rattle.sp_tree.specs.declared.checked.Expr.{out-Expr, fold_out-Expr}
 use Rattle.sp_tree.specs.declared.checked.ExprForm as ast_f
-use Rattle.sp_tree.specs.PlainChecked.{At, Read, Unary, Binary}
+use Rattle.sp_tree.specs.declared.checked.Var.{out-Var, fold_out-Var}
+use Rattle.sp_tree.specs.PlainChecked.{At, Read, Unary, Binary, Standard, Entire}
 use Rattle.sp_tree.specs.CheckedOf.{expression_of, expression_form_of, variable_of, selectors, selector_of, actuals}
-use Rattle.sp_tree.specs.CheckedOf.{actual_of}
+use Rattle.sp_tree.specs.CheckedOf.{actual_of, expressions}
 use Rattle.sp_tree.specs.Bare.{bare_expression, bare_variable, bare_selectors, bare_actuals}
 use Rattle.sp_code.specs.declared.instr.Instr.{Instr}
 use Rattle.sp_code.specs.Scopes.{selected_type}
@@ -117,3 +118,29 @@ put_selectors-returns-clause-kind t c =
     let end = rw c.items-s-items.ensures at (selectors_end c.items-s-items.result.now c.loop-s.s-index
     c.loop-s-test.false) in
     (λ j. selected_type p c.loop-s.k (bare_selectors (sym end j))) ∙ c.loop-s.invariant.1
+
+pub put_var-returns-clause-code : goal.put_var-returns-clause-code
+put_var-returns-clause-code t c =
+    let v = out-Var c.args.v.now in
+    let p = whole c.args.g.now in
+    let sc = scopes c.args.sc.now in
+    let i : variable_of c.args.v.now ≡ Entire v.variable v.at (selectors (map selector_of v.selectors)) =
+    search (rules, fold_out-Var) in
+    rw i (added c.put_selectors.result c.args.code.now c.put.new.code c.put_selectors.new.code _ _ _
+    c.in_ok-put.ensures c.put_selectors.ensures.code
+    (λ j. (c.in_ok-first.ensures j) ∷ selectors_code p sc (c.variable_kind.ensures j)
+    (bare_selectors (selectors (map selector_of v.selectors)))))
+
+pub put_var-returns-clause-kind : goal.put_var-returns-clause-kind
+put_var-returns-clause-kind t c =
+    let v = out-Var c.args.v.now in
+    let i : variable_of c.args.v.now ≡ Entire v.variable v.at (selectors (map selector_of v.selectors)) =
+    search (rules, fold_out-Var) in
+    rw i (rw c.variable_kind.ensures at c.put_selectors.ensures.kind)
+
+pub put_form-returns-in-Standard : goal.put_form-returns-in-Standard
+put_form-returns-in-Standard t c =
+    let i : expression_form_of c.args.form.now
+    ≡ Standard c.in-Standard.f (expressions (map expression_of c.in-Standard.args)) =
+    search (rules, ast_f.the_lemmas) in
+    rw i c.put_applied.ensures

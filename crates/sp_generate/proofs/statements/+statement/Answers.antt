@@ -1,6 +1,8 @@
 use Rattle.std.proofs.Common.{rules, ◌≡◌, ℕ, List, ◌∷◌, [], ◌++◌, ◌+◌, length, map, drop, sym, ap, ◌∙◌}
+use Rattle.std.proofs.Common.{None, append_assoc, append-nil}
 use Rattle.sp_tree.specs.declared.checked.Form.TheFolds as folds
 use Rattle.sp_tree.specs.declared.checked.Stmt.{out-Stmt, fold_out-Stmt}
+use Rattle.sp_tree.specs.declared.checked.Arm.{out-Arm}
 use Rattle.sp_tree.specs.PlainChecked as tree
 use Rattle.sp_tree.specs.CheckedOf.{expression_of, variable_of, actual_of, actuals, width_of, statement_of}
 use Rattle.sp_tree.specs.CheckedOf.{statement_form_of, statements, sends, receives, arms, arm_of}
@@ -9,17 +11,20 @@ use Rattle.sp_code.specs.declared.instr.Instr.TheVariants as i
 use Rattle.sp_code.specs.Emitted.{value_code}
 use Rattle.sp_generate.specs.Handings.{moved_of, shared_of}
 use Rattle.sp_generate.specs.Steps.{for_instr, next_instr}
-use Rattle.sp_tree.specs.Bare.{bare_expression, bare_arms}
+use Rattle.sp_tree.specs.Bare.{bare_expression, bare_arms, bare_statement}
+use Rattle.sp_code.specs.Places.{after}
+use Rattle.sp_generate.specs.Tables.{child, children}
 use Rattle.sp_generate.specs.declared.levels.Scope.{Scope}
 use Rattle.sp_generate.specs.Written.{drafted, with_code, written, written_form, written_all, written_children}
+use Rattle.sp_generate.specs.Written.{written_arms, starts_of, ends_of}
 use Rattle.sp_generate.specs.Written.{branched, looped, spread, chosen, filled_ends, filled_tests}
 use Rattle.sp_generate.specs.Views.{whole, scopes}
-use Rattle.sp_varsets.proofs.Walking.{statements_on, statements_end}
+use Rattle.sp_varsets.proofs.Walking.{statements_on, statements_end, arms_on, arms_end}
 use Rattle.sp_generate.proofs.Forms.{wrote, went, statement_is, all_step, sequence_done, else_is, child_next, ended_by}
 use Rattle.sp_generate.proofs.Forms.{if_is, while_is, repeat_is, for_is, forall_is, case_is, assign_is, call_is}
 use Rattle.sp_generate.proofs.Forms.{assume_is, read_is, readln_is, write_is, writeln_is, open_is, send_is, receive_is}
 use Rattle.sp_generate.proofs.Forms.{branch_is, passed_is, loop_is, spread_is, parallel_is, choices_are, one_more}
-use Rattle.sp_generate.proofs.Forms.{arms_none, children_none}
+use Rattle.sp_generate.proofs.Forms.{arms_none, children_none, arm_next, written_place}
 use Rattle.sp_generate.proofs.statements.+statement.Goals as goal
 
 pub put_branch-returns : goal.put_branch-returns
@@ -469,3 +474,116 @@ put_child-returns-clause-place t c =
     let d = c.args.d.now in
     (λ j. length (c.in_ok-put.ensures j)) ∙ (λ j. length ((c.in_ok-put_statement.ensures j).instrs ++ i.End ∷ []))
     ∙ ended_by p mv sh sc d (statement_of c.args.s.now) i.End
+
+pub put_children-loop-s-preserved : goal.put_children-loop-s-preserved
+put_children-loop-s-preserved t c =
+    let p = whole c.args.g.now in
+    let mv = moved_of c.args.sets.now in
+    let sh = shared_of c.args.sets.now in
+    let sc = scopes c.args.sc.now in
+    let d = c.loop-s.d in
+    let out = c.loop-s.out.items in
+    let s = statement_of c.s-item.result in
+    let rest = statements (map statement_of (drop (c.loop-s.s-index + 1) c.args.ss.now)) in
+    let on = rw c.items-s-items.ensures at (statements_on c.items-s-items.result.now c.loop-s.s-index c.s-item.result
+    c.loop-s-test.true c.s-item.is) in
+    let behind = children p mv sh (after p (length d.instrs) (bare_statement s) + 1) rest in
+    let line = c.in_ok-line.ensures
+    ∙ ap (λ (q : ℕ). child p mv sh q None s) (c.in_ok-entry.ensures ∙ c.len.ensures) in (
+      c.in_ok-put_child.ensures.code rest ∙ (λ j. written_children p mv sh d sc (sym on j)) ∙ c.loop-s.invariant.0,
+      (λ j. (c.in_ok-push.ensures.items j) ++ children p mv sh (c.in_ok-put_child.ensures.place j) rest)
+          ∙ append_assoc out (c.in_ok-line.line ∷ []) behind
+          ∙ (λ j. out ++ ((line j) ∷ behind))
+          ∙ (λ j. out ++ children p mv sh (length d.instrs) (sym on j))
+          ∙ c.loop-s.invariant.1,
+    )
+
+pub put_children-returns-clause-code : goal.put_children-returns-clause-code
+put_children-returns-clause-code t c =
+    let end = rw c.items-s-items.ensures at (statements_end c.items-s-items.result.now c.loop-s.s-index
+    c.loop-s-test.false) in
+    (λ j. written_children (whole c.args.g.now) (moved_of c.args.sets.now) (shared_of c.args.sets.now) c.loop-s.d
+    (scopes c.args.sc.now) (sym end j)) ∙ c.loop-s.invariant.0
+
+pub put_children-returns-clause-lines : goal.put_children-returns-clause-lines
+put_children-returns-clause-lines t c =
+    let end = rw c.items-s-items.ensures at (statements_end c.items-s-items.result.now c.loop-s.s-index
+    c.loop-s-test.false) in
+    c.of.ensures ∙ sym (append-nil c.loop-s.out.items)
+    ∙ (λ j. c.loop-s.out.items ++ children (whole c.args.g.now) (moved_of c.args.sets.now) (shared_of c.args.sets.now)
+    (length c.loop-s.d.instrs) (sym end j)) ∙ c.loop-s.invariant.1
+
+pub put_arm-returns-clause-code : goal.put_arm-returns-clause-code
+put_arm-returns-clause-code t c rest =
+    let p = whole c.args.g.now in
+    let mv = moved_of c.args.sets.now in
+    let sh = shared_of c.args.sets.now in
+    let sc = scopes c.args.sc.now in
+    let d2 = c.put_statement.new.d in
+    (λ j. written_arms p mv sh (drafted (c.in_ok-put.ensures j) (d2.forks) (d2.texts)) sc rest 0)
+    ∙ (λ j. written_arms p mv sh (with_code (c.in_ok-put_statement.ensures j) (i.Jump 0 ∷ [])) sc rest 0)
+    ∙ arm_next p mv sh sc c.args.d.now _ _ rest
+
+pub put_arm-returns-clause-place : goal.put_arm-returns-clause-place
+put_arm-returns-clause-place t c =
+    let p = whole c.args.g.now in
+    (λ j. length (c.in_ok-put.ensures j))
+    ∙ (λ j. length ((c.in_ok-put_statement.ensures j).instrs ++ i.Jump 0 ∷ []))
+    ∙ ended_by p (moved_of c.args.sets.now) (shared_of c.args.sets.now) (scopes c.args.sc.now) c.args.d.now _ (i.Jump 0)
+
+pub put_arm-returns-clause-end : goal.put_arm-returns-clause-end
+put_arm-returns-clause-end t c =
+    let p = whole c.args.g.now in
+    c.in_ok-end.ensures ∙ c.len.ensures ∙ (λ j. length (c.in_ok-put_statement.ensures j).instrs)
+    ∙ written_place p (moved_of c.args.sets.now) (shared_of c.args.sets.now) (scopes c.args.sc.now) c.args.d.now _
+
+pub put_arms-loop-a-preserved : goal.put_arms-loop-a-preserved
+put_arms-loop-a-preserved t c =
+    let p = whole c.args.g.now in
+    let mv = moved_of c.args.sets.now in
+    let sh = shared_of c.args.sets.now in
+    let sc = scopes c.args.sc.now in
+    let d = c.loop-a.d in
+    let starts = c.loop-a.starts.items in
+    let ends = c.loop-a.ends.items in
+    let rest = arms (map arm_of (drop (c.loop-a.a-index + 1) c.args.xs.now)) in
+    let s = bare_statement (statement_of (out-Arm c.a-item.result).body) in
+    let on = rw c.items-a-items.ensures at (arms_on c.items-a-items.result.now c.loop-a.a-index c.a-item.result
+    c.loop-a-test.true c.a-item.is) in
+    let q = length d.instrs in
+    let behind = after p q s + 1 in (
+      c.in_ok-end.ensures.code rest ∙ (λ j. written_arms p mv sh d sc (sym on j) 0) ∙ c.loop-a.invariant.0,
+      (λ j. (c.in_ok-push.ensures.items j) ++ starts_of p (c.in_ok-end.ensures.place j) (bare_arms rest))
+          ∙ append_assoc starts (c.in_ok-start.start ∷ []) (starts_of p behind (bare_arms rest))
+          ∙ (λ j. starts ++ (((c.in_ok-start.ensures ∙ c.len.ensures) j) ∷ starts_of p behind (bare_arms rest)))
+          ∙ (λ j. starts ++ starts_of p q (bare_arms (sym on j)))
+          ∙ c.loop-a.invariant.1,
+      (λ j. (c.in_ok-push-2.ensures.items j) ++ ends_of p (c.in_ok-end.ensures.place j) (bare_arms rest))
+          ∙ append_assoc ends (c.in_ok-end.end ∷ []) (ends_of p behind (bare_arms rest))
+          ∙ (λ j. ends ++ ((c.in_ok-end.ensures.end j) ∷ ends_of p behind (bare_arms rest)))
+          ∙ (λ j. ends ++ ends_of p q (bare_arms (sym on j)))
+          ∙ c.loop-a.invariant.2,
+    )
+
+pub put_arms-returns-clause-code : goal.put_arms-returns-clause-code
+put_arms-returns-clause-code t c =
+    let end = rw c.items-a-items.ensures at (arms_end c.items-a-items.result.now c.loop-a.a-index
+    c.loop-a-test.false) in
+    (λ j. written_arms (whole c.args.g.now) (moved_of c.args.sets.now) (shared_of c.args.sets.now) c.loop-a.d
+    (scopes c.args.sc.now) (sym end j) 0) ∙ c.loop-a.invariant.0
+
+pub put_arms-returns-clause-starts : goal.put_arms-returns-clause-starts
+put_arms-returns-clause-starts t c =
+    let end = rw c.items-a-items.ensures at (arms_end c.items-a-items.result.now c.loop-a.a-index
+    c.loop-a-test.false) in
+    sym (append-nil c.loop-a.starts.items)
+    ∙ (λ j. c.loop-a.starts.items ++ starts_of (whole c.args.g.now) (length c.loop-a.d.instrs) (bare_arms (sym end j)))
+    ∙ c.loop-a.invariant.1
+
+pub put_arms-returns-clause-ends : goal.put_arms-returns-clause-ends
+put_arms-returns-clause-ends t c =
+    let end = rw c.items-a-items.ensures at (arms_end c.items-a-items.result.now c.loop-a.a-index
+    c.loop-a-test.false) in
+    sym (append-nil c.loop-a.ends.items)
+    ∙ (λ j. c.loop-a.ends.items ++ ends_of (whole c.args.g.now) (length c.loop-a.d.instrs) (bare_arms (sym end j)))
+    ∙ c.loop-a.invariant.2
