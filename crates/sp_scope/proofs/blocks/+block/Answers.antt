@@ -36,3 +36,9 @@ name_titled-returns-clause-found t c =
 
 pub name_parts-loop-p-preserved : goal.name_parts-loop-p-preserved
 name_parts-loop-p-preserved t c = grind (arith, common_steps, beside_beside, beside_nothing)
+
+pub name_parts-returns-clause-found : goal.name_parts-returns-clause-found
+name_parts-returns-clause-found t c = grind (arith, common_steps, beside_beside, beside_nothing)
+
+pub name_parts-returns-clause-after : goal.name_parts-returns-clause-after
+name_parts-returns-clause-after t c = grind (arith, common_steps)

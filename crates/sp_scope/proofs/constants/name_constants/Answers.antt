@@ -4,3 +4,6 @@ use Rattle.sp_scope.proofs.constants.name_constants.Goals as goal
 
 pub loop-c-preserved : goal.loop-c-preserved
 loop-c-preserved c = grind (arith, common_steps)
+
+pub returns : goal.returns
+returns c = grind (arith, common_steps)

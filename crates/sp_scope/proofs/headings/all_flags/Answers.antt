@@ -7,3 +7,6 @@ loop-f-preserved c = grind (arith, common_steps)
 
 pub returns-in_err-push_flags : goal.returns-in_err-push_flags
 returns-in_err-push_flags c = grind (arith, common_steps)
+
+pub returns : goal.returns
+returns c = grind (arith, common_steps)

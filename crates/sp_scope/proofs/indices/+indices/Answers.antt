@@ -10,3 +10,12 @@ push_arms-loop-a-preserved t c = grind (arith, common_steps)
 
 pub push_branches-loop-b-preserved : goal.push_branches-loop-b-preserved
 push_branches-loop-b-preserved t c = grind (arith, common_steps)
+
+pub push_statements-returns-clause-after : goal.push_statements-returns-clause-after
+push_statements-returns-clause-after t c = grind (arith, common_steps)
+
+pub push_arms-returns-clause-after : goal.push_arms-returns-clause-after
+push_arms-returns-clause-after t c = grind (arith, common_steps)
+
+pub push_branches-returns-clause-after : goal.push_branches-returns-clause-after
+push_branches-returns-clause-after t c = grind (arith, common_steps)

@@ -4,3 +4,6 @@ use Rattle.sp_scope.proofs.kinds.check_groups.Goals as goal
 
 pub loop-g-preserved : goal.loop-g-preserved
 loop-g-preserved c = grind (arith, common_steps)
+
+pub returns : goal.returns
+returns c = grind (arith, common_steps)

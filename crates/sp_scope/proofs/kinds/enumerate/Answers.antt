@@ -7,3 +7,6 @@ loop-x-preserved c = grind (arith, common_steps)
 
 pub returns-in_err-ordinal : goal.returns-in_err-ordinal
 returns-in_err-ordinal c = grind (arith, common_steps)
+
+pub returns : goal.returns
+returns c = grind (arith, common_steps)

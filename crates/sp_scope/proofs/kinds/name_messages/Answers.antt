@@ -4,3 +4,6 @@ use Rattle.sp_scope.proofs.kinds.name_messages.Goals as goal
 
 pub loop-t-preserved : goal.loop-t-preserved
 loop-t-preserved c = grind (arith, common_steps)
+
+pub returns : goal.returns
+returns c = grind (arith, common_steps)

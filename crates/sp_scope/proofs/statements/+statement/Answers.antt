@@ -19,3 +19,21 @@ name_arms-loop-a-preserved t c = grind (arith, common_steps)
 
 pub name_branches-loop-b-preserved : goal.name_branches-loop-b-preserved
 name_branches-loop-b-preserved t c = grind (arith, common_steps)
+
+pub name_statements-returns-clause-found : goal.name_statements-returns-clause-found
+name_statements-returns-clause-found t c = grind (arith, common_steps)
+
+pub name_statements-returns-clause-after : goal.name_statements-returns-clause-after
+name_statements-returns-clause-after t c = grind (arith, common_steps)
+
+pub name_arms-returns-clause-found : goal.name_arms-returns-clause-found
+name_arms-returns-clause-found t c = grind (arith, common_steps)
+
+pub name_arms-returns-clause-after : goal.name_arms-returns-clause-after
+name_arms-returns-clause-after t c = grind (arith, common_steps)
+
+pub name_branches-returns-clause-found : goal.name_branches-returns-clause-found
+name_branches-returns-clause-found t c = grind (arith, common_steps)
+
+pub name_branches-returns-clause-after : goal.name_branches-returns-clause-after
+name_branches-returns-clause-after t c = grind (arith, common_steps)

@@ -4,3 +4,9 @@ use Rattle.sp_scope.proofs.variables.numbers.Goals as goal
 
 pub loop-x-preserved : goal.loop-x-preserved
 loop-x-preserved c = grind (arith, common_steps)
+
+pub returns : goal.returns
+returns c = grind (arith, common_steps)
+
+pub returns-in_err-n : goal.returns-in_err-n
+returns-in_err-n c = grind (arith, common_steps)
