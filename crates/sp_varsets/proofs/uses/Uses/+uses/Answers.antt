@@ -1,8 +1,9 @@
 use Rattle.std.proofs.Common.{rules, ◌≡◌, ◌+◌, [], length, map, drop, arith}
 use Rattle.std.proofs.lemmas.List.{nil_from_length}
+use Rattle.sp_tree.specs.declared.checked.Expr.{out-Expr, fold_out-Expr}
 use Rattle.sp_tree.specs.declared.checked.ExprForm as ast_f
 use Rattle.sp_tree.specs.declared.checked.Var.{out-Var, fold_out-Var}
-use Rattle.sp_tree.specs.PlainChecked.{Binary, Apply, Standard, Entire}
+use Rattle.sp_tree.specs.PlainChecked.{At, Read, Unary, Binary, Apply, Standard, Entire}
 use Rattle.sp_tree.specs.Bare.{bare_expression, bare_selectors, bare_actuals}
 use Rattle.sp_tree.specs.CheckedOf.{expression_of, expression_form_of, variable_of, selector_of, selectors, actual_of}
 use Rattle.sp_tree.specs.CheckedOf.{actuals, expressions}
@@ -81,3 +82,20 @@ pub selectors-returns : goal.selectors-returns
 selectors-returns t c = c.loop-s.invariant c.loop-s.self
     (rw (selectors_end c.args.ss.now c.loop-s.s-index c.loop-s-test.false)
     (adds_nothing c.loop-s.self (λ u. ⊥) (λ u h. h)))
+
+pub expression-returns : goal.expression-returns
+expression-returns t c =
+    let e = out-Expr c.args.e.now in
+    let i : expression_of c.args.e.now ≡ At e.at e.kind (expression_form_of e.form) = search (rules, fold_out-Expr) in
+    rw i c.form.ensures
+
+pub form-returns-in-Read : goal.form-returns-in-Read
+form-returns-in-Read t c =
+    let i : expression_form_of c.args.form.now ≡ Read (variable_of c.in-Read.v) = search (rules, ast_f.the_lemmas) in
+    rw i c.read.ensures
+
+pub form-returns-in-Unary : goal.form-returns-in-Unary
+form-returns-in-Unary t c =
+    let i : expression_form_of c.args.form.now ≡ Unary c.in-Unary._op (expression_of c.in-Unary.a) =
+    search (rules, ast_f.the_lemmas) in
+    rw i (rw c.get.ensures at c.expression.ensures)
