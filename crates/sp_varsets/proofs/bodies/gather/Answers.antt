@@ -1,5 +1,6 @@
-use Rattle.std.proofs.Common.{map}
+use Rattle.std.proofs.Common.{◌≡◌, arith, length, map, subst}
 use Rattle.sp_tree.specs.CheckedOf.{block_of}
+use Rattle.sp_varsets.specs.Bodies.{AreBodies}
 use Rattle.sp_varsets.proofs.Adding.{from_empty}
 use Rattle.sp_varsets.proofs.Gathering.{bodies_more, block_at, blocks_on, blocks_end}
 use Rattle.sp_varsets.proofs.Walking.{writes_then, writes_none}
@@ -23,3 +24,8 @@ pub returns-clause-walk : goal.returns-clause-walk
 returns-clause-walk c = c.loop-block.invariant.1 c.loop-block.walk
     (rw (blocks_end c.args.blocks.now c.loop-block.block-index c.loop-block-test.false)
     (writes_none c.loop-block.walk (λ t. ⊥) (λ t h. h)))
+
+pub returns-clause-bodies : goal.returns-clause-bodies
+returns-clause-bodies c =
+    let end : c.loop-block.block-index ≡ length c.args.blocks.now = omega arith in
+    subst (λ n. AreBodies (map block_of c.args.blocks.now) c.loop-block.bodies n) end c.loop-block.invariant.0

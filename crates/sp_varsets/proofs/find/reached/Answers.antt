@@ -1,7 +1,7 @@
-use Rattle.std.proofs.Common.{sym, subst}
+use Rattle.std.proofs.Common.{◌≡◌, ap, arith, length, map, sym, subst}
 use Rattle.sp_base.proofs.Facts.{length_of_map}
-use Rattle.sp_tree.specs.Bare.{bare, variable_of}
-use Rattle.sp_tree.specs.CheckedOf.{program_of}
+use Rattle.sp_tree.specs.Bare.{bare, bare_block, variable_of}
+use Rattle.sp_tree.specs.CheckedOf.{block_of, program_of}
 use Rattle.sp_varsets.specs.Bodies.{AreDeclared}
 use Rattle.sp_varsets.proofs.find.reached.Goals as goal
 
@@ -19,4 +19,59 @@ returns c =
         sees,
       );
       free = (c.in_ok-free.free, c.in_ok-free.ensures.empty, stops);
+    }
+
+pub closed-requires : goal.closed-requires
+closed-requires c =
+    let b = c.requires.bodies in
+    let bs = c.args.checked.now.blocks in
+    let own = ap length c.items-2.ensures in
+    record {
+      runs = omega (arith, b.runs, b.aims, own, ap length c.items-runs.ensures);
+      hidden = omega (
+        arith,
+        b.aims,
+        own,
+        ap length c.items-hidden_rows.ensures,
+        c.in_ok-hidden.ensures.count,
+        length_of_map bare_block (map block_of bs),
+        length_of_map block_of bs,
+      );
+      small = omega (arith, b.aims, own, c.requires.blocks);
+    }
+
+pub closed-requires-2 : goal.closed-requires-2
+closed-requires-2 c =
+    let b = c.requires.bodies in
+    let bs = c.args.checked.now.blocks in
+    let own = ap length c.items-3.ensures in
+    record {
+      runs = omega (arith, b.runs, b.sees, own, ap length c.items-runs.ensures);
+      hidden = omega (
+        arith,
+        b.sees,
+        own,
+        ap length c.items-hidden_rows.ensures,
+        c.in_ok-hidden.ensures.count,
+        length_of_map bare_block (map block_of bs),
+        length_of_map block_of bs,
+      );
+      small = omega (arith, b.sees, own, c.requires.blocks);
+    }
+
+pub closed-requires-3 : goal.closed-requires-3
+closed-requires-3 c =
+    let b = c.requires.bodies in
+    let own = ap length c.items-4.ensures in
+    record {
+      runs = omega (arith, b.runs, b.stops, own, ap length c.items-runs.ensures);
+      hidden = omega (
+        arith,
+        b.stops,
+        own,
+        ap length c.items-free_rows.ensures,
+        c.in_ok-free.ensures.rows,
+        c.len.ensures,
+      );
+      small = omega (arith, b.stops, own, c.requires.blocks);
     }
