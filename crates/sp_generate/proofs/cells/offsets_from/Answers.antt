@@ -4,3 +4,6 @@ use Rattle.sp_generate.proofs.cells.offsets_from.Goals as goal
 
 pub loop-f-preserved : goal.loop-f-preserved
 loop-f-preserved c = grind (arith, common_steps)
+
+pub returns : goal.returns
+returns c = grind (arith, common_steps)

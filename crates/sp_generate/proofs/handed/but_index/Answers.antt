@@ -4,3 +4,6 @@ use Rattle.sp_generate.proofs.handed.but_index.Goals as goal
 
 pub loop-y-preserved : goal.loop-y-preserved
 loop-y-preserved c = grind (arith, common_steps)
+
+pub returns : goal.returns
+returns c = grind (arith, common_steps)
