@@ -54,39 +54,39 @@ fn check_files(xs: &[Name], first: Found) -> Found
 fn standard_constants(alloc: Global, at: Place) -> Result<List<NamedConstant>, Halt>
     ensures { Answers result (Ok (standard_constants at)) }
 {
-    let mut out = Vec::new(alloc);
-    out.push(NamedConstant::Enumerated {
+    let falsehood = NamedConstant::Enumerated {
         kind: 1,
         ordinal: 0,
-    })?;
-    out.push(NamedConstant::Enumerated {
+    };
+    let truth = NamedConstant::Enumerated {
         kind: 1,
         ordinal: 1,
-    })?;
-    out.push(NamedConstant::Value(NamedConst {
+    };
+    let greatest = NamedConstant::Value(NamedConst {
         at,
         negative: None,
         value: NamedValue::Number(MAXINT as u64),
-    }))?;
+    });
+    let out = Vec::from_array(alloc, [falsehood, truth, greatest])?;
     Ok(List::of(out))
 }
 
 fn standard_kinds(alloc: Global, at: Place) -> Result<List<NamedKind>, Halt>
     ensures { Answers result (Ok (standard_kinds at)) }
 {
-    let mut out = Vec::new(alloc);
-    out.push(NamedKind {
+    let integer = NamedKind {
         at,
         form: NamedKindForm::Integer,
-    })?;
-    out.push(NamedKind {
+    };
+    let boolean = NamedKind {
         at,
         form: NamedKindForm::Boolean,
-    })?;
-    out.push(NamedKind {
+    };
+    let character = NamedKind {
         at,
         form: NamedKindForm::Char,
-    })?;
+    };
+    let out = Vec::from_array(alloc, [integer, boolean, character])?;
     Ok(List::of(out))
 }
 
