@@ -4,7 +4,7 @@ use Rattle.std.proofs.Common.{drop}
 use Rattle.std.proofs.lemmas.Bool.{eq-eqb}
 use Rattle.sp_tree.specs.declared.checked.KindOf.{KindOf}
 use Rattle.sp_tree.specs.declared.operators.StandardFn.{StandardFn}
-use Rattle.sp_tree.specs.Plain.{Variable, AtInput}
+use Rattle.sp_tree.specs.Plain.{Variable}
 use Rattle.sp_tree.specs.Cells.{variables_of}
 use Rattle.sp_meaning.specs.Maps.{at_key}
 use Rattle.sp_meaning.specs.Values.{Value, initials, get_at}
@@ -13,8 +13,8 @@ use Rattle.sp_meaning.specs.Own.{value_in}
 use Rattle.sp_meaning.specs.Eval.{Given, ValueOf, At}
 use Rattle.sp_meaning.specs.Deeds.{Stepped, begins, taken_by}
 use Rattle.sp_meaning.specs.Texts.{Taken, line_length}
-use Rattle.sp_run.specs.Direct.{Store, Came, Got, fetch, put}
-use Rattle.sp_run.specs.DirectEval.{Calls, kind_at, left_of, input_op, checked, read_at, form_value}
+use Rattle.sp_run.specs.Direct.{Store, Came, Got, bind, fetch, put}
+use Rattle.sp_run.specs.DirectEval.{kind_at, left_of, input_op, checked, read_at}
 use Rattle.sp_run.specs.DirectDeeds.{lay_one, lay, copy_in, take_in, advance}
 use Rattle.sp_run.specs.Acts.{read_value, read_line}
 
@@ -68,10 +68,9 @@ value_read g a todo w o o1 o2 s s1 s2 k left t u e1 e2 e3 e4 =
     let f = rw (p, q) at e4 in
     rw (e1, m, f) refl
 
-pub input_is : (g : Setting) (call : Calls) (k : ℕ) (f : StandardFn) (w : Who) (o o1 : Own) (s s1 : Store)
-    (left : List ℕ) (c : Came Value) → left_of g w o s ≡ Got left o1 s1 → input_op f left w o1 s1 ≡ c
-    → form_value g call k (AtInput f) w o s ≡ c
-input_is g call k f w o o1 s s1 left c e1 e2 =
+pub input_is : (g : Setting) (f : StandardFn) (w : Who) (o o1 : Own) (s s1 : Store) (left : List ℕ) (c : Came Value)
+    → left_of g w o s ≡ Got left o1 s1 → input_op f left w o1 s1 ≡ c → bind (left_of g) (input_op f) w o s ≡ c
+input_is g f w o o1 s s1 left c e1 e2 =
     let l : drop (position_in (s Input)) g.input ≡ left = cc in
     let p : o1 ≡ o = cc in
     let q : s1 ≡ s = cc in

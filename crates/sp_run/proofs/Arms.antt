@@ -1,10 +1,11 @@
--- The search through the arms of a `case`, one after another.
+-- The search through the arms of a `case`, and through the constants of one, one after another.
 use Rattle.std.proofs.Common.{◌≡◌, ℕ, zero, suc, ◌<◌, ◌≤◌, true, false, List, [], ◌∷◌, Some, None}
 use Rattle.std.proofs.Common.{drop, length, get_or, refl, sym, arith, rules}
 use Rattle.std.specs.Prelude.{ℤ}
 use Rattle.sp_tree.specs.declared.checked.Arm.{Arm, out-Arm, fold_out-Arm}
 use Rattle.sp_tree.specs.Plain as p
 use Rattle.sp_tree.specs.PlainOf.{stmt_of, arms_of, arm_of}
+use Rattle.sp_tree.specs.Operators.{same_ordinal}
 use Rattle.sp_meaning.specs.Deeds.{has, arm_for}
 
 pub arm_is : (a : Arm) → arm_of a ≡ p.On (out-Arm a).constants (stmt_of (out-Arm a).body)
@@ -27,3 +28,21 @@ arm_end n [] zero h = refl
 arm_end n [] (suc i) h = refl
 arm_end n (c ∷ bs) zero h = absurd (omega arith)
 arm_end n (c ∷ bs) (suc i) h = arm_end n bs i (omega arith)
+
+pub has_on : (n : ℤ) (ms : List ℤ) (i : ℕ) (m : ℤ) → i < length ms → m ≡ get_or ms i m → same_ordinal n m ≡ false
+    → has n (drop i ms) ≡ has n (drop (suc i) ms)
+has_on n [] i m h q e = absurd (omega arith)
+has_on n (k ∷ ms) zero m h q e = rw (sym q) (rw e refl)
+has_on n (k ∷ ms) (suc i) m h q e = has_on n ms i m (omega arith) q e
+
+pub has_stop : (n : ℤ) (ms : List ℤ) (i : ℕ) (m : ℤ) → i < length ms → m ≡ get_or ms i m → same_ordinal n m ≡ true
+    → has n (drop i ms) ≡ true
+has_stop n [] i m h q e = absurd (omega arith)
+has_stop n (k ∷ ms) zero m h q e = rw (sym q) (rw e refl)
+has_stop n (k ∷ ms) (suc i) m h q e = has_stop n ms i m (omega arith) q e
+
+pub has_end : (n : ℤ) (ms : List ℤ) (i : ℕ) → length ms ≤ i → has n (drop i ms) ≡ false
+has_end n [] zero h = refl
+has_end n [] (suc i) h = refl
+has_end n (k ∷ ms) zero h = absurd (omega arith)
+has_end n (k ∷ ms) (suc i) h = has_end n ms i (omega arith)

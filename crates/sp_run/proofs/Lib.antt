@@ -7,6 +7,7 @@ mod Changing
 mod Collecting
 mod Deeding
 mod Ending
+mod Following
 mod Goings
 mod Handing
 mod Logs
@@ -15,7 +16,6 @@ mod Naming
 mod Opening
 mod Placing
 mod Pushing
-mod Reading
 mod SameDeeds
 mod SameEval
 mod Sorting

@@ -3,17 +3,18 @@
 -- and `bodies` cite it: a part of a deed for each function of the interpreter.
 use Rattle.std.specs.Prelude.{ℕ, ℤ, List, [], ◌∷◌, Option, Some, None, Bool, true, false, if◌then◌else◌}
 use Rattle.sp_base.specs.declared.fault.Fault.TheVariants as fault
-use Rattle.sp_tree.specs.Plain.{Expr, Stmt, While, Repeat}
+use Rattle.sp_tree.specs.Plain.{Expr, Stmt, Block, While, Repeat}
 use Rattle.sp_meaning.specs.Values.{Value, Chan}
-use Rattle.sp_meaning.specs.Own.{Setting, Who, Address, Item, Do, First, Test, Leave}
-use Rattle.sp_meaning.specs.Eval.{Given}
-use Rattle.sp_meaning.specs.Deeds.{Deed, Stepped, Ticked, Opened, push, if_true, is_range, next_value, shown, taken_by}
+use Rattle.sp_meaning.specs.Model.{Channel, Message, Takes}
+use Rattle.sp_meaning.specs.Own.{Setting, Who, Address, Item, Tree, Do, First, Test, Leave}
+use Rattle.sp_meaning.specs.Deeds.{Deed, Stepped, Ticked, Opened, Offered, push, if_true, is_range, next_value, shown}
+use Rattle.sp_meaning.specs.Deeds.{taken_by}
 use Rattle.sp_meaning.specs.Texts.{line_length}
 use Rattle.sp_run.specs.declared.item.Item as kept
 use Rattle.sp_run.specs.Items.{item_of}
 use Rattle.sp_run.specs.Direct.{Work, bind, give, fail, who, tick, assign, or_lost}
 use Rattle.sp_run.specs.DirectEval.{kind_at, read_at, place_of, left_of, ordinal}
-use Rattle.sp_run.specs.DirectDeeds.{in_width, enter, leave, write, advance, take_in, turn_of, act, settle, left_by}
+use Rattle.sp_run.specs.DirectDeeds.{in_width, leave, write, advance, take_in, turn_of, act, settle, left_by}
 use Rattle.sp_run.specs.DirectDeeds.{answer_of, call_by, all}
 
 -- a value goes to an address
@@ -44,15 +45,22 @@ assumed n todo = if_true n (give (Stepped todo)) (fail fault.F8)
 abbrev pub next_channel : Who → Value
 next_channel w = Chan (record { owner = w.name; nth = w.opens })
 
+-- a procedure's body comes first
+abbrev pub called : List Item → Block → Work Deed
+called todo b = give (Ticked (push b.body (Leave ∷ todo)))
+
+-- a value is offered on a channel, or an address
+abbrev pub sends : Channel → ℕ → List Item → Value → Work Deed
+sends c k todo v = give (Offered c k (Message (Tree v)) todo)
+
+abbrev pub receives : Channel → List Item → Address → Work Deed
+receives c todo a = give (Offered c a.kind (Takes a) todo)
+
 -- a new channel goes to an address
 abbrev pub opened : Address → List Item → Work Deed
 opened a todo = bind who (λ w. bind (assign a (next_channel w)) (λ u. give (Opened todo)))
 
 module _ (g : Setting) where
-  -- a procedure's block is entered and its body comes first
-  abbrev pub called : ℕ → List Given → List Item → Work Deed
-  called f gs todo = bind (enter g f gs) (λ b. give (Ticked (push b.body (Leave ∷ todo))))
-
   -- one more turn of a while loop, if its ordinal is true
   abbrev pub looped : ℤ → Expr → Stmt → List Item → Work Deed
   looped n e s todo = if_true n (bind (tick g.limits) (λ u. give (Ticked (push s (Do (While e s) ∷ todo)))))

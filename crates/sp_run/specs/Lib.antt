@@ -7,11 +7,11 @@ pub mod Direct
 pub mod DirectDeeds
 pub mod DirectEval
 pub mod Doings
+pub mod Following
 pub mod Framing
 pub mod Items
 pub mod Machines
 pub mod Meanings
-pub mod Passing
 pub mod Places
 pub mod States
 pub mod Texts

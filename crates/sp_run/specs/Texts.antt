@@ -4,8 +4,8 @@
 use Rattle.std.specs.Prelude.{ℕ, ℤ, pos, ◌+ℤ◌, ◌-ℤ◌, nat_abs, int_lt, List, Bool, false, not, Option}
 use Rattle.std.specs.Prelude.{if◌then◌else◌}
 use Rattle.std.specs.Option.{option_map}
-use Rattle.sp_run.specs.declared.texts.Taken.{Taken}
-use Rattle.sp_run.specs.declared.texts.Taken.TheVariants as taken
+use Rattle.sp_items.specs.declared.Taken.{Taken}
+use Rattle.sp_items.specs.Taking.{taken_of}
 use Rattle.sp_tree.specs.Items as i
 use Rattle.sp_tree.specs.Plain.{Stmt}
 use Rattle.sp_meaning.specs.Own.{Setting, Item, Do, First, Again, Test, Leave, Break}
@@ -15,12 +15,9 @@ use Rattle.sp_run.specs.Direct.{Work, bind, give, assign}
 use Rattle.sp_run.specs.DirectEval.{place_of, address_of}
 use Rattle.sp_run.specs.DirectDeeds.{fork, peek}
 
-abbrev pub plain_taken : Taken → i.Taken
-plain_taken (taken.Takes n bytes) = i.Takes n bytes
-plain_taken (taken.Fails f) = i.Fails f
-
-abbrev pub taken_of : Option Taken → Option i.Taken
-taken_of o = option_map plain_taken o
+-- what is read, if there is a way to read it
+abbrev pub taken_if : Option Taken → Option i.Taken
+taken_if o = option_map taken_of o
 
 -- the children of a forall, if its range has values
 abbrev pub forall : Setting → ℕ → ℤ → ℤ → Stmt → List Item → Work Deed

@@ -1,31 +1,70 @@
 //! What a step does once its expressions have values.
 
-ghost use Rattle.std.specs.Prelude.{◌≡◌, ◌++◌, IfOk, replicate};
-ghost use Rattle.sp_tree.specs.PlainOf.{expr_of, stmt_of, arms_of};
-ghost use Rattle.sp_meaning.specs.Deeds.{arm_for, is_range, next_value};
+ghost use Rattle.std.specs.Prelude.{◌≡◌, ◌++◌, ◌∷◌, IfOk, Some, true, map, replicate};
+ghost use Rattle.sp_tree.specs.PlainOf.{expr_of, stmt_of, arms_of, stmts_of, var_of};
+ghost use Rattle.sp_tree.specs.PlainOf.{sends as each_send, receives as each_receive};
+ghost use Rattle.sp_meaning.specs.Deeds.{Stepped, push_all, arm_for, is_range, next_value};
 ghost use Rattle.sp_run.specs.Items.{items_of};
 ghost use Rattle.sp_run.specs.Machines.{setting_of, plain_who};
 ghost use Rattle.sp_run.specs.Comings.{Implements, same};
-ghost use Rattle.sp_run.specs.Views.{plain_value, plain_address};
-ghost use Rattle.sp_run.specs.Doings.{given_of, plain_deed};
+ghost use Rattle.sp_run.specs.Following.{Follows, after};
+ghost use Rattle.sp_run.specs.Direct.{give};
+ghost use Rattle.sp_run.specs.Views.{plain_value, plain_address, plain_channel};
+ghost use Rattle.sp_run.specs.Doings.{given_of, plain_given, plain_deed, block_in};
 ghost use Rattle.sp_run.specs.DirectDeeds.{chosen, turn_of};
 ghost use Rattle.sp_run.specs.Acts.{assigned_to, picked, either, ranged, tested, assumed, opened, next_channel, called};
+ghost use Rattle.sp_run.specs.Acts.{sends, receives};
 ghost use Rattle.sp_run.specs.Acts.{looped, repeated, index_value, next_turn, returned, read_value, read_line};
 ghost use Rattle.sp_run.specs.Acts.{write_bytes, write_text, write_shown};
 
-use crate::calls::{Given, enter, leave, tick};
-use crate::deeds::{Deed, advance, arm_for, take_in, turn_of, write};
+use crate::calls::{Given, leave, tick};
+use crate::deeds::{Cargo, Deed, advance, arm_for, take_in, turn_of, write};
 use crate::frames::place_of;
-use crate::item::{Item, push, push_both, push_item};
+use crate::item::{Item, push, push_all, push_both, push_item, push_receives, push_sends};
 use crate::machine::{Machine, Setting, Who};
 use crate::operators::{kind_at, left_of, ordinal, read_at};
 use crate::stop::{Done, Halted};
 use crate::store::assign;
-use crate::texts::{cut_to, line_length, shown, taken_by};
+use crate::texts::{shown, taken_by};
 use crate::value::{Address, Chan, Value, copy_name};
 use crate::{have, take};
-use sp_base::{Fault, Memory};
-use sp_tree::{Arm, Expr, Stmt};
+use sp_base::{Fault, List, Memory};
+use sp_items::{cut_to, line_length};
+use sp_tree::{Arm, Block, Expr, Stmt, Var};
+
+/// What a statement does once its ordinal is known.
+#[derive(Clone, Copy)]
+pub enum Then<'a> {
+    If(&'a Stmt),
+    Either(&'a Stmt, &'a Stmt),
+    While(&'a Expr, &'a Stmt),
+    Case(&'a [Arm]),
+    Assume,
+    Test(&'a Stmt, &'a Expr),
+}
+
+/// A statement goes on with its ordinal.
+pub fn goes_on<'a>(
+    run: &Setting,
+    who: &Who,
+    machine: &mut Machine,
+    n: Done<i64>,
+    then: Then<'a>,
+    todo: &mut Vec<Item<'a>>,
+) -> Done<Deed<'a>>
+    ensures { Follows run.now who.now same (plain_deed (items_of todo.new.items)) machine.old n result machine.new
+        (λ m. after (setting_of run.now) then.entry m (items_of todo.old.items)) }
+{
+    let n = take!(n);
+    match then {
+        Then::If(a) => picked(run, who, machine, n, a, todo),
+        Then::Either(a, b) => either(run, who, machine, n, a, b, todo),
+        Then::While(e, s) => looped(run, who, machine, n, e, s, todo),
+        Then::Case(arms) => chosen(run, who, machine, n, arms, todo),
+        Then::Assume => assumed(run, who, machine, n, todo),
+        Then::Test(s, e) => tested(run, who, machine, n, s, e, todo),
+    }
+}
 
 /// A value goes to an address.
 pub fn assigned_to<'a>(
@@ -33,18 +72,33 @@ pub fn assigned_to<'a>(
     who: &Who,
     machine: &mut Machine,
     at: &Address,
-    v: &Value,
+    v: Done<Value>,
     todo: &mut Vec<Item<'a>>,
 ) -> Done<Deed<'a>>
-    ensures { Implements run.now who.now (plain_deed (items_of todo.new.items)) machine.old result machine.new
-        (assigned_to (plain_address at.now) (plain_value v.now) (items_of todo.old.items)) }
+    ensures { Follows run.now who.now plain_value (plain_deed (items_of todo.new.items)) machine.old v result
+        machine.new (λ x. assigned_to (plain_address at.now) x (items_of todo.old.items)) }
+{
+    let v = take!(v);
+    put_to(run, who, machine, at, &v, todo)
+}
+
+fn put_to<'a>(
+    run: &Setting,
+    who: &Who,
+    machine: &mut Machine,
+    at: &Address,
+    v: &Value,
+    todo: &Vec<Item<'a>>,
+) -> Done<Deed<'a>>
+    ensures { Implements run.now who.now (plain_deed (items_of todo.now.items)) machine.old result machine.new
+        (assigned_to (plain_address at.now) (plain_value v.now) (items_of todo.now.items)) }
 {
     take!(assign(run, who, machine, at, v));
     Done::Gives(Deed::Stepped)
 }
 
 /// A statement, if an ordinal is true.
-pub fn picked<'a>(
+fn picked<'a>(
     run: &Setting,
     who: &Who,
     machine: &Machine,
@@ -63,7 +117,7 @@ pub fn picked<'a>(
 }
 
 /// One of two statements.
-pub fn either<'a>(
+fn either<'a>(
     run: &Setting,
     who: &Who,
     machine: &Machine,
@@ -97,14 +151,15 @@ pub fn ranged<'a>(
     machine: &Machine,
     variable: u32,
     low: i64,
-    high: i64,
+    high: Done<i64>,
     down: bool,
     body: &'a Stmt,
     todo: &mut Vec<Item<'a>>,
 ) -> Done<Deed<'a>>
-    ensures { Implements run.now who.now (plain_deed (items_of todo.new.items)) machine.now result machine.now
-        (ranged variable low high down (stmt_of body.now) (items_of todo.old.items)) }
+    ensures { Follows run.now who.now same (plain_deed (items_of todo.new.items)) machine.now high result machine.now
+        (λ n. ranged variable low n down (stmt_of body.now) (items_of todo.old.items)) }
 {
+    let high = take!(high);
     if !is_range(down, low, high) {
         return Done::Gives(Deed::Stepped);
     }
@@ -120,7 +175,7 @@ pub fn ranged<'a>(
 }
 
 /// The statement of the arm with this constant, or F9.
-pub fn chosen<'a>(
+fn chosen<'a>(
     run: &Setting,
     who: &Who,
     machine: &Machine,
@@ -141,7 +196,7 @@ pub fn chosen<'a>(
 }
 
 /// The test of a `repeat` loop, with its ordinal.
-pub fn tested<'a>(
+fn tested<'a>(
     run: &Setting,
     who: &Who,
     machine: &Machine,
@@ -161,7 +216,7 @@ pub fn tested<'a>(
 }
 
 /// An ordinal is true, or F8.
-pub fn assumed<'a>(
+fn assumed<'a>(
     run: &Setting,
     who: &Who,
     machine: &Machine,
@@ -182,11 +237,25 @@ pub fn opened<'a>(
     run: &Setting,
     who: &Who,
     machine: &mut Machine,
-    at: &Address,
+    at: Done<Address>,
     todo: &mut Vec<Item<'a>>,
 ) -> Done<Deed<'a>>
-    ensures { Implements run.now who.now (plain_deed (items_of todo.new.items)) machine.old result machine.new
-        (opened (plain_address at.now) (items_of todo.old.items)) }
+    ensures { Follows run.now who.now plain_address (plain_deed (items_of todo.new.items)) machine.old at result
+        machine.new (λ a. opened a (items_of todo.old.items)) }
+{
+    let at = take!(at);
+    open_to(run, who, machine, &at, todo)
+}
+
+fn open_to<'a>(
+    run: &Setting,
+    who: &Who,
+    machine: &mut Machine,
+    at: &Address,
+    todo: &Vec<Item<'a>>,
+) -> Done<Deed<'a>>
+    ensures { Implements run.now who.now (plain_deed (items_of todo.now.items)) machine.old result machine.new
+        (opened (plain_address at.now) (items_of todo.now.items)) }
 {
     let c = have!(new_channel(run, who));
     take!(assign(run, who, machine, at, &c));
@@ -204,25 +273,24 @@ fn new_channel(run: &Setting, who: &Who) -> Result<Value, Memory>
     }))
 }
 
-/// A procedure's block is entered, and its body comes first.
+/// The body of a procedure comes first, where its block is entered.
 pub fn called<'a>(
-    run: &Setting<'a>,
+    run: &Setting,
     who: &Who,
-    machine: &mut Machine,
-    f: u32,
-    given: &[Given],
+    machine: &Machine,
+    block: Done<&'a Block>,
     todo: &mut Vec<Item<'a>>,
 ) -> Done<Deed<'a>>
-    ensures { Implements run.now who.now (plain_deed (items_of todo.new.items)) machine.old result machine.new
-        (called (setting_of run.now) f (given_of given.now) (items_of todo.old.items)) }
+    ensures { Follows run.now who.now block_in (plain_deed (items_of todo.new.items)) machine.now block.entry result
+        machine.now (called (items_of todo.old.items)) }
 {
-    let block = take!(enter(run, who, machine, f, given));
+    let block = take!(block);
     have!(push_both(&block.body, Item::Leave, todo));
     Done::Gives(Deed::Ticked)
 }
 
 /// One more turn of a `while` loop, if its ordinal is true.
-pub fn looped<'a>(
+fn looped<'a>(
     run: &Setting,
     who: &Who,
     machine: &mut Machine,
@@ -295,9 +363,9 @@ fn index_value(run: &Setting, who: &Who, machine: &mut Machine, variable: u32) -
     ensures { Implements run.now who.now same machine.old result machine.new
         (index_value (setting_of run.now) variable) }
 {
-    let q = take!(place_of(run, who, machine, variable));
-    let v = take!(read_at(run, who, machine, &q));
-    ordinal(run, who, machine, &v)
+    let q = place_of(run, who, machine, variable);
+    let v = read_at(run, who, machine, q);
+    ordinal(run, who, machine, v)
 }
 
 /// The next turn of a `for` loop.
@@ -334,6 +402,21 @@ pub fn returned<'a>(
 
 /// The next item of the input goes to an address.
 pub fn read_value<'a>(
+    run: &Setting,
+    who: &Who,
+    machine: &mut Machine,
+    at: Done<Address>,
+    todo: &mut Vec<Item<'a>>,
+) -> Done<Deed<'a>>
+    ensures { Follows run.now who.now plain_address (plain_deed (items_of todo.new.items)) machine.old at result
+        machine.new (λ a. read_value (setting_of run.now) a (items_of todo.old.items)) }
+{
+    let at = take!(at);
+    read_to(run, who, machine, &at, todo)
+}
+
+/// The next item of the input goes to an address that is known.
+fn read_to<'a>(
     run: &Setting,
     who: &Who,
     machine: &mut Machine,
@@ -398,7 +481,7 @@ pub fn write_bytes<'a>(
 }
 
 /// A text is written in its width.
-pub fn write_text<'a>(
+fn write_text<'a>(
     run: &Setting,
     who: &Who,
     machine: &mut Machine,
@@ -417,10 +500,26 @@ pub fn write_text<'a>(
                 return Done::Halts(Halted::Fault(Fault::F1));
             }
             let m = m as usize;
-            let text = cut_to(cut, m, text);
+            let text = cut_to(cut, m as u64, text);
             write_behind(run, who, machine, m.saturating_sub(text.len()), text, todo)
         }
     }
+}
+
+/// A text is written in a width, where it has a value.
+pub fn write_wide<'a>(
+    run: &Setting,
+    who: &Who,
+    machine: &mut Machine,
+    text: &[u8],
+    width: Done<Option<i64>>,
+    todo: &mut Vec<Item<'a>>,
+) -> Done<Deed<'a>>
+    ensures { Follows run.now who.now same (plain_deed (items_of todo.new.items)) machine.old width result machine.new
+        (λ m. write_text (setting_of run.now) true text.now m (items_of todo.old.items)) }
+{
+    let width = take!(width);
+    write_text(run, who, machine, true, text, width, todo)
 }
 
 /// An ordinal of a type is written in its width.
@@ -430,13 +529,128 @@ pub fn write_shown<'a>(
     machine: &mut Machine,
     kind: u32,
     n: i64,
-    width: Option<i64>,
+    width: Done<Option<i64>>,
     todo: &mut Vec<Item<'a>>,
 ) -> Done<Deed<'a>>
-    ensures { Implements run.now who.now (plain_deed (items_of todo.new.items)) machine.old result machine.new
-        (write_shown (setting_of run.now) kind n width (items_of todo.old.items)) }
+    ensures { Follows run.now who.now same (plain_deed (items_of todo.new.items)) machine.old width result machine.new
+        (λ m. write_shown (setting_of run.now) kind n m (items_of todo.old.items)) }
 {
+    let width = take!(width);
     let kind = take!(kind_at(run, who, machine, kind));
     let (cut, text) = have!(shown(run.alloc, kind, n));
     write_text(run, who, machine, cut, text.items(), width, todo)
+}
+
+/// A width that is there.
+pub fn width_of(run: &Setting, who: &Who, machine: &Machine, n: Done<i64>) -> Done<Option<i64>>
+    ensures { Follows run.now who.now same same machine.now n result machine.now (λ m. give (Some m)) }
+{
+    let n = take!(n);
+    Done::Gives(Some(n))
+}
+
+/// An argument stands before the others.
+pub fn first_given(
+    run: &Setting,
+    who: &Who,
+    machine: &Machine,
+    g: Given,
+    rest: Done<List<Given>>,
+) -> Done<List<Given>>
+    ensures { Follows run.now who.now given_of given_of machine.now rest result machine.now
+        (λ gs. give (plain_given g ∷ gs)) }
+{
+    let mut all = take!(rest).into_vec();
+    have!(all.insert(0, g));
+    Done::Gives(List::of(all))
+}
+
+/// A value is offered on a channel.
+pub fn sends<'a>(
+    run: &Setting,
+    who: &Who,
+    machine: &Machine,
+    channel: Chan,
+    kind: u32,
+    v: Done<Value>,
+    todo: &Vec<Item<'a>>,
+) -> Done<Deed<'a>>
+    ensures { Follows run.now who.now plain_value (plain_deed (items_of todo.now.items)) machine.now v result
+        machine.now (sends (plain_channel channel) kind (items_of todo.now.items)) }
+{
+    let v = take!(v);
+    Done::Gives(Deed::Offered {
+        channel,
+        kind,
+        cargo: Cargo::Message(v),
+    })
+}
+
+/// An address takes what comes on a channel.
+pub fn receives<'a>(
+    run: &Setting,
+    who: &Who,
+    machine: &Machine,
+    channel: Chan,
+    at: Done<Address>,
+    todo: &Vec<Item<'a>>,
+) -> Done<Deed<'a>>
+    ensures { Follows run.now who.now plain_address (plain_deed (items_of todo.now.items)) machine.now at result
+        machine.now (receives (plain_channel channel) (items_of todo.now.items)) }
+{
+    let at = take!(at);
+    Done::Gives(Deed::Offered {
+        channel,
+        kind: at.kind,
+        cargo: Cargo::Takes(at),
+    })
+}
+
+/// Statements come first.
+pub fn sequence<'a>(
+    run: &Setting,
+    who: &Who,
+    machine: &Machine,
+    ss: &'a [Stmt],
+    todo: &mut Vec<Item<'a>>,
+) -> Done<Deed<'a>>
+    ensures { Implements run.now who.now (plain_deed (items_of todo.new.items)) machine.now result machine.now
+        (give (Stepped (push_all (stmts_of ss.now) (items_of todo.old.items)))) }
+{
+    have!(push_all(ss, todo));
+    Done::Gives(Deed::Stepped)
+}
+
+/// A send of each value comes first.
+pub fn send_each<'a>(
+    run: &Setting,
+    who: &Who,
+    machine: &Machine,
+    channel: &'a Expr,
+    values: &'a [Expr],
+    todo: &mut Vec<Item<'a>>,
+) -> Done<Deed<'a>>
+    ensures { Implements run.now who.now (plain_deed (items_of todo.new.items)) machine.now result machine.now
+        (give (Stepped (push_all (each_send (expr_of channel.now) (map expr_of values.now))
+        (items_of todo.old.items)))) }
+{
+    have!(push_sends(channel, values, todo));
+    Done::Gives(Deed::Stepped)
+}
+
+/// A receive of each variable comes first.
+pub fn receive_each<'a>(
+    run: &Setting,
+    who: &Who,
+    machine: &Machine,
+    channel: &'a Expr,
+    variables: &'a [Var],
+    todo: &mut Vec<Item<'a>>,
+) -> Done<Deed<'a>>
+    ensures { Implements run.now who.now (plain_deed (items_of todo.new.items)) machine.now result machine.now
+        (give (Stepped (push_all (each_receive (expr_of channel.now) (map var_of variables.now))
+        (items_of todo.old.items)))) }
+{
+    have!(push_receives(channel, variables, todo));
+    Done::Gives(Deed::Stepped)
 }

@@ -9,6 +9,7 @@ ghost use Rattle.sp_meaning.specs.Deeds.{begins, references, pushed_frame, witho
 ghost use Rattle.sp_meaning.specs.Values.{initials};
 ghost use Rattle.sp_run.specs.Machines.{setting_of, plain_references, plain_own, plain_home, plain_who};
 ghost use Rattle.sp_run.specs.Comings.{Implements, same, pointed};
+ghost use Rattle.sp_run.specs.Following.{Follows};
 ghost use Rattle.sp_run.specs.Doings.{given_of, block_in};
 ghost use Rattle.sp_run.specs.Views.{plain_value};
 ghost use Rattle.sp_run.specs.Direct.{tick, deepen, widen, reach, or_lost};
@@ -285,7 +286,7 @@ fn entered<'a>(
 }
 
 /// A call, after its arguments: tick, depth, cells, the new frame.
-pub fn enter<'a>(
+fn enter<'a>(
     run: &Setting<'a>,
     who: &Who,
     machine: &mut Machine,
@@ -305,6 +306,21 @@ pub fn enter<'a>(
         }
         None => Done::Halts(Halted::Lost),
     }
+}
+
+/// A call, where its arguments have values.
+pub fn enter_given<'a>(
+    run: &Setting<'a>,
+    who: &Who,
+    machine: &mut Machine,
+    f: u32,
+    given: Done<List<Given>>,
+) -> Done<&'a Block>
+    ensures { Follows run.now who.now given_of block_in machine.old given result machine.new
+        (enter (setting_of run.now) f) }
+{
+    let given = take!(given);
+    enter(run, who, machine, f, given.items())
 }
 
 /// The cells of a frame.
@@ -358,8 +374,8 @@ pub fn give_back(
 {
     match answer {
         Some(x) => {
-            let place = take!(place_of(run, who, machine, x));
-            read_at(run, who, machine, &place)
+            let place = place_of(run, who, machine, x);
+            read_at(run, who, machine, place)
         }
         None => Done::Halts(Halted::Lost),
     }

@@ -7,10 +7,12 @@ ghost use Rattle.sp_meaning.specs.Deeds.{is_before, goes_on, has, arm_for};
 ghost use Rattle.sp_meaning.specs.Own.{bytes_in};
 ghost use Rattle.sp_run.specs.Machines.{setting_of, plain_held};
 ghost use Rattle.sp_run.specs.Comings.{Implements, beside, same};
+ghost use Rattle.sp_run.specs.Following.{Follows};
 ghost use Rattle.sp_run.specs.Items.{item_of, items_of};
 ghost use Rattle.sp_run.specs.Views.{plain_value, plain_address};
 ghost use Rattle.sp_run.specs.Doings.{plain_deed, births_of};
-ghost use Rattle.sp_run.specs.Texts.{forall, index_set, leaves, plain_taken};
+ghost use Rattle.sp_run.specs.Texts.{forall, index_set, leaves};
+ghost use Rattle.sp_items.specs.Taking.{taken_of};
 ghost use Rattle.sp_run.specs.DirectDeeds.{peek, settle, turn_of, fork, write, advance, take_in};
 
 use crate::calls::tick;
@@ -21,10 +23,11 @@ use crate::machine::{Held, Machine, Setting, Who};
 use crate::operators::position_of;
 use crate::stop::{Done, Halted};
 use crate::store::{assign, fetch, look, put};
-use crate::texts::{Taken, padded};
+use crate::texts::padded;
 use crate::value::{Address, Chan, Loc, Value};
 use crate::{have, take};
 use sp_base::{Fault, List, Memory};
+use sp_items::Taken;
 use sp_tree::{Arm, Stmt};
 
 /// The children that are to be born: one for each process statement, or one for each value of an index.
@@ -87,7 +90,7 @@ fn peek(run: &Setting, who: &Who, machine: &mut Machine, variable: u32) -> Done<
         (peek (setting_of run.now) variable) }
 {
     let place = take!(place_of(run, who, machine, variable));
-    let at = take!(address_of(run, who, machine, place));
+    let at = take!(address_of(run, who, machine, Done::Gives(place)));
     fetch(run, who, machine, &at)
 }
 
@@ -119,7 +122,7 @@ fn leaves(run: &Setting, who: &Who, machine: &mut Machine, item: &Item) -> Done<
 }
 
 /// What is first is done.
-pub fn drop_first<'a>(todo: &mut Vec<Item<'a>>)
+fn drop_first<'a>(todo: &mut Vec<Item<'a>>)
     ensures { todo.new.items ≡ drop 1 todo.old.items }
 {
     if !todo.is_empty() {
@@ -155,7 +158,7 @@ fn set_index(run: &Setting, who: &Who, machine: &mut Machine, variable: u32, n: 
         (index_set (setting_of run.now) variable n) }
 {
     let place = take!(place_of(run, who, machine, variable));
-    let at = take!(address_of(run, who, machine, place));
+    let at = take!(address_of(run, who, machine, Done::Gives(place)));
     assign(run, who, machine, &at, &Value::Ordinal(n))
 }
 
@@ -211,6 +214,24 @@ pub fn forall<'a>(
     machine: &Machine,
     variable: u32,
     low: i64,
+    high: Done<i64>,
+    body: &'a Stmt,
+    todo: &Vec<Item<'a>>,
+) -> Done<Deed<'a>>
+    ensures { Follows run.now who.now same (plain_deed (items_of todo.now.items)) machine.now high result machine.now
+        (λ n. forall (setting_of run.now) variable low n (stmt_of body.now) (items_of todo.now.items)) }
+{
+    let high = take!(high);
+    forall_to(run, who, machine, variable, low, high, body, todo)
+}
+
+/// The children of a forall whose range is known, if it has values.
+fn forall_to<'a>(
+    run: &Setting,
+    who: &Who,
+    machine: &Machine,
+    variable: u32,
+    low: i64,
     high: i64,
     body: &'a Stmt,
     todo: &Vec<Item<'a>>,
@@ -232,7 +253,7 @@ pub fn forall<'a>(
 }
 
 /// Whether a number is among these.
-#[tactic(auto, using(crate::proofs::Reading::has_on, crate::proofs::Reading::has_stop, crate::proofs::Reading::has_end))]
+#[tactic(auto, using(crate::proofs::Arms::has_on, crate::proofs::Arms::has_stop, crate::proofs::Arms::has_end))]
 fn has(n: i64, constants: &[i64]) -> bool
     ensures { result ≡ has n constants.now }
 {
@@ -326,7 +347,7 @@ pub fn take_in(
     taken: Taken,
 ) -> Done<()>
     ensures { Implements run.now who.now same machine.old result machine.new
-        (take_in (setting_of run.now) (plain_address at.now) (plain_taken taken)) }
+        (take_in (setting_of run.now) (plain_address at.now) (taken_of taken)) }
 {
     match taken {
         Taken::Takes(n, bytes) => {

@@ -5,6 +5,7 @@ ghost use Rattle.std.specs.Option.{option_copied};
 ghost use Rattle.sp_meaning.specs.Own.{seek, referred, is_block, is_index};
 ghost use Rattle.sp_run.specs.Machines.{address_in, setting_of, plain_frames, plain_references, plain_home};
 ghost use Rattle.sp_run.specs.Comings.{Implements, same};
+ghost use Rattle.sp_run.specs.Following.{Follows};
 ghost use Rattle.sp_run.specs.Places.{plain_place, fits};
 ghost use Rattle.sp_run.specs.Views.{plain_address};
 ghost use Rattle.sp_run.specs.Direct.{visible, reach};
@@ -12,10 +13,10 @@ ghost use Rattle.sp_run.specs.DirectEval.{place_by, place_of, address_of};
 ghost use Rattle.sp_tree.specs.Bare.{variable_of};
 ghost use Rattle.sp_run.specs.Framing.{in_visible, referred_in, index_of};
 
-use crate::have;
 use crate::machine::{Frame, Home, Machine, Reference, Setting, Who};
 use crate::stop::{Done, Halted};
 use crate::value::{Address, Loc, copy_address, copy_name};
+use crate::{have, take};
 use sp_base::List;
 use sp_tree::{Role, Variable};
 
@@ -176,11 +177,11 @@ pub fn place_of(run: &Setting, who: &Who, machine: &Machine, x: u32) -> Done<Pla
 }
 
 /// The address of a place that has one.
-pub fn address_of(run: &Setting, who: &Who, machine: &Machine, place: Place) -> Done<Address>
-    ensures { Implements run.now who.now plain_address machine.now result machine.now
-        (address_of (setting_of run.now) (plain_place place)) }
+pub fn address_of(run: &Setting, who: &Who, machine: &Machine, place: Done<Place>) -> Done<Address>
+    ensures { Follows run.now who.now plain_place plain_address machine.now place result machine.now
+        (address_of (setting_of run.now)) }
 {
-    match place {
+    match take!(place) {
         Place::At(a) => Done::Gives(a),
         Place::Fixed(_) => Done::Halts(Halted::Lost),
     }

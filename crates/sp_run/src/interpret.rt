@@ -1,40 +1,44 @@
 //! Expressions and statements, by their definitions, with every function that they call. The small parts are in
 //! `acts.rt`, `bodies.rt`, `calls.rt` and `texts.rt`.
 
-ghost use Rattle.std.specs.Prelude.{◌≡◌, ◌∷◌, IfOk, map};
-ghost use Rattle.sp_tree.specs.PlainOf.{expr_of, form_of, var_of, stmt_of, arms_of, width_of, selectors_of, actuals_of};
-ghost use Rattle.sp_tree.specs.Plain.{Assign, Call, If, IfElse, While, For, Case, Forall, Assume, ReadValue};
-ghost use Rattle.sp_tree.specs.Plain.{WriteValue, WriteText, Open, Send, Receive};
+ghost use Rattle.sp_tree.specs.PlainOf.{expr_of, form_of, var_of, stmt_of, width_of, selectors_of, actuals_of};
+ghost use Rattle.sp_tree.specs.Plain.{Assign, Call, IfElse, For, Forall, ReadValue, WriteValue, WriteText, Open, Send};
+ghost use Rattle.sp_tree.specs.Plain.{Receive};
+ghost use Rattle.sp_meaning.specs.Operators.{unary_op};
 ghost use Rattle.sp_run.specs.Items.{items_of, item_of};
 ghost use Rattle.sp_run.specs.Machines.{setting_of};
 ghost use Rattle.sp_run.specs.Comings.{Implements, same};
+ghost use Rattle.sp_run.specs.Following.{Follows, after};
 ghost use Rattle.sp_run.specs.Places.{plain_place};
-ghost use Rattle.sp_run.specs.Views.{plain_value, plain_address};
-ghost use Rattle.sp_run.specs.Doings.{calls_of, given_of, plain_deed, nothing_left};
+ghost use Rattle.sp_run.specs.Views.{plain_value, plain_address, plain_channel};
+ghost use Rattle.sp_run.specs.Doings.{calls_of, block_in, plain_deed, given_of, nothing_left};
+ghost use Rattle.sp_run.specs.Direct.{bind};
 ghost use Rattle.sp_run.specs.DirectEval.{value, form_value, place, selected, actuals as given_by, address, ordinal_of};
-ghost use Rattle.sp_run.specs.DirectDeeds.{all, act, start, width};
+ghost use Rattle.sp_run.specs.DirectEval.{channel, kind_at, operate, read_at, standard_op, work_of};
+ghost use Rattle.sp_run.specs.DirectDeeds.{all, act, enter, start, width};
 ghost use Rattle.sp_run.specs.Acts.{one, left_if};
 
 use crate::acts::{
-    assigned_to, assumed, called, chosen, either, looped, next_turn, opened, picked, ranged,
-    read_line, read_value, repeated, returned, tested, write_bytes, write_shown, write_text,
+    Then, assigned_to, called, first_given, goes_on, next_turn, opened, ranged, read_line,
+    read_value, receive_each, receives, repeated, returned, send_each, sends, sequence, width_of,
+    write_bytes, write_shown, write_wide,
 };
-use crate::bodies::{body_of, ended, left_after, take_first};
-use crate::calls::{Given, enter};
-use crate::deeds::{Births, Cargo, Deed, forall, fork, settle, turn_of};
+use crate::bodies::{body_of, ended, first_of, left_after};
+use crate::calls::{Given, enter_given};
+use crate::deeds::{Births, Deed, forall, fork, turn_of};
 use crate::frames::{Place, address_of, place_of};
-use crate::item::{Item, push_all, push_receives, push_sends};
+use crate::item::Item;
 use crate::machine::{Machine, Setting, Who};
 use crate::operators::{
-    at_input, channel, fielded, indexed, kind_at, left_of, operate, ordinal, read_at, standard,
-    worked_of,
+    channel, fielded, indexed, of_input, operate_one, operate_two, ordinal, read_at, standard_of,
 };
 use crate::stop::{Done, Halted};
-use crate::value::{Address, Value};
+use crate::value::{Address, Chan, Value};
 use crate::{have, take};
-use sp_arithmetic::unary;
-use sp_base::{List, Memory};
-use sp_tree::{Actual, Arm, Expr, ExprForm, Form, Selector, Stmt, Var};
+use sp_base::List;
+use sp_tree::{
+    Actual, BinaryOp, Block, Expr, ExprForm, Form, Selector, StandardFn, Stmt, UnaryOp, Var,
+};
 
 /// The value of an expression, with every function that it calls. `fuel` bounds the steps that stand inside one
 /// another, and `levels` how deep the calls of this interpreter may nest: where none is left, that is want of memory.
@@ -71,35 +75,99 @@ fn form_value(
 {
     match form {
         ExprForm::Number(n) => Done::Gives(Value::Ordinal(*n)),
-        ExprForm::Read(x) => {
-            let q = take!(place(run, who, fuel, levels, machine, x));
-            read_at(run, who, machine, &q)
-        }
-        ExprForm::Unary(op, a) => {
-            let n = take!(ordinal_of(run, who, fuel, levels, machine, a.get()));
-            worked_of(run, who, machine, unary(*op, n))
-        }
+        ExprForm::Read(x) => read(run, who, fuel, levels, machine, x),
+        ExprForm::Unary(op, a) => on_one(run, who, fuel, levels, machine, *op, a.get()),
         ExprForm::Binary(op, a, b) => {
-            let v = take!(value(run, who, fuel, levels, machine, a.get()));
-            let w = take!(value(run, who, fuel, levels, machine, b.get()));
-            operate(run, who, machine, *op, &v, &w)
+            let left = a.get();
+            let right = b.get();
+            on_two(run, who, fuel, levels, machine, *op, left, right)
         }
         ExprForm::Call(f, _, args) => {
-            let given = take!(actuals(run, who, fuel, levels, machine, args.items()));
-            call(run, who, fuel, levels, machine, *f, given)
+            let args = args.items();
+            call(run, who, fuel, levels, machine, *f, args)
         }
         ExprForm::Standard(f, args) => match args.items().split_first() {
-            Some((a, _rest)) => {
-                let n = take!(ordinal_of(run, who, fuel, levels, machine, a));
-                let t = take!(kind_at(run, who, machine, kind));
-                standard(run, who, machine, *f, t, n)
-            }
-            None => {
-                let left = take!(left_of(run, who, machine));
-                at_input(run, who, machine, *f, left)
-            }
+            Some((a, _rest)) => of_one(run, who, fuel, levels, machine, kind, *f, a),
+            None => of_input(run, who, machine, *f),
         },
     }
+}
+
+/// What stands in a variable with its selectors.
+#[cycle(interpret)]
+fn read(
+    run: &Setting,
+    who: &Who,
+    fuel: u128,
+    levels: u64,
+    machine: &mut Machine,
+    x: &Var,
+) -> Done<Value>
+    ensures { Implements run.now who.now plain_value machine.old result machine.new
+        (bind (place (setting_of run.now) (calls_of run.now fuel) (var_of x.now)) (read_at (setting_of run.now))) }
+{
+    let q = place(run, who, fuel, levels, machine, x);
+    read_at(run, who, machine, q)
+}
+
+/// What an operator gives of one operand.
+#[cycle(interpret)]
+fn on_one(
+    run: &Setting,
+    who: &Who,
+    fuel: u128,
+    levels: u64,
+    machine: &mut Machine,
+    op: UnaryOp,
+    a: &Expr,
+) -> Done<Value>
+    ensures { Implements run.now who.now plain_value machine.old result machine.new
+        (bind (ordinal_of (setting_of run.now) (calls_of run.now fuel) (expr_of a.now))
+        (λ n. work_of (unary_op op n))) }
+{
+    let n = ordinal_of(run, who, fuel, levels, machine, a);
+    operate_one(run, who, machine, op, n)
+}
+
+/// What an operator gives of two operands.
+#[cycle(interpret)]
+fn on_two(
+    run: &Setting,
+    who: &Who,
+    fuel: u128,
+    levels: u64,
+    machine: &mut Machine,
+    op: BinaryOp,
+    a: &Expr,
+    b: &Expr,
+) -> Done<Value>
+    ensures { Implements run.now who.now plain_value machine.old result machine.new
+        (bind (value (setting_of run.now) (calls_of run.now fuel) (expr_of a.now))
+        (λ v. bind (value (setting_of run.now) (calls_of run.now fuel) (expr_of b.now)) (λ w. operate op v w))) }
+{
+    let v = take!(value(run, who, fuel, levels, machine, a));
+    let w = value(run, who, fuel, levels, machine, b);
+    operate_two(run, who, machine, op, v, w)
+}
+
+/// What a standard function of one argument gives.
+#[cycle(interpret)]
+fn of_one(
+    run: &Setting,
+    who: &Who,
+    fuel: u128,
+    levels: u64,
+    machine: &mut Machine,
+    kind: u32,
+    f: StandardFn,
+    a: &Expr,
+) -> Done<Value>
+    ensures { Implements run.now who.now plain_value machine.old result machine.new
+        (bind (ordinal_of (setting_of run.now) (calls_of run.now fuel) (expr_of a.now))
+        (λ n. bind (kind_at (setting_of run.now) kind) (λ t. standard_op f t n))) }
+{
+    let n = ordinal_of(run, who, fuel, levels, machine, a);
+    standard_of(run, who, machine, f, kind, n)
 }
 
 /// Where a variable with its selectors stands.
@@ -116,7 +184,15 @@ fn place(
         (place (setting_of run.now) (calls_of run.now fuel) (var_of x.now)) }
 {
     let q = take!(place_of(run, who, machine, x.variable));
-    selected(run, who, fuel, levels, machine, x.selectors.items(), q)
+    selected(
+        run,
+        who,
+        fuel,
+        levels,
+        machine,
+        x.selectors.items(),
+        Done::Gives(q),
+    )
 }
 
 #[cycle(interpret)]
@@ -127,27 +203,27 @@ fn selected(
     levels: u64,
     machine: &mut Machine,
     ss: &[Selector],
-    q: Place,
+    q: Done<Place>,
 ) -> Done<Place>
-    ensures { Implements run.now who.now plain_place machine.old result machine.new
-        (selected (setting_of run.now) (calls_of run.now fuel) (selectors_of ss.now) (plain_place q)) }
+    ensures { Follows run.now who.now plain_place plain_place machine.old q result machine.new
+        (selected (setting_of run.now) (calls_of run.now fuel) (selectors_of ss.now)) }
 {
     if levels == 0 {
         return Done::NoMemory;
     }
-    let levels = levels - 1;
+    let q = take!(q);
     let Some((s, rest)) = ss.split_first() else {
         return Done::Gives(q);
     };
     match s {
         Selector::Index(e) => {
-            let n = take!(ordinal_of(run, who, fuel, levels, machine, e));
-            let r = take!(indexed(run, who, machine, q, &n));
-            selected(run, who, fuel, levels, machine, rest, r)
+            let n = ordinal_of(run, who, fuel, levels - 1, machine, e);
+            let r = indexed(run, who, machine, q, n);
+            selected(run, who, fuel, levels - 1, machine, rest, r)
         }
         Selector::Field(f) => {
-            let r = take!(fielded(run, who, machine, *f, q));
-            selected(run, who, fuel, levels, machine, rest, r)
+            let r = fielded(run, who, machine, *f, q);
+            selected(run, who, fuel, levels - 1, machine, rest, r)
         }
     }
 }
@@ -168,31 +244,40 @@ fn actuals(
     if levels == 0 {
         return Done::NoMemory;
     }
-    let levels = levels - 1;
     let Some((a, rest)) = args.split_first() else {
         return Done::Gives(List::new(run.alloc));
     };
     match a {
         Actual::Value(e) => {
-            let v = take!(value(run, who, fuel, levels, machine, e));
-            let given = take!(actuals(run, who, fuel, levels, machine, rest));
-            Done::Gives(have!(first_given(Given::Value(v), given)))
+            let v = take!(value(run, who, fuel, levels - 1, machine, e));
+            let given = actuals(run, who, fuel, levels - 1, machine, rest);
+            first_given(run, who, machine, Given::Value(v), given)
         }
         Actual::Reference(x) => {
-            let q = take!(place(run, who, fuel, levels, machine, x));
-            let a = take!(address_of(run, who, machine, q));
-            let given = take!(actuals(run, who, fuel, levels, machine, rest));
-            Done::Gives(have!(first_given(Given::Place(a), given)))
+            let at = take!(address(run, who, fuel, levels - 1, machine, x));
+            let given = actuals(run, who, fuel, levels - 1, machine, rest);
+            first_given(run, who, machine, Given::Place(at), given)
         }
     }
 }
 
-fn first_given(g: Given, rest: List<Given>) -> Result<List<Given>, Memory>
-    ensures { IfOk result (λ gs. gs ≡ g ∷ rest) }
+/// The block of a call, entered with its arguments.
+#[cycle(interpret)]
+fn begun<'a>(
+    run: &Setting<'a>,
+    who: &Who,
+    fuel: u128,
+    levels: u64,
+    machine: &mut Machine,
+    f: u32,
+    args: &[Actual],
+) -> Done<&'a Block>
+    ensures { Implements run.now who.now block_in machine.old result machine.new
+        (bind (given_by (setting_of run.now) (calls_of run.now fuel) (actuals_of args.now))
+        (enter (setting_of run.now) f)) }
 {
-    let mut all = rest.into_vec();
-    all.insert(0, g)?;
-    Ok(List::of(all))
+    let given = actuals(run, who, fuel, levels, machine, args);
+    enter_given(run, who, machine, f, given)
 }
 
 /// A call of a function.
@@ -204,18 +289,18 @@ fn call(
     levels: u64,
     machine: &mut Machine,
     f: u32,
-    given: List<Given>,
+    args: &[Actual],
 ) -> Done<Value>
     ensures { Implements run.now who.now plain_value machine.old result machine.new
-        (calls_of run.now fuel f (given_of given)) }
+        (bind (given_by (setting_of run.now) (calls_of run.now fuel) (actuals_of args.now)) (calls_of run.now fuel f)) }
 {
     if levels == 0 {
         return Done::NoMemory;
     }
-    let block = take!(enter(run, who, machine, f, given.items()));
+    let block = take!(begun(run, who, fuel, levels, machine, f, args));
     let todo = have!(body_of(run, &block.body));
-    take!(all(run, who, fuel, levels - 1, machine, todo));
-    ended(run, who, machine, block.answer)
+    let rest = all(run, who, fuel, levels - 1, machine, todo);
+    ended(run, who, machine, block.answer, rest)
 }
 
 /// All that is left, where no more than `fuel` steps and calls stand inside one another.
@@ -256,12 +341,11 @@ fn one<'a>(
     ensures { Implements run.now who.now (left_if (items_of todo.new.items)) machine.old result machine.new
         (one (setting_of run.now) fuel (items_of todo.old.items)) }
 {
-    take!(settle(run, who, machine, todo));
-    let Some(item) = take_first(todo) else {
+    let Some(item) = take!(first_of(run, who, machine, todo)) else {
         return Done::Gives(false);
     };
-    let deed = take!(act(run, who, fuel, levels, machine, item, todo));
-    left_after(run, who, machine, todo, &deed)
+    let deed = act(run, who, fuel, levels, machine, item, todo);
+    left_after(run, who, machine, todo, deed)
 }
 
 /// The ordinal of an expression.
@@ -277,8 +361,25 @@ fn ordinal_of(
     ensures { Implements run.now who.now same machine.old result machine.new
         (ordinal_of (setting_of run.now) (calls_of run.now fuel) (expr_of e.now)) }
 {
-    let v = take!(value(run, who, fuel, levels, machine, e));
-    ordinal(run, who, machine, &v)
+    let v = value(run, who, fuel, levels, machine, e);
+    ordinal(run, who, machine, v)
+}
+
+/// The channel that an expression is.
+#[cycle(interpret)]
+fn channel_of(
+    run: &Setting,
+    who: &Who,
+    fuel: u128,
+    levels: u64,
+    machine: &mut Machine,
+    e: &Expr,
+) -> Done<Chan>
+    ensures { Implements run.now who.now plain_channel machine.old result machine.new
+        (bind (value (setting_of run.now) (calls_of run.now fuel) (expr_of e.now)) channel) }
+{
+    let v = value(run, who, fuel, levels, machine, e);
+    channel(run, who, machine, v)
 }
 
 /// The address of a variable with its selectors.
@@ -294,7 +395,7 @@ fn address(
     ensures { Implements run.now who.now plain_address machine.old result machine.new
         (address (setting_of run.now) (calls_of run.now fuel) (var_of x.now)) }
 {
-    let q = take!(place(run, who, fuel, levels, machine, x));
+    let q = place(run, who, fuel, levels, machine, x);
     address_of(run, who, machine, q)
 }
 
@@ -313,8 +414,8 @@ fn width(
 {
     match e {
         Some(e) => {
-            let n = take!(ordinal_of(run, who, fuel, levels, machine, e));
-            Done::Gives(Some(n))
+            let n = ordinal_of(run, who, fuel, levels, machine, e);
+            width_of(run, who, machine, n)
         }
         None => Done::Gives(None),
     }
@@ -349,12 +450,18 @@ pub fn act<'a>(
             down,
             body,
         } => next_turn(run, who, machine, variable, limit, down, body, todo),
-        Item::While(e, s) => start_while(run, who, fuel, levels, machine, e, s, todo),
+        Item::While(e, s) => start_after(
+            run,
+            who,
+            fuel,
+            levels,
+            machine,
+            e,
+            Then::While(e, s),
+            todo,
+        ),
         Item::Repeat(s, e) => repeated(run, who, machine, s, e, todo),
-        Item::Test(s, e) => {
-            let n = take!(ordinal_of(run, who, fuel, levels, machine, e));
-            tested(run, who, machine, n, s, e, todo)
-        }
+        Item::Test(s, e) => start_after(run, who, fuel, levels, machine, e, Then::Test(s, e), todo),
         Item::Send(c, e) => start_send(run, who, fuel, levels, machine, c, e, todo),
         Item::Receive(c, x) => start_receive(run, who, fuel, levels, machine, c, x, todo),
         Item::Leave => returned(run, who, machine, todo),
@@ -378,8 +485,8 @@ fn start_assign<'a>(
         (items_of todo.old.items)) }
 {
     let at = take!(address(run, who, fuel, levels, machine, x));
-    let v = take!(value(run, who, fuel, levels, machine, e));
-    assigned_to(run, who, machine, &at, &v, todo)
+    let v = value(run, who, fuel, levels, machine, e);
+    assigned_to(run, who, machine, &at, v, todo)
 }
 
 #[cycle(interpret)]
@@ -396,27 +503,27 @@ fn start_call<'a>(
     ensures { Implements run.now who.now (plain_deed (items_of todo.new.items)) machine.old result machine.new
         (start (setting_of run.now) (calls_of run.now fuel) (Call f (actuals_of args.now)) (items_of todo.old.items)) }
 {
-    let given = take!(actuals(run, who, fuel, levels, machine, args));
-    called(run, who, machine, f, given.items(), todo)
+    let block = begun(run, who, fuel, levels, machine, f, args);
+    called(run, who, machine, block, todo)
 }
 
 #[cycle(interpret)]
-fn start_if<'a>(
+fn start_after<'a>(
     run: &Setting<'a>,
     who: &Who,
     fuel: u128,
     levels: u64,
     machine: &mut Machine,
     e: &'a Expr,
-    a: &'a Stmt,
+    then: Then<'a>,
     todo: &mut Vec<Item<'a>>,
 ) -> Done<Deed<'a>>
     ensures { Implements run.now who.now (plain_deed (items_of todo.new.items)) machine.old result machine.new
-        (start (setting_of run.now) (calls_of run.now fuel) (If (expr_of e.now) (stmt_of a.now))
-        (items_of todo.old.items)) }
+        (bind (ordinal_of (setting_of run.now) (calls_of run.now fuel) (expr_of e.now))
+        (λ n. after (setting_of run.now) then.entry n (items_of todo.old.items))) }
 {
-    let n = take!(ordinal_of(run, who, fuel, levels, machine, e));
-    picked(run, who, machine, n, a, todo)
+    let n = ordinal_of(run, who, fuel, levels, machine, e);
+    goes_on(run, who, machine, n, then, todo)
 }
 
 #[cycle(interpret)]
@@ -435,27 +542,7 @@ fn start_either<'a>(
         (start (setting_of run.now) (calls_of run.now fuel) (IfElse (expr_of e.now) (stmt_of a.now) (stmt_of b.now))
         (items_of todo.old.items)) }
 {
-    let n = take!(ordinal_of(run, who, fuel, levels, machine, e));
-    either(run, who, machine, n, a, b, todo)
-}
-
-#[cycle(interpret)]
-fn start_while<'a>(
-    run: &Setting<'a>,
-    who: &Who,
-    fuel: u128,
-    levels: u64,
-    machine: &mut Machine,
-    e: &'a Expr,
-    s: &'a Stmt,
-    todo: &mut Vec<Item<'a>>,
-) -> Done<Deed<'a>>
-    ensures { Implements run.now who.now (plain_deed (items_of todo.new.items)) machine.old result machine.new
-        (start (setting_of run.now) (calls_of run.now fuel) (While (expr_of e.now) (stmt_of s.now))
-        (items_of todo.old.items)) }
-{
-    let n = take!(ordinal_of(run, who, fuel, levels, machine, e));
-    looped(run, who, machine, n, e, s, todo)
+    start_after(run, who, fuel, levels, machine, e, Then::Either(a, b), todo)
 }
 
 #[cycle(interpret)]
@@ -477,27 +564,8 @@ fn start_for<'a>(
         (For variable (expr_of from.now) down (expr_of to.now) (stmt_of body.now)) (items_of todo.old.items)) }
 {
     let low = take!(ordinal_of(run, who, fuel, levels, machine, from));
-    let high = take!(ordinal_of(run, who, fuel, levels, machine, to));
+    let high = ordinal_of(run, who, fuel, levels, machine, to);
     ranged(run, who, machine, variable, low, high, down, body, todo)
-}
-
-#[cycle(interpret)]
-fn start_case<'a>(
-    run: &Setting<'a>,
-    who: &Who,
-    fuel: u128,
-    levels: u64,
-    machine: &mut Machine,
-    e: &'a Expr,
-    arms: &'a [Arm],
-    todo: &mut Vec<Item<'a>>,
-) -> Done<Deed<'a>>
-    ensures { Implements run.now who.now (plain_deed (items_of todo.new.items)) machine.old result machine.new
-        (start (setting_of run.now) (calls_of run.now fuel) (Case (expr_of e.now) (arms_of arms.now))
-        (items_of todo.old.items)) }
-{
-    let n = take!(ordinal_of(run, who, fuel, levels, machine, e));
-    chosen(run, who, machine, n, arms, todo)
 }
 
 #[cycle(interpret)]
@@ -519,25 +587,8 @@ fn start_forall<'a>(
         (items_of todo.old.items)) }
 {
     let low = take!(ordinal_of(run, who, fuel, levels, machine, from));
-    let high = take!(ordinal_of(run, who, fuel, levels, machine, to));
+    let high = ordinal_of(run, who, fuel, levels, machine, to);
     forall(run, who, machine, index, low, high, body, todo)
-}
-
-#[cycle(interpret)]
-fn start_assume<'a>(
-    run: &Setting<'a>,
-    who: &Who,
-    fuel: u128,
-    levels: u64,
-    machine: &mut Machine,
-    e: &'a Expr,
-    todo: &mut Vec<Item<'a>>,
-) -> Done<Deed<'a>>
-    ensures { Implements run.now who.now (plain_deed (items_of todo.new.items)) machine.old result machine.new
-        (start (setting_of run.now) (calls_of run.now fuel) (Assume (expr_of e.now)) (items_of todo.old.items)) }
-{
-    let n = take!(ordinal_of(run, who, fuel, levels, machine, e));
-    assumed(run, who, machine, n, todo)
 }
 
 #[cycle(interpret)]
@@ -553,8 +604,8 @@ fn start_read<'a>(
     ensures { Implements run.now who.now (plain_deed (items_of todo.new.items)) machine.old result machine.new
         (start (setting_of run.now) (calls_of run.now fuel) (ReadValue (var_of x.now)) (items_of todo.old.items)) }
 {
-    let at = take!(address(run, who, fuel, levels, machine, x));
-    read_value(run, who, machine, &at, todo)
+    let at = address(run, who, fuel, levels, machine, x);
+    read_value(run, who, machine, at, todo)
 }
 
 #[cycle(interpret)]
@@ -573,7 +624,7 @@ fn start_write<'a>(
         (items_of todo.old.items)) }
 {
     let n = take!(ordinal_of(run, who, fuel, levels, machine, e));
-    let m = take!(width(run, who, fuel, levels, machine, w));
+    let m = width(run, who, fuel, levels, machine, w);
     write_shown(run, who, machine, e.kind, n, m, todo)
 }
 
@@ -592,8 +643,8 @@ fn start_text<'a>(
         (start (setting_of run.now) (calls_of run.now fuel) (WriteText t.now (width_of w.now))
         (items_of todo.old.items)) }
 {
-    let m = take!(width(run, who, fuel, levels, machine, w));
-    write_text(run, who, machine, true, t, m, todo)
+    let m = width(run, who, fuel, levels, machine, w);
+    write_wide(run, who, machine, t, m, todo)
 }
 
 #[cycle(interpret)]
@@ -609,8 +660,8 @@ fn start_open<'a>(
     ensures { Implements run.now who.now (plain_deed (items_of todo.new.items)) machine.old result machine.new
         (start (setting_of run.now) (calls_of run.now fuel) (Open (var_of x.now)) (items_of todo.old.items)) }
 {
-    let at = take!(address(run, who, fuel, levels, machine, x));
-    opened(run, who, machine, &at, todo)
+    let at = address(run, who, fuel, levels, machine, x);
+    opened(run, who, machine, at, todo)
 }
 
 #[cycle(interpret)]
@@ -628,15 +679,9 @@ fn start_send<'a>(
         (start (setting_of run.now) (calls_of run.now fuel) (Send (expr_of c.now) (expr_of e.now))
         (items_of todo.old.items)) }
 {
-    let v = take!(value(run, who, fuel, levels, machine, c));
-    let to = take!(channel(run, who, machine, &v));
-    let w = take!(value(run, who, fuel, levels, machine, e));
-    let d = Deed::Offered {
-        channel: to,
-        kind: e.kind,
-        cargo: Cargo::Message(w),
-    };
-    Done::Gives(d)
+    let to = take!(channel_of(run, who, fuel, levels, machine, c));
+    let v = value(run, who, fuel, levels, machine, e);
+    sends(run, who, machine, to, e.kind, v, todo)
 }
 
 #[cycle(interpret)]
@@ -654,15 +699,9 @@ fn start_receive<'a>(
         (start (setting_of run.now) (calls_of run.now fuel) (Receive (expr_of c.now) (var_of x.now))
         (items_of todo.old.items)) }
 {
-    let v = take!(value(run, who, fuel, levels, machine, c));
-    let from = take!(channel(run, who, machine, &v));
-    let at = take!(address(run, who, fuel, levels, machine, x));
-    let d = Deed::Offered {
-        channel: from,
-        kind: at.kind,
-        cargo: Cargo::Takes(at),
-    };
-    Done::Gives(d)
+    let from = take!(channel_of(run, who, fuel, levels, machine, c));
+    let at = address(run, who, fuel, levels, machine, x);
+    receives(run, who, machine, from, at, todo)
 }
 
 /// The step of a statement that is first.
@@ -685,15 +724,26 @@ fn start<'a>(
         Form::Call(f, args) => {
             start_call(run, who, fuel, levels, machine, *f, args.items(), todo)
         }
-        Form::Sequence(ss) => {
-            have!(push_all(ss.items(), todo));
-            Done::Gives(Deed::Stepped)
+        Form::Sequence(ss) => sequence(run, who, machine, ss.items(), todo),
+        Form::If(e, a, None) => {
+            let body = a.get();
+            start_after(run, who, fuel, levels, machine, e, Then::If(body), todo)
         }
-        Form::If(e, a, None) => start_if(run, who, fuel, levels, machine, e, a.get(), todo),
         Form::If(e, a, Some(b)) => {
             start_either(run, who, fuel, levels, machine, e, a.get(), b.get(), todo)
         }
-        Form::While(e, s) => start_while(run, who, fuel, levels, machine, e, s.get(), todo),
+        Form::While(e, s) => {
+            start_after(
+                run,
+                who,
+                fuel,
+                levels,
+                machine,
+                e,
+                Then::While(e, s.get()),
+                todo,
+            )
+        }
         Form::Repeat(s, e) => repeated(run, who, machine, s.get(), e, todo),
         Form::For {
             variable,
@@ -718,7 +768,16 @@ fn start<'a>(
             )
         }
         Form::Case(e, arms) => {
-            start_case(run, who, fuel, levels, machine, e, arms.items(), todo)
+            start_after(
+                run,
+                who,
+                fuel,
+                levels,
+                machine,
+                e,
+                Then::Case(arms.items()),
+                todo,
+            )
         }
         Form::Parallel(ss) => fork(run, who, machine, Births::Children(ss.items()), todo),
         Form::Forall {
@@ -740,7 +799,7 @@ fn start<'a>(
                 todo,
             )
         }
-        Form::Assume(e) => start_assume(run, who, fuel, levels, machine, e, todo),
+        Form::Assume(e) => start_after(run, who, fuel, levels, machine, e, Then::Assume, todo),
         Form::ReadValue(x) => start_read(run, who, fuel, levels, machine, x, todo),
         Form::ReadLine => read_line(run, who, machine, todo),
         Form::WriteValue(e, w) => start_write(run, who, fuel, levels, machine, e, w, todo),
@@ -754,18 +813,12 @@ fn start<'a>(
             number: _,
             channel,
             values,
-        } => {
-            have!(push_sends(channel, values.items(), todo));
-            Done::Gives(Deed::Stepped)
-        }
+        } => send_each(run, who, machine, channel, values.items(), todo),
         Form::ReceiveEach {
             at: _,
             number: _,
             channel,
             variables,
-        } => {
-            have!(push_receives(channel, variables.items(), todo));
-            Done::Gives(Deed::Stepped)
-        }
+        } => receive_each(run, who, machine, channel, variables.items(), todo),
     }
 }

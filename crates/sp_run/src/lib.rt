@@ -16,12 +16,13 @@
 //! - `specs/Direct.antt`, `DirectEval` and `DirectDeeds` are the meaning's text with the store passed along;
 //!   `src/laws.rt` says that they agree with it.
 //! - `specs/Views.antt`, `Machines`, `Places`, `Items`, `Doings`, `States` lead from memory to the definitions.
-//! - `specs/Comings.antt` is the form of every contract below a step (`Implements`), `Meanings` that of the whole
-//!   (`Means`).
+//! - `specs/Comings.antt` is the form of every contract below a step (`Implements`), `Following` that of a call which
+//!   goes on from what an earlier one gave (`Follows`), `Meanings` that of the whole (`Means`).
 //! - `src/interpret.rt` is the cycle of expressions and statements, whose small parts are in `acts.rt`, `bodies.rt`,
-//!   `calls.rt` and `texts.rt`. `deeds.rt` is what a process does to others, `state.rt` a state as logs of what
-//!   happened, `steps.rt` one step, `ends.rt` the end of a state, `weights.rt` the bound on the work of a step,
-//!   `run.rt` the schedule.
+//!   `calls.rt`, `operators.rt` and `texts.rt`: in the cycle a call hands on what another gave, and the parts take it
+//!   apart, since all proofs of the cycle are one. `deeds.rt` is what a process does to others, `state.rt` a state as
+//!   logs of what happened, `steps.rt` one step, `ends.rt` the end of a state, `weights.rt` the bound on the work of a
+//!   step, `run.rt` the schedule.
 //! - Several values on one channel are several items of what is left to do (`Item::Send`, `Item::Receive`), which
 //!   need no statement of their own in memory.
 //! - The newest frame stands first, as in the definitions, so code and definition go down the same list.

@@ -1,16 +1,18 @@
 //! Operators on values, and components of variables.
 
-ghost use Rattle.std.specs.Prelude.{◌≡◌, ◌≤ℤ◌, ◌-ℤ◌, nat_abs, IfOk, drop};
+ghost use Rattle.std.specs.Prelude.{◌≡◌, ◌∷◌, ◌++◌, [], ◌≤ℤ◌, ◌-ℤ◌, nat_abs, IfOk, drop};
 ghost use Rattle.sp_arithmetic.specs.Worked.{worked};
 ghost use Rattle.sp_meaning.specs.Own.{position_in};
 ghost use Rattle.sp_run.specs.Machines.{setting_of, plain_held};
 ghost use Rattle.sp_run.specs.Comings.{Implements, same, pointed};
+ghost use Rattle.sp_run.specs.Following.{Follows};
+ghost use Rattle.sp_run.specs.Direct.{bind};
+ghost use Rattle.sp_meaning.specs.Operators.{unary_op, binary_op};
 ghost use Rattle.sp_run.specs.Places.{plain_place};
 ghost use Rattle.sp_run.specs.Views.{plain_value, plain_address, plain_channel};
 ghost use Rattle.sp_run.specs.Framing.{component};
-ghost use Rattle.sp_tree.specs.Items.{at_line_end};
 ghost use Rattle.sp_tree.specs.Operators.{least, greatest};
-ghost use Rattle.sp_meaning.specs.Eval.{field_kind};
+ghost use Rattle.sp_meaning.specs.Eval.{field_kind, At};
 ghost use Rattle.sp_run.specs.DirectEval.{work_of, ordinal, channel, channels_op, operate, standard_op, input_op};
 ghost use Rattle.sp_run.specs.DirectEval.{ordinal_read, channel_read, checked, element_at, kind_at, indexed, fielded};
 ghost use Rattle.sp_run.specs.DirectEval.{read_at, left_of};
@@ -19,11 +21,15 @@ use crate::frames::Place;
 use crate::machine::{Held, Machine, Setting, Who};
 use crate::stop::{Done, Halted};
 use crate::store::{fetch, look};
-use crate::value::{Address, Chan, Loc, Value, copy_channel, is_same_channel};
+use crate::value::{Address, Chan, Loc, Value, copy_loc, is_same_channel};
 use crate::{have, take};
-use sp_arithmetic::{absolute_of, binary, next_of, odd, previous_of, square_of, truth_of, within};
-use sp_base::{Fault, List, MAXINT};
-use sp_tree::{BinaryOp, KindOf, StandardFn};
+use sp_arithmetic::{
+    absolute_of, binary, next_of, odd, previous_of, square_of, truth_of, unary, within,
+};
+use sp_base::{Fault, List, MAXINT, Memory};
+use sp_items::is_at_line_end;
+use sp_tree::{BinaryOp, KindOf, StandardFn, UnaryOp};
+use std::alloc::Global;
 
 /// What an operator gives, as a value.
 pub fn worked_of(run: &Setting, who: &Who, machine: &Machine, r: Result<i64, Fault>) -> Done<Value>
@@ -36,28 +42,25 @@ pub fn worked_of(run: &Setting, who: &Who, machine: &Machine, r: Result<i64, Fau
 }
 
 /// The ordinal that an evaluated expression is.
-pub fn ordinal(run: &Setting, who: &Who, machine: &Machine, v: &Value) -> Done<i64>
-    ensures { Implements run.now who.now same machine.now result machine.now (ordinal (plain_value v.now)) }
+pub fn ordinal(run: &Setting, who: &Who, machine: &Machine, v: Done<Value>) -> Done<i64>
+    ensures { Follows run.now who.now plain_value same machine.now v result machine.now ordinal }
 {
-    match v {
+    match take!(v) {
         Value::Undefined => Done::Halts(Halted::Lost),
-        Value::Ordinal(n) => Done::Gives(*n),
+        Value::Ordinal(n) => Done::Gives(n),
         Value::Chan(_) => Done::Halts(Halted::Lost),
         Value::Parts(_) => Done::Halts(Halted::Lost),
     }
 }
 
 /// The channel that an evaluated expression is.
-pub fn channel(run: &Setting, who: &Who, machine: &Machine, v: &Value) -> Done<Chan>
-    ensures { Implements run.now who.now plain_channel machine.now result machine.now (channel (plain_value v.now)) }
+pub fn channel(run: &Setting, who: &Who, machine: &Machine, v: Done<Value>) -> Done<Chan>
+    ensures { Follows run.now who.now plain_value plain_channel machine.now v result machine.now channel }
 {
-    match v {
+    match take!(v) {
         Value::Undefined => Done::Halts(Halted::Lost),
         Value::Ordinal(_) => Done::Halts(Halted::Lost),
-        Value::Chan(c) => {
-            let c = have!(copy_channel(run.alloc, c));
-            Done::Gives(c)
-        }
+        Value::Chan(c) => Done::Gives(c),
         Value::Parts(_) => Done::Halts(Halted::Lost),
     }
 }
@@ -91,7 +94,7 @@ fn on_channels(
 }
 
 /// What an operator gives of two values.
-pub fn operate(
+fn operate(
     run: &Setting,
     who: &Who,
     machine: &Machine,
@@ -104,16 +107,65 @@ pub fn operate(
 {
     match v {
         Value::Undefined => Done::Halts(Halted::Lost),
-        Value::Ordinal(m) => {
-            let n = take!(ordinal(run, who, machine, w));
-            worked_of(run, who, machine, binary(op, *m, n))
-        }
-        Value::Chan(c) => {
-            let d = take!(channel(run, who, machine, w));
-            on_channels(run, who, machine, op, c, &d)
-        }
+        Value::Ordinal(m) => on_ordinals(run, who, machine, op, *m, w),
+        Value::Chan(c) => match w {
+            Value::Undefined => Done::Halts(Halted::Lost),
+            Value::Ordinal(_) => Done::Halts(Halted::Lost),
+            Value::Chan(d) => on_channels(run, who, machine, op, c, d),
+            Value::Parts(_) => Done::Halts(Halted::Lost),
+        },
         Value::Parts(_) => Done::Halts(Halted::Lost),
     }
+}
+
+fn on_ordinals(
+    run: &Setting,
+    who: &Who,
+    machine: &Machine,
+    op: BinaryOp,
+    m: i64,
+    w: &Value,
+) -> Done<Value>
+    ensures { Implements run.now who.now plain_value machine.now result machine.now
+        (bind (ordinal (plain_value w.now)) (λ n. work_of (binary_op op m n))) }
+{
+    match w {
+        Value::Undefined => Done::Halts(Halted::Lost),
+        Value::Ordinal(n) => worked_of(run, who, machine, binary(op, m, *n)),
+        Value::Chan(_) => Done::Halts(Halted::Lost),
+        Value::Parts(_) => Done::Halts(Halted::Lost),
+    }
+}
+
+/// What an operator gives of a second operand.
+pub fn operate_two(
+    run: &Setting,
+    who: &Who,
+    machine: &Machine,
+    op: BinaryOp,
+    v: Value,
+    w: Done<Value>,
+) -> Done<Value>
+    ensures { Follows run.now who.now plain_value plain_value machine.now w result machine.now
+        (operate op (plain_value v)) }
+{
+    let w = take!(w);
+    operate(run, who, machine, op, &v, &w)
+}
+
+/// What an operator gives of an ordinal.
+pub fn operate_one(
+    run: &Setting,
+    who: &Who,
+    machine: &Machine,
+    op: UnaryOp,
+    n: Done<i64>,
+) -> Done<Value>
+    ensures { Follows run.now who.now same plain_value machine.now n result machine.now
+        (λ m. work_of (unary_op op m)) }
+{
+    let n = take!(n);
+    worked_of(run, who, machine, unary(op, n))
 }
 
 /// An ordinal type's greatest number.
@@ -147,7 +199,7 @@ fn least(kind: &KindOf) -> i64
 }
 
 /// What a standard function of one argument gives; the type is that of the result.
-pub fn standard(
+fn standard(
     run: &Setting,
     who: &Who,
     machine: &Machine,
@@ -170,14 +222,25 @@ pub fn standard(
     }
 }
 
-/// What `eof` and `eoln` give of what is left of the input.
-pub fn at_input(
+/// What a standard function gives of an ordinal; the type is that of the result.
+pub fn standard_of(
     run: &Setting,
     who: &Who,
     machine: &Machine,
     f: StandardFn,
-    left: &[u8],
+    kind: u32,
+    n: Done<i64>,
 ) -> Done<Value>
+    ensures { Follows run.now who.now same plain_value machine.now n result machine.now
+        (λ m. bind (kind_at (setting_of run.now) kind) (λ t. standard_op f t m)) }
+{
+    let n = take!(n);
+    let kind = take!(kind_at(run, who, machine, kind));
+    standard(run, who, machine, f, kind, n)
+}
+
+/// What `eof` and `eoln` give of what is left of the input.
+fn at_input(run: &Setting, who: &Who, machine: &Machine, f: StandardFn, left: &[u8]) -> Done<Value>
     ensures { Implements run.now who.now plain_value machine.now result machine.now (input_op f left.now) }
 {
     match f {
@@ -193,13 +256,13 @@ pub fn at_input(
     }
 }
 
-fn is_at_line_end(left: &[u8]) -> bool
-    ensures { result ≡ at_line_end left.now }
+/// What `eof` and `eoln` give.
+pub fn of_input(run: &Setting, who: &Who, machine: &mut Machine, f: StandardFn) -> Done<Value>
+    ensures { Implements run.now who.now plain_value machine.old result machine.new
+        (bind (left_of (setting_of run.now)) (input_op f)) }
 {
-    match left.first() {
-        Some(b) => *b == 10,
-        None => true,
-    }
+    let left = take!(left_of(run, who, machine));
+    at_input(run, who, machine, f, left)
 }
 
 fn ordinal_read(run: &Setting, who: &Who, machine: &Machine, v: Value) -> Done<Value>
@@ -261,20 +324,25 @@ fn component(
     run: &Setting,
     who: &Who,
     machine: &Machine,
-    a: Address,
+    a: &Address,
     at: usize,
     kind: u32,
 ) -> Done<Place>
     ensures { Implements run.now who.now plain_place machine.now result machine.now
-        (component (plain_address a) at kind) }
+        (component (plain_address a.now) at kind) }
 {
-    let Address {
-        spot,
-        mut path,
-        kind: _,
-    } = a;
-    have!(path.push(at));
-    Done::Gives(Place::At(Address { spot, path, kind }))
+    Done::Gives(Place::At(have!(part_of(run.alloc, a, at, kind))))
+}
+
+/// The address of a component.
+fn part_of(alloc: Global, a: &Address, at: usize, kind: u32) -> Result<Address, Memory>
+    ensures { IfOk result (λ b. plain_address b
+        ≡ record { spot = (plain_address a.now).spot; path = a.now.path ++ at ∷ []; kind = kind }) }
+{
+    let mut path = List::from_slice(alloc, a.path.items())?;
+    path.push(at)?;
+    let spot = copy_loc(alloc, &a.spot)?;
+    Ok(Address { spot, path, kind })
 }
 
 /// The element at an index, or F1.
@@ -282,12 +350,12 @@ fn element_at(
     run: &Setting,
     who: &Who,
     machine: &Machine,
-    a: Address,
+    a: &Address,
     n: &i64,
     kind: &KindOf,
 ) -> Done<Place>
     ensures { Implements run.now who.now plain_place machine.now result machine.now
-        (element_at (plain_address a) n.now kind.now) }
+        (element_at (plain_address a.now) n.now kind.now) }
 {
     match kind {
         KindOf::Array {
@@ -312,16 +380,30 @@ fn element_at(
 }
 
 /// The element of a place at an index.
-pub fn indexed(run: &Setting, who: &Who, machine: &Machine, place: Place, n: &i64) -> Done<Place>
-    ensures { Implements run.now who.now plain_place machine.now result machine.now
-        (indexed (setting_of run.now) (plain_place place) n.now) }
+pub fn indexed(
+    run: &Setting,
+    who: &Who,
+    machine: &Machine,
+    place: Place,
+    n: Done<i64>,
+) -> Done<Place>
+    ensures { Follows run.now who.now same plain_place machine.now n result machine.now
+        (indexed (setting_of run.now) (plain_place place)) }
 {
+    let n = take!(n);
     match place {
-        Place::At(a) => {
-            let kind = take!(kind_at(run, who, machine, a.kind));
-            element_at(run, who, machine, a, n, kind)
-        }
+        Place::At(a) => in_array(run, who, machine, &a, &n),
         Place::Fixed(_) => Done::Halts(Halted::Lost),
+    }
+}
+
+fn in_array(run: &Setting, who: &Who, machine: &Machine, a: &Address, n: &i64) -> Done<Place>
+    ensures { Implements run.now who.now plain_place machine.now result machine.now
+        (bind (kind_at (setting_of run.now) a.now.kind) (element_at (plain_address a.now) n.now)) }
+{
+    match run.checked.kinds.get(a.kind as usize) {
+        Some(kind) => element_at(run, who, machine, a, n, kind),
+        None => Done::Halts(Halted::Lost),
     }
 }
 
@@ -348,30 +430,41 @@ pub fn fielded(run: &Setting, who: &Who, machine: &Machine, f: u32, place: Place
         (fielded (setting_of run.now) f (plain_place place)) }
 {
     match place {
-        Place::At(a) => {
-            let kind = take!(kind_at(run, who, machine, a.kind));
-            match field_kind(f, kind) {
-                Some(t) => component(run, who, machine, a, f as usize, t),
-                None => Done::Halts(Halted::Lost),
-            }
-        }
+        Place::At(a) => in_record(run, who, machine, &a, f),
         Place::Fixed(_) => Done::Halts(Halted::Lost),
     }
 }
 
-/// What stands at a place.
-pub fn read_at(run: &Setting, who: &Who, machine: &mut Machine, place: &Place) -> Done<Value>
-    ensures { Implements run.now who.now plain_value machine.old result machine.new
-        (read_at (setting_of run.now) (plain_place place.now)) }
+fn in_record(run: &Setting, who: &Who, machine: &Machine, a: &Address, f: u32) -> Done<Place>
+    ensures { Implements run.now who.now plain_place machine.now result machine.now
+        (fielded (setting_of run.now) f (At (plain_address a.now))) }
 {
-    match place {
-        Place::At(a) => {
-            let kind = take!(kind_at(run, who, machine, a.kind));
-            let v = take!(fetch(run, who, machine, a));
-            checked(run, who, machine, kind, v)
-        }
-        Place::Fixed(n) => Done::Gives(Value::Ordinal(*n)),
+    let kind = take!(kind_at(run, who, machine, a.kind));
+    match field_kind(f, kind) {
+        Some(t) => component(run, who, machine, a, f as usize, t),
+        None => Done::Halts(Halted::Lost),
     }
+}
+
+/// What stands at a place.
+pub fn read_at(run: &Setting, who: &Who, machine: &mut Machine, place: Done<Place>) -> Done<Value>
+    ensures { Follows run.now who.now plain_place plain_value machine.old place result machine.new
+        (read_at (setting_of run.now)) }
+{
+    match take!(place) {
+        Place::At(a) => read_of(run, who, machine, &a),
+        Place::Fixed(n) => Done::Gives(Value::Ordinal(n)),
+    }
+}
+
+/// What stands at an address.
+fn read_of(run: &Setting, who: &Who, machine: &mut Machine, a: &Address) -> Done<Value>
+    ensures { Implements run.now who.now plain_value machine.old result machine.new
+        (read_at (setting_of run.now) (At (plain_address a.now))) }
+{
+    let kind = take!(kind_at(run, who, machine, a.kind));
+    let v = take!(fetch(run, who, machine, a));
+    checked(run, who, machine, kind, v)
 }
 
 /// The position that is held, if it is.

@@ -89,6 +89,21 @@ fn ran<'a>(
     Ok(Meant { steps, output, end })
 }
 
+/// The same, in a state of its own.
+fn ran_from<'a>(
+    run: &Setting<'a>,
+    weight: u64,
+    opening: State<'a>,
+    schedule: &[ProcName],
+) -> Result<Meant, Memory>
+    requires weight { weight ≡ weight_of (program_of run.now.checked.now) }
+    requires opening { state_of run.now opening ≡ start_of (setting_of run.now) }
+    ensures { IfOk result (Means (setting_of run.now) (names_of schedule.now)) }
+{
+    let mut s = opening;
+    ran(run, weight, &mut s, schedule)
+}
+
 /// The plain meaning of a program: the steps of the schedule, made one by one from the opening state up to the first
 /// that can't be made. It is slow, and meant for small programs. Want of memory is the only error.
 pub fn meaning_run(
@@ -108,6 +123,6 @@ pub fn meaning_run(
         alloc,
     };
     let weight = weight_of_program(checked)?;
-    let mut state = start(&run)?;
-    ran(&run, weight, &mut state, schedule.items())
+    let state = start(&run)?;
+    ran_from(&run, weight, state, schedule.items())
 }

@@ -178,7 +178,8 @@ fn copy_cargo(alloc: Global, cargo: &Cargo) -> Result<Cargo, Memory>
     }
 }
 
-fn copy_offer<'a>(alloc: Global, o: &Offer<'a>) -> Result<Offer<'a>, Memory>
+/// The same offer once more.
+pub fn copy_offer<'a>(alloc: Global, o: &Offer<'a>) -> Result<Offer<'a>, Memory>
     ensures { IfOk result (λ c. plain_offer c ≡ plain_offer o.now) }
 {
     let channel = copy_channel(alloc, &o.channel)?;
@@ -394,11 +395,12 @@ pub fn add_fork(run: &Setting, s: &mut State, p: &[(u64, u64)]) -> Result<(), Me
 pub fn set_pending(
     run: &Setting,
     s: &mut State,
-    channel: Chan,
+    channel: &Chan,
     who: Option<Name>,
 ) -> Result<(), Memory>
-    ensures { OnOk result (Changes run.now s.old (PendsIn (plain_channel channel) who ∷ []) s.new) }
+    ensures { OnOk result (Changes run.now s.old (PendsIn (plain_channel channel.now) who ∷ []) s.new) }
 {
+    let channel = copy_channel(run.alloc, channel)?;
     s.pending.push(Pends { channel, who })?;
     Ok(())
 }

@@ -3,7 +3,6 @@
 
 ghost use Rattle.std.specs.Prelude.{◌≡◌, ◌+◌, ◌+ℤ◌, ◌∷◌, [], IfOk, OnOk, Option, Some, None, length, map, pos};
 ghost use Rattle.std.specs.Prelude.{replicate};
-ghost use Rattle.std.specs.Option.{option_map};
 ghost use Rattle.sp_tree.specs.PlainOf.{stmt_of, program_of, stmts_of};
 ghost use Rattle.sp_meaning.specs.Model.{Writes, Pends as PendsIn, Adds, Faults, Becomes, Works, Forks, Offering};
 ghost use Rattle.sp_meaning.specs.Model.{changed};
@@ -22,20 +21,21 @@ ghost use Rattle.sp_run.specs.DirectDeeds.{deed};
 ghost use Rattle.sp_run.specs.declared.deeds.Deed.TheVariants.{Forked};
 ghost use Rattle.sp_run.specs.Doings.{births_of, plain_deed, plain_cargo};
 ghost use Rattle.sp_run.specs.States.{plain_process, plain_offer, state_of, stepped, with_store, Changes, Steps};
-ghost use Rattle.sp_run.specs.Passing.{passing};
 
-use crate::deeds::{Births, Cargo, Deed, drop_first, settle};
+use crate::bodies::first_of;
+use crate::deeds::{Births, Cargo, Deed};
 use crate::interpret::act;
 use crate::item::{Item, push};
 use crate::kinds::sum_of;
 use crate::machine::{Frame, Home, Machine, Own, Setting, Who, Write};
 use crate::state::{
     Condition, Offer, Process, State, add_fork, adds, becomes, child_of, copy_frames, copy_log,
-    copy_process, delivers, fails, forks_made, offer_of, passed, pending_on, running, set_pending,
+    copy_offer, copy_process, delivers, fails, forks_made, offer_of, passed, pending_on, running,
+    set_pending,
 };
 use crate::stop::{Done, Halted};
 use crate::take;
-use crate::value::{Address, Chan, Name, Value, copy_channel, copy_name};
+use crate::value::{Address, Name, Value, copy_name};
 use crate::weights::enough;
 use sp_base::{Fault, List, Memory};
 use sp_tree::Stmt;
@@ -288,40 +288,32 @@ fn splits<'a>(
     makes_children(run, s, p, &parent, children)
 }
 
-/// What goes over, and to where; nothing where both offers have one way.
-fn message(c: Cargo, d: Cargo) -> Option<(Address, Value)>
-    ensures { option_map passing result ≡ message (plain_cargo c) (plain_cargo d) }
+/// A process goes on.
+fn resumes<'a>(
+    run: &Setting,
+    s: &mut State<'a>,
+    p: &[(u64, u64)],
+    next: &Process<'a>,
+) -> Result<(), Memory>
+    ensures { OnOk result (Changes run.now s.old (Becomes p.now (Works (plain_process next.now)) ∷ []) s.new) }
 {
-    match (c, d) {
-        (Cargo::Message(v), Cargo::Takes(a)) => Some((a, v)),
-        (Cargo::Takes(a), Cargo::Message(v)) => Some((a, v)),
-        (Cargo::Message(_), Cargo::Message(_)) => None,
-        (Cargo::Takes(_), Cargo::Takes(_)) => None,
-    }
-}
-
-/// The channel and who waits on it.
-fn waits_on(run: &Setting, channel: &Chan, p: &[(u64, u64)]) -> Result<(Chan, Name), Memory>
-    ensures { IfOk result (λ both. both ≡ (channel.now, p.now)) }
-{
-    let channel = copy_channel(run.alloc, channel)?;
-    let name = List::from_slice(run.alloc, p)?;
-    Ok((channel, name))
+    let next = copy_process(run.alloc, next)?;
+    becomes(run, s, p, Condition::Works(next))
 }
 
 /// An offer finds none on its channel, and its process waits.
-fn waits<'a>(run: &Setting, s: &mut State<'a>, p: &[(u64, u64)], o: Offer<'a>) -> Result<(), Memory>
-    ensures { OnOk result (Changes run.now s.old (waiting (state_of run.now s.old) p.now (plain_offer o.entry)) s.new) }
+fn waits<'a>(
+    run: &Setting,
+    s: &mut State<'a>,
+    p: &[(u64, u64)],
+    o: &Offer<'a>,
+) -> Result<(), Memory>
+    ensures { OnOk result (Changes run.now s.old (waiting (state_of run.now s.old) p.now (plain_offer o.now)) s.new) }
 {
-    let (channel, name) = match waits_on(run, &o.channel, p) {
-        Ok(both) => both,
-        Err(e) => {
-            drop(o);
-            return Err(e);
-        }
-    };
-    becomes(run, s, p, Condition::Waits(o))?;
-    set_pending(run, s, channel, Some(name))?;
+    let offer = copy_offer(run.alloc, o)?;
+    becomes(run, s, p, Condition::Waits(offer))?;
+    let name = List::from_slice(run.alloc, p)?;
+    set_pending(run, s, &o.channel, Some(name))?;
     adds(run, s, 0, 0)
 }
 
@@ -330,62 +322,68 @@ fn meeting<'a>(
     run: &Setting,
     s: &mut State<'a>,
     p: &[(u64, u64)],
-    next: Process<'a>,
+    o: &Offer<'a>,
     z: &Name,
-    other: Process<'a>,
-    channel: Chan,
+    w: &Offer<'a>,
     a: &Address,
     v: &Value,
 ) -> Result<(), Memory>
     ensures { OnOk result (Changes run.now s.old
-        (Becomes p.now (Works (plain_process next.entry)) ∷ Becomes z.now (Works (plain_process other.entry)) ∷ PendsIn
-        (plain_channel channel) None ∷ Writes (plain_address a.now).spot
+        (Becomes p.now (Works (plain_process o.now.next)) ∷ Becomes z.now (Works (plain_process w.now.next)) ∷ PendsIn
+        (plain_channel o.now.channel) None ∷ Writes (plain_address a.now).spot
         (assigned (plain_address a.now) (store_of run.now s.old.log (plain_address a.now).spot)
         (Tree (plain_value v.now))) ∷ Adds
         (record { processes = 0; channels = 0; entries = 1 }) ∷ []) s.new) }
 {
-    becomes(run, s, p, Condition::Works(next))?;
-    becomes(run, s, z.items(), Condition::Works(other))?;
-    set_pending(run, s, channel, None)?;
+    resumes(run, s, p, &o.next)?;
+    resumes(run, s, z.items(), &w.next)?;
+    set_pending(run, s, &o.channel, None)?;
     delivers(run, s, a, v)?;
     adds(run, s, 0, 0)
 }
 
-/// An offer meets that of a process that waits: F6 where both have one way, F7 where the message types differ.
+/// A message goes over, or F7 where the message types differ.
+fn passes_over<'a>(
+    run: &Setting,
+    s: &mut State<'a>,
+    p: &[(u64, u64)],
+    o: &Offer<'a>,
+    z: &Name,
+    w: &Offer<'a>,
+    a: &Address,
+    v: &Value,
+) -> Result<(), Memory>
+    ensures { OnOk result (state_of run.now s.new
+        ≡ result_of (state_of run.now s.old) p.now
+        (hands (state_of run.now s.old) p.now (plain_offer o.now) z.now (plain_offer w.now)
+        (Some (plain_address a.now, Tree (plain_value v.now))))) }
+{
+    if o.kind == w.kind {
+        meeting(run, s, p, o, z, w, a, v)
+    } else {
+        fails(run, s, p, Fault::F7)
+    }
+}
+
+/// An offer meets that of a process that waits: F6 where both have one way.
 fn hands<'a>(
     run: &Setting,
     s: &mut State<'a>,
     p: &[(u64, u64)],
-    o: Offer<'a>,
+    o: &Offer<'a>,
     z: &Name,
-    w: Offer<'a>,
+    w: &Offer<'a>,
 ) -> Result<(), Memory>
     ensures { OnOk result (state_of run.now s.new
         ≡ result_of (state_of run.now s.old) p.now
-        (hands (state_of run.now s.old) p.now (plain_offer o.entry) z.now (plain_offer w.entry)
-        (message (plain_cargo o.entry.cargo) (plain_cargo w.entry.cargo)))) }
+        (hands (state_of run.now s.old) p.now (plain_offer o.now) z.now (plain_offer w.now)
+        (message (plain_cargo o.now.cargo) (plain_cargo w.now.cargo)))) }
 {
-    let Offer {
-        channel,
-        kind,
-        cargo,
-        next,
-    } = o;
-    let Offer {
-        channel: _,
-        kind: other_kind,
-        cargo: other_cargo,
-        next: other,
-    } = w;
-    match message(cargo, other_cargo) {
-        None => fails(run, s, p, Fault::F6),
-        Some((a, v)) => {
-            if kind == other_kind {
-                meeting(run, s, p, next, z, other, channel, &a, &v)
-            } else {
-                fails(run, s, p, Fault::F7)
-            }
-        }
+    match (&o.cargo, &w.cargo) {
+        (Cargo::Message(v), Cargo::Takes(a)) => passes_over(run, s, p, o, z, w, a, v),
+        (Cargo::Takes(a), Cargo::Message(v)) => passes_over(run, s, p, o, z, w, a, v),
+        (Cargo::Message(_), Cargo::Message(_)) => fails(run, s, p, Fault::F6),
+        (Cargo::Takes(_), Cargo::Takes(_)) => fails(run, s, p, Fault::F6),
     }
 }
 
@@ -394,15 +392,15 @@ fn meets<'a>(
     run: &Setting,
     s: &mut State<'a>,
     p: &[(u64, u64)],
-    o: Offer<'a>,
+    o: &Offer<'a>,
     z: &Name,
 ) -> Result<(), Memory>
     ensures { OnOk result (state_of run.now s.new
         ≡ result_of (state_of run.now s.old) p.now
-        (meets (state_of run.now s.old) p.now (plain_offer o.entry) z.now ((state_of run.now s.old).condition z.now))) }
+        (meets (state_of run.now s.old) p.now (plain_offer o.now) z.now ((state_of run.now s.old).condition z.now))) }
 {
     match offer_of(run.alloc, s.conditions.items(), z.items())? {
-        Some(w) => hands(run, s, p, o, z, w),
+        Some(w) => hands(run, s, p, o, z, &w),
         None => fails(run, s, p, Fault::F6),
     }
 }
@@ -412,11 +410,11 @@ fn offers<'a>(
     run: &Setting,
     s: &mut State<'a>,
     p: &[(u64, u64)],
-    o: Offer<'a>,
+    o: &Offer<'a>,
 ) -> Result<(), Memory>
     ensures { OnOk result (state_of run.now s.new
         ≡ result_of (state_of run.now s.old) p.now
-        (outcome (most (setting_of run.now)) (state_of run.now s.old) p.now (Offering (plain_offer o.entry)))) }
+        (outcome (most (setting_of run.now)) (state_of run.now s.old) p.now (Offering (plain_offer o.now)))) }
 {
     if let Some(f) = passed(run, &s.totals, 0, 0) {
         return fails(run, s, p, f);
@@ -498,17 +496,15 @@ fn completes<'a>(
             channel,
             kind,
             cargo,
-        } => offers(
-            run,
-            s,
-            p,
-            Offer {
+        } => {
+            let o = Offer {
                 channel,
                 kind,
                 cargo,
                 next,
-            },
-        ),
+            };
+            offers(run, s, p, &o)
+        }
         Deed::Ended => becomes(run, s, p, Condition::Ended),
     }
 }
@@ -536,13 +532,10 @@ fn deed_of<'a>(
     ensures { Implements run.now who.now (plain_deed (items_of todo.new.items)) machine.old result machine.new
         (deed (setting_of run.now) fuel (items_of todo.old.items)) }
 {
-    take!(settle(run, who, machine, todo));
-    let Some(first) = todo.first() else {
-        return Done::Gives(Deed::Ended);
-    };
-    let item = *first;
-    drop_first(todo);
-    act(run, who, fuel, LEVELS, machine, item, todo)
+    match take!(first_of(run, who, machine, todo)) {
+        Some(item) => act(run, who, fuel, LEVELS, machine, item, todo),
+        None => Done::Gives(Deed::Ended),
+    }
 }
 
 /// One step of a process: whether it can make one.

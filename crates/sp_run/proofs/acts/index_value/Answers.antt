@@ -1,7 +1,13 @@
+use Rattle.sp_run.specs.Machines.{setting_of}
+use Rattle.sp_run.specs.Comings.{same}
+use Rattle.sp_run.specs.Places.{plain_place}
+use Rattle.sp_run.specs.Views.{plain_value}
+use Rattle.sp_run.specs.DirectEval.{place_of, read_at, ordinal}
+use Rattle.sp_run.proofs.Following.{then_two}
 use Rattle.sp_run.proofs.acts.index_value.Goals as goal
 
 pub returns : goal.returns
-returns c =
-    let e1 = c.in-Gives.ensures in
-    let e2 = c.in-Gives-read_at.ensures in
-    rw (e1, e2) c.ordinal.ensures
+returns c = then_two c.args.run.now c.args.who.now plain_place plain_value same c.args.machine.now c.args.machine.now
+    c.read_at-v.new.machine c.read_at-v.new.machine c.place_of-q.result c.read_at-v.result c.ordinal.result
+    (place_of (setting_of c.args.run.now) c.args.variable) (read_at (setting_of c.args.run.now)) ordinal
+    c.place_of-q.ensures c.read_at-v.ensures c.ordinal.ensures

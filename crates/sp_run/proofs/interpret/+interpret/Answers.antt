@@ -11,20 +11,32 @@ use Rattle.sp_tree.specs.declared.checked.Form.TheFolds as folds
 use Rattle.sp_tree.specs.Plain.{Typed, Unary, Standard, AtInput, Assign, Sequence, For, Case, Parallel, Forall}
 use Rattle.sp_tree.specs.Plain.{ReadLine, WriteValue}
 use Rattle.sp_tree.specs.PlainOf.{expr_of, form_of, var_of, stmt_of, arms_of, standard_of, stmts_of, width_of}
+use Rattle.sp_tree.specs.PlainOf.{selectors_of, actuals_of}
 use Rattle.sp_tree.specs.CheckedOf as placed
 use Rattle.sp_tree.specs.Bare.{bare_statements}
 use Rattle.sp_tree.proofs.Singles.{sends_bare, receives_bare}
 use Rattle.sp_meaning.specs.Own.{First, Again}
 use Rattle.sp_run.specs.Items.{items_of, item_of}
 use Rattle.sp_run.specs.Machines.{setting_of, plain_who, plain_own, store_of}
-use Rattle.sp_meaning.specs.Values.{Value}
-use Rattle.sp_run.specs.Comings.{Comes}
-use Rattle.sp_run.specs.Views.{plain_value}
-use Rattle.sp_run.specs.Doings.{calls_of}
-use Rattle.sp_run.specs.Direct.{Came, Got}
-use Rattle.sp_run.specs.DirectEval.{input_op, form_value}
-use Rattle.sp_run.proofs.Acting.{input_is}
-use Rattle.sp_run.specs.Acts.{one}
+use Rattle.sp_run.specs.Comings.{same}
+use Rattle.sp_run.specs.Places.{plain_place}
+use Rattle.sp_run.specs.Views.{plain_value, plain_address, plain_channel}
+use Rattle.sp_run.specs.Doings.{calls_of, given_of, block_in, plain_deed, nothing_left}
+use Rattle.sp_run.specs.Direct.{Got, bind, give}
+use Rattle.sp_meaning.specs.Operators.{unary_op}
+use Rattle.sp_meaning.specs.Deeds.{push}
+use Rattle.sp_meaning.specs.Eval.{ValueOf, PlaceOf}
+use Rattle.sp_tree.specs.declared.checked.Selector as ast_t
+use Rattle.sp_tree.specs.declared.checked.Actual as ast_a
+use Rattle.sp_tree.specs.Plain.{Index, Field, Select, Pass, ByValue, ByReference, Send, Binary, Apply, If}
+use Rattle.sp_run.specs.DirectEval.{value, place, selected, actuals as given_by, address, ordinal_of, ordinal, channel}
+use Rattle.sp_run.specs.DirectEval.{kind_at, operate, read_at, address_of, indexed, fielded, standard_op, work_of}
+use Rattle.sp_run.specs.DirectDeeds.{all, act, enter, start, width}
+use Rattle.sp_run.specs.Acts.{one, ended, left_after, left_if, assigned_to, called, ranged, opened, read_value, sends}
+use Rattle.sp_run.specs.Acts.{receives, write_shown, write_text}
+use Rattle.sp_run.specs.Texts.{forall}
+use Rattle.sp_run.specs.Following.{after}
+use Rattle.sp_run.proofs.Following.{then_one, then_two, parted}
 use Rattle.sp_run.proofs.Goings.{more_left, not_left}
 use Rattle.sp_run.proofs.interpret.+interpret.Goals as goal
 
@@ -49,7 +61,8 @@ act-returns-in-Again t c =
 pub all-returns-in-Halts : goal.all-returns-in-Halts
 all-returns-in-Halts t c =
     let e = c.in-Halts.ensures in
-    sym c.loop-left.invariant ∙ not_left (setting_of c.args.run.now) c.loop-left.left (items_of c.loop-left.todo.items)
+    sym c.loop-left.invariant ∙ not_left (setting_of c.args.run.now) c.loop-left.left (items_of
+    c.loop-left.todo.items)
     (plain_who c.args.who.now) (plain_own c.loop-left.machine.own) (store_of c.args.run.now c.loop-left.machine.log)
     c.in-Halts.halted (omega arith) e
 
@@ -65,64 +78,6 @@ all-loop-left-preserved t c =
     (plain_own c.one.new.machine.own) (store_of c.args.run.now c.loop-left.machine.log)
     (store_of c.args.run.now c.one.new.machine.log) (omega arith) e ∙ c.loop-left.invariant
 
-pub call-returns-in-Halts-all : goal.call-returns-in-Halts-all
-call-returns-in-Halts-all t c =
-    let e1 = rw c.items.ensures at c.in-Gives.ensures in
-    let e2 = rw c.in-Ok.ensures at c.in-Halts-all.ensures in
-    rw (e1, e2) refl
-
-pub call-returns : goal.call-returns
-call-returns t c =
-    let e1 = rw c.items.ensures at c.in-Gives.ensures in
-    let e2 = rw c.in-Ok.ensures at c.in-Gives-all.ensures in
-    rw (e1, e2) c.ended.ensures
-
-pub form_value-returns-in-Gives-ordinal_of : goal.form_value-returns-in-Gives-ordinal_of
-form_value-returns-in-Gives-ordinal_of t c =
-    let i : form_of c.args.form.now ≡ Unary c.in-Unary.op (expr_of c.in-Unary.a) = search (rules, ast_f.the_lemmas) in
-    let f : SFits w64 c.in-Gives-ordinal_of.value = search rules in
-    let z : to_z w64 (of_z w64 c.in-Gives-ordinal_of.value) ≡ c.in-Gives-ordinal_of.value =
-    to_z-of_z w64 c.in-Gives-ordinal_of.value f in
-    let e1 = rw c.get.ensures at c.in-Gives-ordinal_of.ensures in
-    let e2 = rw z at c.unary.ensures in
-    rw (i, e1) (rw e2 at c.worked_of.ensures)
-
-pub form_value-returns-in-Gives-kind_at : goal.form_value-returns-in-Gives-kind_at
-form_value-returns-in-Gives-kind_at t c =
-    let xs : c.in-Standard.args ≡ c.in-Some.a.now ∷ c.in-Some._rest.now = search rules in
-    let i : form_of c.args.form.now ≡ standard_of c.in-Standard.f c.in-Standard.args =
-    search (rules, ast_f.the_lemmas) in
-    let j : standard_of c.in-Standard.f c.in-Standard.args ≡ Standard c.in-Standard.f (expr_of c.in-Some.a.now) =
-    ap (λ z. standard_of c.in-Standard.f z) xs in
-    let f : SFits w64 c.in-Gives-ordinal_of-2.value = search rules in
-    let z : to_z w64 (of_z w64 c.in-Gives-ordinal_of-2.value) ≡ c.in-Gives-ordinal_of-2.value =
-    to_z-of_z w64 c.in-Gives-ordinal_of-2.value f in
-    let e1 = c.in-Gives-ordinal_of-2.ensures in
-    let e2 = c.in-Gives-kind_at.ensures in
-    rw (i ∙ j, e1, e2) (rw z at c.standard.ensures)
-
-pub form_value-returns-in-Gives-left_of : goal.form_value-returns-in-Gives-left_of
-form_value-returns-in-Gives-left_of t c =
-    let l : length c.in-Standard.args ≡ 0 = first_of (search rules, grind (arith, rules)) in
-    let xs : c.in-Standard.args ≡ [] = nil_from_length c.in-Standard.args l in
-    let i : form_of c.args.form.now ≡ standard_of c.in-Standard.f c.in-Standard.args =
-    search (rules, ast_f.the_lemmas) in
-    let j : standard_of c.in-Standard.f c.in-Standard.args ≡ AtInput c.in-Standard.f =
-    ap (λ z. standard_of c.in-Standard.f z) xs in
-    let e1 = c.in-Gives-left_of.ensures in
-    let k : form_value (setting_of c.args.run.now) (calls_of c.args.run.now c.args.fuel) c.args.kind
-    (form_of c.args.form.now) (plain_who c.args.who.now) (plain_own c.args.machine.now.own)
-    (store_of c.args.run.now c.args.machine.now.log)
-    ≡ input_op c.in-Standard.f c.in-Gives-left_of.value.now (plain_who c.args.who.now)
-    (plain_own c.left_of.new.machine.own) (store_of c.args.run.now c.left_of.new.machine.log) =
-    rw (i ∙ j) (input_is (setting_of c.args.run.now) (calls_of c.args.run.now c.args.fuel) c.args.kind c.in-Standard.f
-    (plain_who c.args.who.now) (plain_own c.args.machine.now.own) (plain_own c.left_of.new.machine.own)
-    (store_of c.args.run.now c.args.machine.now.log) (store_of c.args.run.now c.left_of.new.machine.log)
-    c.in-Gives-left_of.value.now (input_op c.in-Standard.f c.in-Gives-left_of.value.now (plain_who c.args.who.now)
-    (plain_own c.left_of.new.machine.own) (store_of c.args.run.now c.left_of.new.machine.log)) e1 refl) in
-    subst (λ (x : Came Value). Comes c.args.run.now plain_value c.at_input.result c.left_of.new.machine x) (sym k)
-    c.at_input.ensures
-
 pub start-returns-in-Assign : goal.start-returns-in-Assign
 start-returns-in-Assign t c =
     let i : stmt_of c.args.s.now ≡ Assign (var_of c.in-Assign.x) (expr_of c.in-Assign.e) =
@@ -135,12 +90,6 @@ start-returns-in-For t c =
     (stmt_of c.in-For.body) = search (rules, folds.the_lemmas) in
     rw i (rw c.get-in-For.ensures at c.start_for.ensures)
 
-pub start-returns-in-Case : goal.start-returns-in-Case
-start-returns-in-Case t c =
-    let i : stmt_of c.args.s.now ≡ Case (expr_of c.in-Case.e) (arms_of c.in-Case.arms) =
-    search (rules, folds.the_lemmas) in
-    rw i (rw c.items-in-Case.ensures at c.start_case.ensures)
-
 pub start-returns-in-Parallel : goal.start-returns-in-Parallel
 start-returns-in-Parallel t c =
     let i : stmt_of c.args.s.now ≡ Parallel (stmts_of c.in-Parallel.ss) = search (rules, folds.the_lemmas) in
@@ -152,24 +101,22 @@ start-returns-in-Forall t c =
     (stmt_of c.in-Forall.body) = search (rules, folds.the_lemmas) in
     rw i (rw c.get-in-Forall.ensures at c.start_forall.ensures)
 
-pub start-returns-in-Ok-push_sends : goal.start-returns-in-Ok-push_sends
-start-returns-in-Ok-push_sends t c =
+pub start-returns-in-SendEach : goal.start-returns-in-SendEach
+start-returns-in-SendEach t c =
     let i : stmt_of c.args.s.now ≡ Sequence (bare_statements
     (placed.sends c.in-SendEach.number c.in-SendEach.at (placed.expression_of c.in-SendEach.channel)
     (map placed.expression_of c.in-SendEach.values))) = search (rules, folds.the_lemmas) in
     let j = sends_bare c.in-SendEach.number c.in-SendEach.at c.in-SendEach.channel c.in-SendEach.values in
-    let e = rw c.items-in-SendEach.ensures at c.in-Ok-push_sends.ensures in
-    rw (i, j, e) refl
+    rw (i, j) (rw c.items-in-SendEach.ensures at c.send_each.ensures)
 
-pub start-returns-in-Ok-push_receives : goal.start-returns-in-Ok-push_receives
-start-returns-in-Ok-push_receives t c =
+pub start-returns-in-ReceiveEach : goal.start-returns-in-ReceiveEach
+start-returns-in-ReceiveEach t c =
     let i : stmt_of c.args.s.now ≡ Sequence (bare_statements
     (placed.receives c.in-ReceiveEach.number c.in-ReceiveEach.at (placed.expression_of c.in-ReceiveEach.channel)
     (map placed.variable_of c.in-ReceiveEach.variables))) = search (rules, folds.the_lemmas) in
     let j = receives_bare c.in-ReceiveEach.number c.in-ReceiveEach.at c.in-ReceiveEach.channel
     c.in-ReceiveEach.variables in
-    let e = rw c.items-in-ReceiveEach.ensures at c.in-Ok-push_receives.ensures in
-    rw (i, j, e) refl
+    rw (i, j) (rw c.items-in-ReceiveEach.ensures at c.receive_each.ensures)
 
 pub start-returns-in-ReadLine : goal.start-returns-in-ReadLine
 start-returns-in-ReadLine t c =
@@ -182,16 +129,258 @@ start-returns-in-WriteValue t c =
     search (rules, folds.the_lemmas) in
     rw i c.start_write.ensures
 
+pub read-returns : goal.read-returns
+read-returns t c =
+    then_one c.args.run.now c.args.who.now plain_place plain_value c.args.machine.now c.place-q.new.machine
+    c.read_at.new.machine c.place-q.result c.read_at.result
+    (place (setting_of c.args.run.now) (calls_of c.args.run.now c.args.fuel) (var_of c.args.x.now))
+    (read_at (setting_of c.args.run.now))
+    c.place-q.ensures c.read_at.ensures
+
+pub on_one-returns : goal.on_one-returns
+on_one-returns t c =
+    then_one c.args.run.now c.args.who.now same plain_value c.args.machine.now c.ordinal_of-n.new.machine
+    c.ordinal_of-n.new.machine c.ordinal_of-n.result c.operate_one.result
+    (ordinal_of (setting_of c.args.run.now) (calls_of c.args.run.now c.args.fuel) (expr_of c.args.a.now))
+    (λ n. work_of (unary_op c.args.op n))
+    c.ordinal_of-n.ensures c.operate_one.ensures
+
+pub on_two-returns : goal.on_two-returns
+on_two-returns t c =
+    rw c.in-Gives.ensures (then_one c.args.run.now c.args.who.now plain_value plain_value c.value.new.machine
+    c.value-w.new.machine c.value-w.new.machine c.value-w.result c.operate_two.result
+    (value (setting_of c.args.run.now) (calls_of c.args.run.now c.args.fuel) (expr_of c.args.b.now))
+    (operate c.args.op (plain_value c.in-Gives.value))
+    c.value-w.ensures c.operate_two.ensures)
+
+pub of_one-returns : goal.of_one-returns
+of_one-returns t c =
+    then_one c.args.run.now c.args.who.now same plain_value c.args.machine.now c.ordinal_of-n.new.machine
+    c.ordinal_of-n.new.machine c.ordinal_of-n.result c.standard_of.result
+    (ordinal_of (setting_of c.args.run.now) (calls_of c.args.run.now c.args.fuel) (expr_of c.args.a.now))
+    (λ n. bind (kind_at (setting_of c.args.run.now) c.args.kind) (λ k. standard_op c.args.f k n))
+    c.ordinal_of-n.ensures c.standard_of.ensures
+
+pub form_value-returns-in-Some : goal.form_value-returns-in-Some
+form_value-returns-in-Some t c =
+    let xs : c.in-Standard.args ≡ c.in-Some.a.now ∷ c.in-Some._rest.now = search rules in
+    let i : form_of c.args.form.now ≡ standard_of c.in-Standard.f c.in-Standard.args =
+    search (rules, ast_f.the_lemmas) in
+    let j : standard_of c.in-Standard.f c.in-Standard.args ≡ Standard c.in-Standard.f (expr_of c.in-Some.a.now) =
+    ap (λ z. standard_of c.in-Standard.f z) xs in
+    rw (i ∙ j) c.of_one.ensures
+
+pub form_value-returns-in-None : goal.form_value-returns-in-None
+form_value-returns-in-None t c =
+    let l : length c.in-Standard.args ≡ 0 = first_of (search rules, grind (arith, rules)) in
+    let xs : c.in-Standard.args ≡ [] = nil_from_length c.in-Standard.args l in
+    let i : form_of c.args.form.now ≡ standard_of c.in-Standard.f c.in-Standard.args =
+    search (rules, ast_f.the_lemmas) in
+    let j : standard_of c.in-Standard.f c.in-Standard.args ≡ AtInput c.in-Standard.f =
+    ap (λ z. standard_of c.in-Standard.f z) xs in
+    rw (i ∙ j) c.of_input.ensures
+
+pub selected-returns-in-Index : goal.selected-returns-in-Index
+selected-returns-in-Index t c =
+    let i : selectors_of c.args.ss.now ≡ Select (Index (expr_of c.in-Index.e)) (selectors_of c.in-Some.rest.now) =
+    search (rules, ast_t.the_lemmas) in
+    rw (c.in-Gives.is, i) (then_two c.args.run.now c.args.who.now same plain_place plain_place c.args.machine.now
+    c.ordinal_of-n.new.machine c.ordinal_of-n.new.machine c.selected.new.machine c.ordinal_of-n.result
+    c.indexed-r.result
+    c.selected.result (ordinal_of (setting_of c.args.run.now) (calls_of c.args.run.now c.args.fuel) (expr_of
+    c.in-Index.e)) (indexed (setting_of c.args.run.now) (plain_place c.in-Gives.value))
+    (selected (setting_of c.args.run.now) (calls_of c.args.run.now c.args.fuel) (selectors_of c.in-Some.rest.now))
+    c.ordinal_of-n.ensures c.indexed-r.ensures c.selected.ensures)
+
+pub selected-returns-in-Field : goal.selected-returns-in-Field
+selected-returns-in-Field t c =
+    let i : selectors_of c.args.ss.now ≡ Select (Field c.in-Field.f) (selectors_of c.in-Some.rest.now) =
+    search (rules, ast_t.the_lemmas) in
+    rw (c.in-Gives.is, i) (then_one c.args.run.now c.args.who.now plain_place plain_place c.args.machine.now
+    c.args.machine.now c.selected-in-Field.new.machine c.fielded-r.result c.selected-in-Field.result
+    (fielded (setting_of c.args.run.now) c.in-Field.f (plain_place c.in-Gives.value))
+    (selected (setting_of c.args.run.now) (calls_of c.args.run.now c.args.fuel) (selectors_of c.in-Some.rest.now))
+    c.fielded-r.ensures c.selected-in-Field.ensures)
+
+pub actuals-returns-in-Gives : goal.actuals-returns-in-Gives
+actuals-returns-in-Gives t c =
+    let i : actuals_of c.args.args.now ≡ Pass (ByValue (expr_of c.in-Value.e)) (actuals_of c.in-Some.rest.now) =
+    search (rules, ast_a.the_lemmas) in
+    rw (i, c.in-Gives.ensures) (then_one c.args.run.now c.args.who.now given_of given_of c.value.new.machine
+    c.actuals-given.new.machine c.actuals-given.new.machine c.actuals-given.result c.first_given.result
+    (given_by (setting_of c.args.run.now) (calls_of c.args.run.now c.args.fuel) (actuals_of c.in-Some.rest.now))
+    (λ gs. give (ValueOf (plain_value c.in-Gives.value) ∷ gs))
+    c.actuals-given.ensures c.first_given.ensures)
+
+pub actuals-returns-in-Halts-address : goal.actuals-returns-in-Halts-address
+actuals-returns-in-Halts-address t c =
+    let i : actuals_of c.args.args.now ≡ Pass (ByReference (var_of c.in-Reference.x)) (actuals_of c.in-Some.rest.now)
+    =
+    search (rules, ast_a.the_lemmas) in
+    let e = parted (place (setting_of c.args.run.now) (calls_of c.args.run.now c.args.fuel) (var_of
+    c.in-Reference.x)) (address_of (setting_of c.args.run.now)) (λ a. bind (given_by (setting_of c.args.run.now)
+    (calls_of c.args.run.now c.args.fuel) (actuals_of c.in-Some.rest.now))
+    (λ gs. give (PlaceOf a ∷ gs))) (plain_who c.args.who.now) (plain_own c.args.machine.now.own)
+    (store_of c.args.run.now c.args.machine.now.log) in
+    rw i (rw e (rw c.in-Halts-address.ensures refl))
+
+pub actuals-returns-in-Gives-address : goal.actuals-returns-in-Gives-address
+actuals-returns-in-Gives-address t c =
+    let i : actuals_of c.args.args.now ≡ Pass (ByReference (var_of c.in-Reference.x)) (actuals_of c.in-Some.rest.now)
+    =
+    search (rules, ast_a.the_lemmas) in
+    let e = parted (place (setting_of c.args.run.now) (calls_of c.args.run.now c.args.fuel) (var_of
+    c.in-Reference.x)) (address_of (setting_of c.args.run.now)) (λ a. bind (given_by (setting_of c.args.run.now)
+    (calls_of c.args.run.now c.args.fuel) (actuals_of c.in-Some.rest.now))
+    (λ gs. give (PlaceOf a ∷ gs))) (plain_who c.args.who.now) (plain_own c.args.machine.now.own)
+    (store_of c.args.run.now c.args.machine.now.log) in
+    rw i (rw e (rw c.in-Gives-address.ensures (then_one c.args.run.now c.args.who.now given_of given_of
+    c.address.new.machine c.actuals-given-in-Reference.new.machine c.actuals-given-in-Reference.new.machine c.actuals-given-in-Reference.result
+    c.first_given-in-Reference.result
+    (given_by (setting_of c.args.run.now) (calls_of c.args.run.now c.args.fuel) (actuals_of c.in-Some.rest.now))
+    (λ gs. give (PlaceOf (plain_address c.in-Gives-address.value) ∷ gs))
+    c.actuals-given-in-Reference.ensures c.first_given-in-Reference.ensures)))
+
+pub begun-returns : goal.begun-returns
+begun-returns t c =
+    then_one c.args.run.now c.args.who.now given_of block_in c.args.machine.now c.actuals-given.new.machine
+    c.enter_given.new.machine c.actuals-given.result c.enter_given.result
+    (given_by (setting_of c.args.run.now) (calls_of c.args.run.now c.args.fuel) (actuals_of c.args.args.now))
+    (enter (setting_of c.args.run.now) c.args.f)
+    c.actuals-given.ensures c.enter_given.ensures
+
+pub call-returns-in-Halts : goal.call-returns-in-Halts
+call-returns-in-Halts t c =
+    let e = parted (given_by (setting_of c.args.run.now) (calls_of c.args.run.now c.args.fuel) (actuals_of
+    c.args.args.now)) (enter (setting_of c.args.run.now) c.args.f) (λ b. bind (all (setting_of c.args.run.now)
+    c.args.fuel (push b.body [])) (λ rest. ended (setting_of c.args.run.now) b.answer)) (plain_who c.args.who.now)
+    (plain_own c.args.machine.now.own) (store_of c.args.run.now c.args.machine.now.log) in
+    rw e (rw c.in-Halts.ensures refl)
+
+pub call-returns : goal.call-returns
+call-returns t c =
+    let e = parted (given_by (setting_of c.args.run.now) (calls_of c.args.run.now c.args.fuel) (actuals_of
+    c.args.args.now)) (enter (setting_of c.args.run.now) c.args.f) (λ b. bind (all (setting_of c.args.run.now)
+    c.args.fuel (push b.body [])) (λ rest. ended (setting_of c.args.run.now) b.answer)) (plain_who c.args.who.now)
+    (plain_own c.args.machine.now.own) (store_of c.args.run.now c.args.machine.now.log) in
+    rw e (rw c.in-Gives.ensures (rw (← c.in-Ok.ensures) (then_one c.args.run.now c.args.who.now nothing_left
+    plain_value c.begun.new.machine c.all-rest.new.machine c.ended.new.machine c.all-rest.result c.ended.result
+    (all (setting_of c.args.run.now) c.args.fuel (items_of c.in-Ok.value.items))
+    (λ rest. ended (setting_of c.args.run.now) (block_in c.in-Gives.value).answer)
+    c.all-rest.ensures c.ended.ensures)))
+
+pub ordinal_of-returns : goal.ordinal_of-returns
+ordinal_of-returns t c =
+    then_one c.args.run.now c.args.who.now plain_value same c.args.machine.now c.value-v.new.machine
+    c.value-v.new.machine c.value-v.result c.ordinal.result
+    (value (setting_of c.args.run.now) (calls_of c.args.run.now c.args.fuel) (expr_of c.args.e.now))
+    (ordinal)
+    c.value-v.ensures c.ordinal.ensures
+
+pub channel_of-returns : goal.channel_of-returns
+channel_of-returns t c =
+    then_one c.args.run.now c.args.who.now plain_value plain_channel c.args.machine.now c.value-v.new.machine
+    c.value-v.new.machine c.value-v.result c.channel.result
+    (value (setting_of c.args.run.now) (calls_of c.args.run.now c.args.fuel) (expr_of c.args.e.now))
+    (channel)
+    c.value-v.ensures c.channel.ensures
+
+pub address-returns : goal.address-returns
+address-returns t c =
+    then_one c.args.run.now c.args.who.now plain_place plain_address c.args.machine.now c.place-q.new.machine
+    c.place-q.new.machine c.place-q.result c.address_of.result
+    (place (setting_of c.args.run.now) (calls_of c.args.run.now c.args.fuel) (var_of c.args.x.now))
+    (address_of (setting_of c.args.run.now))
+    c.place-q.ensures c.address_of.ensures
+
+pub width-returns-in-Some : goal.width-returns-in-Some
+width-returns-in-Some t c =
+    let i : width_of c.args.e.now ≡ Some (expr_of c.in-Some.e) = search rules in
+    rw i (then_one c.args.run.now c.args.who.now same same c.args.machine.now c.ordinal_of-n.new.machine
+    c.ordinal_of-n.new.machine c.ordinal_of-n.result c.width_of.result
+    (ordinal_of (setting_of c.args.run.now) (calls_of c.args.run.now c.args.fuel) (expr_of c.in-Some.e))
+    (λ m. give (Some m))
+    c.ordinal_of-n.ensures c.width_of.ensures)
+
+pub one-returns : goal.one-returns
+one-returns t c =
+    let e = rw c.in-Some.is at c.in-Gives.ensures in
+    rw e (then_one c.args.run.now c.args.who.now (plain_deed (items_of c.act-deed.new.todo.items)) (left_if (items_of
+    c.act-deed.new.todo.items)) c.first_of.new.machine c.act-deed.new.machine c.act-deed.new.machine
+    c.act-deed.result c.left_after.result
+    (act (setting_of c.args.run.now) (calls_of c.args.run.now c.args.fuel) (item_of c.in-Some.item) (items_of
+    c.first_of.new.todo.items))
+    (left_after (setting_of c.args.run.now))
+    c.act-deed.ensures c.left_after.ensures)
+
+pub start_after-returns : goal.start_after-returns
+start_after-returns t c =
+    then_one c.args.run.now c.args.who.now same (plain_deed (items_of c.goes_on.new.todo.items)) c.args.machine.now
+    c.ordinal_of-n.new.machine c.goes_on.new.machine c.ordinal_of-n.result c.goes_on.result
+    (ordinal_of (setting_of c.args.run.now) (calls_of c.args.run.now c.args.fuel) (expr_of c.args.e.now))
+    (λ n. after (setting_of c.args.run.now) c.args.then n (items_of c.args.todo.now.items))
+    c.ordinal_of-n.ensures c.goes_on.ensures
+
+pub start_assign-returns : goal.start_assign-returns
+start_assign-returns t c =
+    rw c.in-Gives.ensures (then_one c.args.run.now c.args.who.now plain_value (plain_deed (items_of
+    c.assigned_to.new.todo.items)) c.address.new.machine c.value-v.new.machine c.assigned_to.new.machine
+    c.value-v.result c.assigned_to.result
+    (value (setting_of c.args.run.now) (calls_of c.args.run.now c.args.fuel) (expr_of c.args.e.now))
+    (λ v. assigned_to (plain_address c.in-Gives.value) v (items_of c.args.todo.now.items))
+    c.value-v.ensures c.assigned_to.ensures)
+
+pub start_call-returns : goal.start_call-returns
+start_call-returns t c =
+    let e = parted (given_by (setting_of c.args.run.now) (calls_of c.args.run.now c.args.fuel) (actuals_of
+    c.args.args.now)) (enter (setting_of c.args.run.now) c.args.f) (called (items_of c.args.todo.now.items))
+    (plain_who c.args.who.now) (plain_own c.args.machine.now.own) (store_of c.args.run.now c.args.machine.now.log) in
+    rw e (then_one c.args.run.now c.args.who.now block_in (plain_deed (items_of c.called.new.todo.items))
+    c.args.machine.now c.begun-block.new.machine c.begun-block.new.machine c.begun-block.result c.called.result
+    (bind (given_by (setting_of c.args.run.now) (calls_of c.args.run.now c.args.fuel) (actuals_of c.args.args.now))
+    (enter (setting_of c.args.run.now) c.args.f))
+    (called (items_of c.args.todo.now.items))
+    c.begun-block.ensures c.called.ensures)
+
+pub start_for-returns : goal.start_for-returns
+start_for-returns t c =
+    let f : SFits w64 c.in-Gives.value = search rules in
+    let z : to_z w64 (of_z w64 c.in-Gives.value) ≡ c.in-Gives.value = to_z-of_z w64 c.in-Gives.value f in
+    rw c.in-Gives.ensures (then_one c.args.run.now c.args.who.now same (plain_deed (items_of
+    c.ranged.new.todo.items)) c.ordinal_of.new.machine c.ordinal_of-high.new.machine c.ordinal_of-high.new.machine
+    c.ordinal_of-high.result c.ranged.result
+    (ordinal_of (setting_of c.args.run.now) (calls_of c.args.run.now c.args.fuel) (expr_of c.args.to.now))
+    (λ n. ranged c.args.variable c.in-Gives.value n c.args.down (stmt_of c.args.body.now) (items_of
+    c.args.todo.now.items))
+    c.ordinal_of-high.ensures (rw z at c.ranged.ensures))
+
 pub start_forall-returns : goal.start_forall-returns
 start_forall-returns t c =
     let f : SFits w64 c.in-Gives.value = search rules in
     let z : to_z w64 (of_z w64 c.in-Gives.value) ≡ c.in-Gives.value = to_z-of_z w64 c.in-Gives.value f in
-    let h : SFits w64 c.in-Gives-ordinal_of.value = search rules in
-    let y : to_z w64 (of_z w64 c.in-Gives-ordinal_of.value) ≡ c.in-Gives-ordinal_of.value =
-    to_z-of_z w64 c.in-Gives-ordinal_of.value h in
-    let e1 = c.in-Gives.ensures in
-    let e2 = c.in-Gives-ordinal_of.ensures in
-    rw (e1, e2) (rw (z, y) at c.forall.ensures)
+    rw c.in-Gives.ensures (then_one c.args.run.now c.args.who.now same (plain_deed (items_of c.args.todo.now.items))
+    c.ordinal_of.new.machine c.ordinal_of-high.new.machine c.ordinal_of-high.new.machine c.ordinal_of-high.result
+    c.forall.result
+    (ordinal_of (setting_of c.args.run.now) (calls_of c.args.run.now c.args.fuel) (expr_of c.args.to.now))
+    (λ n. forall (setting_of c.args.run.now) c.args.index c.in-Gives.value n (stmt_of c.args.body.now) (items_of
+    c.args.todo.now.items))
+    c.ordinal_of-high.ensures (rw z at c.forall.ensures))
+
+pub start_read-returns : goal.start_read-returns
+start_read-returns t c =
+    then_one c.args.run.now c.args.who.now plain_address (plain_deed (items_of c.read_value.new.todo.items))
+    c.args.machine.now c.address-at.new.machine c.read_value.new.machine c.address-at.result c.read_value.result
+    (address (setting_of c.args.run.now) (calls_of c.args.run.now c.args.fuel) (var_of c.args.x.now))
+    (λ a. read_value (setting_of c.args.run.now) a (items_of c.args.todo.now.items))
+    c.address-at.ensures c.read_value.ensures
+
+pub start_open-returns : goal.start_open-returns
+start_open-returns t c =
+    then_one c.args.run.now c.args.who.now plain_address (plain_deed (items_of c.opened.new.todo.items))
+    c.args.machine.now c.address-at.new.machine c.opened.new.machine c.address-at.result c.opened.result
+    (address (setting_of c.args.run.now) (calls_of c.args.run.now c.args.fuel) (var_of c.args.x.now))
+    (λ a. opened a (items_of c.args.todo.now.items))
+    c.address-at.ensures c.opened.ensures
 
 pub start_write-returns : goal.start_write-returns
 start_write-returns t c =
@@ -199,6 +388,109 @@ start_write-returns t c =
     search (rules, ast_e.the_lemmas) in
     let f : SFits w64 c.in-Gives.value = search rules in
     let z : to_z w64 (of_z w64 c.in-Gives.value) ≡ c.in-Gives.value = to_z-of_z w64 c.in-Gives.value f in
-    let e1 = rw i at c.in-Gives.ensures in
-    let e2 = c.in-Gives-width.ensures in
-    rw (i, e1, e2) (rw z at c.write_shown.ensures)
+    let e = rw i at c.in-Gives.ensures in
+    rw (i, e) (then_one c.args.run.now c.args.who.now same (plain_deed (items_of c.write_shown.new.todo.items))
+    c.ordinal_of.new.machine c.width-m.new.machine c.write_shown.new.machine c.width-m.result c.write_shown.result
+    (width (setting_of c.args.run.now) (calls_of c.args.run.now c.args.fuel) (width_of c.args.w.now))
+    (λ m. write_shown (setting_of c.args.run.now) (out-Expr c.args.e.now).kind c.in-Gives.value m (items_of
+    c.args.todo.now.items))
+    c.width-m.ensures (rw z at c.write_shown.ensures))
+
+pub start_text-returns : goal.start_text-returns
+start_text-returns t c =
+    then_one c.args.run.now c.args.who.now same (plain_deed (items_of c.write_wide.new.todo.items))
+    c.args.machine.now c.width-m.new.machine c.write_wide.new.machine c.width-m.result c.write_wide.result
+    (width (setting_of c.args.run.now) (calls_of c.args.run.now c.args.fuel) (width_of c.args.w.now))
+    (λ m. write_text (setting_of c.args.run.now) true c.args.t.now m (items_of c.args.todo.now.items))
+    c.width-m.ensures c.write_wide.ensures
+
+pub start_send-returns-in-Halts : goal.start_send-returns-in-Halts
+start_send-returns-in-Halts t c =
+    let i : expr_of c.args.e.now ≡ Typed (out-Expr c.args.e.now).kind (form_of (out-Expr c.args.e.now).form) =
+    search (rules, ast_e.the_lemmas) in
+    let e : start (setting_of c.args.run.now) (calls_of c.args.run.now c.args.fuel) (Send (expr_of c.args.c.now)
+    (expr_of c.args.e.now)) (items_of c.args.todo.now.items) (plain_who c.args.who.now)
+    (plain_own c.args.machine.now.own) (store_of c.args.run.now c.args.machine.now.log)
+    ≡ bind (bind (value (setting_of c.args.run.now) (calls_of c.args.run.now c.args.fuel) (expr_of c.args.c.now))
+    channel) (λ to. bind (value (setting_of c.args.run.now) (calls_of c.args.run.now c.args.fuel) (expr_of
+    c.args.e.now)) (sends to (out-Expr c.args.e.now).kind (items_of c.args.todo.now.items))) (plain_who
+    c.args.who.now)
+    (plain_own c.args.machine.now.own) (store_of c.args.run.now c.args.machine.now.log) = rw i (parted (value
+    (setting_of c.args.run.now) (calls_of c.args.run.now c.args.fuel) (expr_of c.args.c.now)) channel
+    (λ to. bind (value (setting_of c.args.run.now) (calls_of c.args.run.now c.args.fuel) (Typed (out-Expr
+    c.args.e.now).kind (form_of (out-Expr c.args.e.now).form))) (sends to (out-Expr c.args.e.now).kind (items_of
+    c.args.todo.now.items)))
+    (plain_who c.args.who.now) (plain_own c.args.machine.now.own) (store_of c.args.run.now c.args.machine.now.log)) in
+    rw e (rw c.in-Halts.ensures refl)
+
+pub start_send-returns : goal.start_send-returns
+start_send-returns t c =
+    let i : expr_of c.args.e.now ≡ Typed (out-Expr c.args.e.now).kind (form_of (out-Expr c.args.e.now).form) =
+    search (rules, ast_e.the_lemmas) in
+    let e : start (setting_of c.args.run.now) (calls_of c.args.run.now c.args.fuel) (Send (expr_of c.args.c.now)
+    (expr_of c.args.e.now)) (items_of c.args.todo.now.items) (plain_who c.args.who.now)
+    (plain_own c.args.machine.now.own) (store_of c.args.run.now c.args.machine.now.log)
+    ≡ bind (bind (value (setting_of c.args.run.now) (calls_of c.args.run.now c.args.fuel) (expr_of c.args.c.now))
+    channel) (λ to. bind (value (setting_of c.args.run.now) (calls_of c.args.run.now c.args.fuel) (expr_of
+    c.args.e.now)) (sends to (out-Expr c.args.e.now).kind (items_of c.args.todo.now.items))) (plain_who
+    c.args.who.now)
+    (plain_own c.args.machine.now.own) (store_of c.args.run.now c.args.machine.now.log) = rw i (parted (value
+    (setting_of c.args.run.now) (calls_of c.args.run.now c.args.fuel) (expr_of c.args.c.now)) channel
+    (λ to. bind (value (setting_of c.args.run.now) (calls_of c.args.run.now c.args.fuel) (Typed (out-Expr
+    c.args.e.now).kind (form_of (out-Expr c.args.e.now).form))) (sends to (out-Expr c.args.e.now).kind (items_of
+    c.args.todo.now.items)))
+    (plain_who c.args.who.now) (plain_own c.args.machine.now.own) (store_of c.args.run.now c.args.machine.now.log)) in
+    rw e (rw c.in-Gives.ensures (then_one c.args.run.now c.args.who.now plain_value (plain_deed (items_of
+    c.args.todo.now.items)) c.channel_of.new.machine c.value-v.new.machine c.value-v.new.machine c.value-v.result
+    c.sends.result
+    (value (setting_of c.args.run.now) (calls_of c.args.run.now c.args.fuel) (expr_of c.args.e.now))
+    (sends (plain_channel c.in-Gives.value) (out-Expr c.args.e.now).kind (items_of c.args.todo.now.items))
+    c.value-v.ensures c.sends.ensures))
+
+pub start_receive-returns-in-Halts : goal.start_receive-returns-in-Halts
+start_receive-returns-in-Halts t c =
+    let e = parted (value (setting_of c.args.run.now) (calls_of c.args.run.now c.args.fuel) (expr_of c.args.c.now))
+    channel (λ from. bind (address (setting_of c.args.run.now) (calls_of c.args.run.now c.args.fuel) (var_of
+    c.args.x.now)) (receives from (items_of c.args.todo.now.items))) (plain_who c.args.who.now)
+    (plain_own c.args.machine.now.own) (store_of c.args.run.now c.args.machine.now.log) in
+    rw e (rw c.in-Halts.ensures refl)
+
+pub start_receive-returns : goal.start_receive-returns
+start_receive-returns t c =
+    let e = parted (value (setting_of c.args.run.now) (calls_of c.args.run.now c.args.fuel) (expr_of c.args.c.now))
+    channel (λ from. bind (address (setting_of c.args.run.now) (calls_of c.args.run.now c.args.fuel) (var_of
+    c.args.x.now)) (receives from (items_of c.args.todo.now.items))) (plain_who c.args.who.now)
+    (plain_own c.args.machine.now.own) (store_of c.args.run.now c.args.machine.now.log) in
+    rw e (rw c.in-Gives.ensures (then_one c.args.run.now c.args.who.now plain_address (plain_deed (items_of
+    c.args.todo.now.items)) c.channel_of.new.machine c.address-at.new.machine c.address-at.new.machine
+    c.address-at.result c.receives.result
+    (address (setting_of c.args.run.now) (calls_of c.args.run.now c.args.fuel) (var_of c.args.x.now))
+    (receives (plain_channel c.in-Gives.value) (items_of c.args.todo.now.items))
+    c.address-at.ensures c.receives.ensures))
+
+pub start-returns-in-Sequence : goal.start-returns-in-Sequence
+start-returns-in-Sequence t c =
+    let i : stmt_of c.args.s.now ≡ Sequence (stmts_of c.in-Sequence.ss) = search (rules, folds.the_lemmas) in
+    rw i (rw c.items-in-Sequence.ensures at c.sequence.ensures)
+
+pub form_value-returns-in-Binary : goal.form_value-returns-in-Binary
+form_value-returns-in-Binary t c =
+    let i : form_of c.args.form.now ≡ Binary c.in-Binary.op (expr_of c.in-Binary.a) (expr_of c.in-Binary.b) =
+    search (rules, ast_f.the_lemmas) in
+    rw i (rw (c.get-left.ensures, c.get-right.ensures) at c.on_two.ensures)
+
+pub form_value-returns-in-Call : goal.form_value-returns-in-Call
+form_value-returns-in-Call t c =
+    let i : form_of c.args.form.now ≡ Apply c.in-Call.f (actuals_of c.in-Call.args) =
+    search (rules, ast_f.the_lemmas) in
+    rw i (rw c.items-args.ensures at c.call.ensures)
+
+pub start-returns-in-If-default-default-None : goal.start-returns-in-If-default-default-None
+start-returns-in-If-default-default-None t c =
+    let i : stmt_of c.args.s.now
+    ≡ If (expr_of c.in-If-default-default-None.e) (stmt_of c.in-If-default-default-None.a) =
+    search (rules, folds.the_lemmas) in
+    rw i (rw c.get-body.ensures at c.start_after.ensures)
+
+pub start_either-returns : goal.start_either-returns
+start_either-returns t c = c.start_after.ensures

@@ -18,7 +18,7 @@ abbrev pub decreases-value : goal.decreases-value
 decreases-value l = 16 * l.levels
 
 abbrev pub decreases-form_value : goal.decreases-form_value
-decreases-form_value l = 16 * l.levels + 7
+decreases-form_value l = 16 * l.levels + 8
 
 abbrev pub decreases-place : goal.decreases-place
 decreases-place l = 16 * l.levels + 3
@@ -30,7 +30,7 @@ abbrev pub decreases-actuals : goal.decreases-actuals
 decreases-actuals l = 16 * l.levels + 5
 
 abbrev pub decreases-call : goal.decreases-call
-decreases-call l = 16 * l.levels + 6
+decreases-call l = 16 * l.levels + 7
 
 abbrev pub decreases-all : goal.decreases-all
 decreases-all l = 16 * l.levels + 12
@@ -56,26 +56,11 @@ decreases-start_assign l = 16 * l.levels + 8
 abbrev pub decreases-start_call : goal.decreases-start_call
 decreases-start_call l = 16 * l.levels + 8
 
-abbrev pub decreases-start_if : goal.decreases-start_if
-decreases-start_if l = 16 * l.levels + 8
-
-abbrev pub decreases-start_either : goal.decreases-start_either
-decreases-start_either l = 16 * l.levels + 8
-
-abbrev pub decreases-start_while : goal.decreases-start_while
-decreases-start_while l = 16 * l.levels + 8
-
 abbrev pub decreases-start_for : goal.decreases-start_for
 decreases-start_for l = 16 * l.levels + 8
 
-abbrev pub decreases-start_case : goal.decreases-start_case
-decreases-start_case l = 16 * l.levels + 8
-
 abbrev pub decreases-start_forall : goal.decreases-start_forall
 decreases-start_forall l = 16 * l.levels + 8
-
-abbrev pub decreases-start_assume : goal.decreases-start_assume
-decreases-start_assume l = 16 * l.levels + 8
 
 abbrev pub decreases-start_read : goal.decreases-start_read
 decreases-start_read l = 16 * l.levels + 8
@@ -97,3 +82,27 @@ decreases-start_receive l = 16 * l.levels + 8
 
 abbrev pub decreases-start : goal.decreases-start
 decreases-start l = 16 * l.levels + 9
+
+abbrev pub decreases-read : goal.decreases-read
+decreases-read l = 16 * l.levels + 4
+
+abbrev pub decreases-on_one : goal.decreases-on_one
+decreases-on_one l = 16 * l.levels + 5
+
+abbrev pub decreases-on_two : goal.decreases-on_two
+decreases-on_two l = 16 * l.levels + 5
+
+abbrev pub decreases-of_one : goal.decreases-of_one
+decreases-of_one l = 16 * l.levels + 5
+
+abbrev pub decreases-begun : goal.decreases-begun
+decreases-begun l = 16 * l.levels + 6
+
+abbrev pub decreases-channel_of : goal.decreases-channel_of
+decreases-channel_of l = 16 * l.levels + 1
+
+abbrev pub decreases-start_after : goal.decreases-start_after
+decreases-start_after l = 16 * l.levels + 7
+
+abbrev pub decreases-start_either : goal.decreases-start_either
+decreases-start_either l = 16 * l.levels + 8

@@ -8,6 +8,8 @@ use Rattle.sp_run.proofs.steps.waits.Goals as goal
 pub returns : goal.returns
 returns c = ok_then c.adds.result c.adds.ensures
     (λ h. two_more c.args.run.now c.args.s.now c.becomes.new.s c.set_pending.new.s c.adds.new.s
-    (Becomes c.args.p.now (Waits (plain_offer c.args.o))) (Pends (plain_channel c.args.o.channel) (Some c.args.p.now))
+    (Becomes c.args.p.now (Waits (plain_offer c.args.o.now))) (Pends (plain_channel c.args.o.now.channel) (Some
+    c.args.p.now))
     (Adds (record { processes = 0; channels = 0; entries = 1 }))
-    c.in_ok-becomes.ensures (rw c.in-Ok.ensures at c.in_ok-set_pending.ensures) h)
+    (rw c.in_ok-offer.ensures at c.in_ok-becomes.ensures)
+    (rw c.in_ok-name.ensures at c.in_ok-set_pending.ensures) h)

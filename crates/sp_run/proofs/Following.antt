@@ -1,0 +1,48 @@
+-- Calls one after another, each handing on what it gave.
+use Rattle.std.proofs.Common.{◌≡◌, refl, subst}
+use Rattle.sp_run.specs.declared.stop.Done.{Done}
+use Rattle.sp_run.specs.declared.stop.Done.TheVariants as done
+use Rattle.sp_run.specs.declared.stop.Halted.{Halted}
+use Rattle.sp_run.specs.declared.machine.Machine.{Machine}
+use Rattle.sp_run.specs.declared.machine.Setting.{Setting}
+use Rattle.sp_run.specs.declared.machine.Who.{Who}
+use Rattle.sp_meaning.specs.Own as m
+use Rattle.sp_run.specs.Machines.{plain_own, plain_who, store_of}
+use Rattle.sp_run.specs.Comings.{Comes, Implements}
+use Rattle.sp_run.specs.Following.{Follows}
+use Rattle.sp_run.specs.Direct.{Store, Came, Got, Not, Work, bind, go_on}
+
+-- two calls compute what they compute one after the other
+pub then_one : {R S A B : Type 0} (g : Setting) (w : Who) (from : R → A) (view : S → B) (before mid after : Machine)
+    (x : Done R) (y : Done S) (h : Work A) (k : A → Work B)
+    → Implements g w from before x mid h → Follows g w from view mid x y after k
+    → Implements g w view before y after (bind h k)
+then_one g w from view before mid after (done.Gives a) y h k e f = rw e f
+then_one g w from view before mid after (done.Halts a) y h k e f = rw e f
+then_one g w from view before mid after done.NoMemory y h k e f = rw f tt
+
+-- and so do three
+pub then_two : {Q R S A B C : Type 0} (g : Setting) (w : Who) (from : Q → A) (by : R → B) (view : S → C)
+    (before mid late after : Machine) (x : Done Q) (y : Done R) (z : Done S) (h : Work A) (k : A → Work B)
+    (l : B → Work C)
+    → Implements g w from before x mid h → Follows g w from by mid x y late k → Follows g w by view late y z after l
+    → Implements g w view before z after (bind h (λ a. bind (k a) l))
+then_two g w from by view before mid late after (done.Gives a) y z h k l e f d =
+    rw e (then_one g w by view mid late after y z (k (from a)) l f d)
+then_two g w from by view before mid late after (done.Halts a) (done.Gives b) z h k l e f d = absurd (cc f)
+then_two g w from by view before mid late after (done.Halts a) (done.Halts b) z h k l e f d =
+    let p : b ≡ a = cc f in
+    rw e (subst (λ (x : Halted). Comes g view z after (Not x)) p d)
+then_two g w from by view before mid late after (done.Halts a) done.NoMemory z h k l e f d = rw d tt
+then_two g w from by view before mid late after done.NoMemory (done.Gives b) z h k l e f d = absurd (cc f)
+then_two g w from by view before mid late after done.NoMemory (done.Halts b) z h k l e f d = absurd (cc f)
+then_two g w from by view before mid late after done.NoMemory done.NoMemory z h k l e f d = rw d tt
+
+-- one part of some work after another
+pub parted : {A B C : Type 0} (h : Work A) (k : A → Work B) (l : B → Work C) (w : m.Who) (o : m.Own) (s : Store)
+    → bind h (λ a. bind (k a) l) w o s ≡ bind (bind h k) l w o s
+parted {A = A} h k l w o s = go (h w o s)
+  where
+    go : (c : Came A) → go_on (λ a. bind (k a) l) w c ≡ go_on l w (go_on k w c)
+    go (Got a o1 s1) = refl
+    go (Not x) = refl
