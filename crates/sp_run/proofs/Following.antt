@@ -7,7 +7,6 @@ use Rattle.sp_run.specs.declared.machine.Machine.{Machine}
 use Rattle.sp_run.specs.declared.machine.Setting.{Setting}
 use Rattle.sp_run.specs.declared.machine.Who.{Who}
 use Rattle.sp_meaning.specs.Own as m
-use Rattle.sp_run.specs.Machines.{plain_own, plain_who, store_of}
 use Rattle.sp_run.specs.Comings.{Comes, Implements}
 use Rattle.sp_run.specs.Following.{Follows}
 use Rattle.sp_run.specs.Direct.{Store, Came, Got, Not, Work, bind, go_on}

@@ -5,7 +5,6 @@ mod Blocks
 mod Chains
 mod Changing
 mod Collecting
-mod Deeding
 mod Ending
 mod Following
 mod Goings

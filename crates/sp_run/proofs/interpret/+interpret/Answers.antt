@@ -1,5 +1,5 @@
 use Rattle.std.proofs.Common.{rules, ◌≡◌, ◌-◌, ◌∷◌, [], Some, true, refl, length, sym, ap, ◌∙◌}
-use Rattle.std.proofs.Common.{arith, map, subst}
+use Rattle.std.proofs.Common.{arith, map}
 use Rattle.std.proofs.lemmas.Int.{to_z-of_z}
 use Rattle.std.proofs.lemmas.List.{nil_from_length}
 use mir.Val.{to_z, of_z, SFits}
@@ -8,9 +8,9 @@ use Rattle.sp_tree.specs.declared.checked.Expr.{out-Expr}
 use Rattle.sp_tree.specs.declared.checked.Expr as ast_e
 use Rattle.sp_tree.specs.declared.checked.ExprForm as ast_f
 use Rattle.sp_tree.specs.declared.checked.Form.TheFolds as folds
-use Rattle.sp_tree.specs.Plain.{Typed, Unary, Standard, AtInput, Assign, Sequence, For, Case, Parallel, Forall}
+use Rattle.sp_tree.specs.Plain.{Typed, Standard, AtInput, Assign, Sequence, For, Parallel, Forall}
 use Rattle.sp_tree.specs.Plain.{ReadLine, WriteValue}
-use Rattle.sp_tree.specs.PlainOf.{expr_of, form_of, var_of, stmt_of, arms_of, standard_of, stmts_of, width_of}
+use Rattle.sp_tree.specs.PlainOf.{expr_of, form_of, var_of, stmt_of, standard_of, stmts_of, width_of}
 use Rattle.sp_tree.specs.PlainOf.{selectors_of, actuals_of}
 use Rattle.sp_tree.specs.CheckedOf as placed
 use Rattle.sp_tree.specs.Bare.{bare_statements}
@@ -235,8 +235,8 @@ actuals-returns-in-Gives-address t c =
     (λ gs. give (PlaceOf a ∷ gs))) (plain_who c.args.who.now) (plain_own c.args.machine.now.own)
     (store_of c.args.run.now c.args.machine.now.log) in
     rw i (rw e (rw c.in-Gives-address.ensures (then_one c.args.run.now c.args.who.now given_of given_of
-    c.address.new.machine c.actuals-given-in-Reference.new.machine c.actuals-given-in-Reference.new.machine c.actuals-given-in-Reference.result
-    c.first_given-in-Reference.result
+    c.address.new.machine c.actuals-given-in-Reference.new.machine c.actuals-given-in-Reference.new.machine
+    c.actuals-given-in-Reference.result c.first_given-in-Reference.result
     (given_by (setting_of c.args.run.now) (calls_of c.args.run.now c.args.fuel) (actuals_of c.in-Some.rest.now))
     (λ gs. give (PlaceOf (plain_address c.in-Gives-address.value) ∷ gs))
     c.actuals-given-in-Reference.ensures c.first_given-in-Reference.ensures)))
