@@ -63,8 +63,8 @@ without_members q r (x ∷ xs) m = go (q == x) m (without_members q r xs)
 module _ (g : Setting) {Area : Type 0} (H : Area → List Home) (E : Area → ℕ → Type 0) (T : List Area
     → Config (Memory Plain) → Type 0) (Room Cells : ℕ → ℕ → Type 0)
     (rooms : (k n m : ℕ) → Room k n → Cells k m
-    → m ≤ n) (t_store : (us : List Area) (c : Config (Memory Plain)) (f : Plain → Plain) → T us c
-    → T us (on_store f c)) where
+    → m ≤ n) (t_store : (us : List Area) (c : Config (Memory Plain)) (f : Plain → Plain)
+    → ((p : Plain) → (f p).moved ≡ p.moved) → T us c → T us (on_store f c)) where
   abbrev pub Ok : (ℕ → Condition Plain) → Births → Type 0
   Ok f b = Inv g H E T Room Cells f b
 
@@ -127,7 +127,7 @@ module _ (g : Setting) {Area : Type 0} (H : Area → List Home) (E : Area → �
         a ∷ us,
         lives_received g H E T b a us pc st n p w.0.0 l w.0.2 cs
             (r d k p (At pc st n) refl w.0.0 w.0.1),
-        t_store (a ∷ us) (At pc st n) (put_cells plain p cs) t,
+        t_store (a ∷ us) (At pc st n) (put_cells plain p cs) (λ m. refl) t,
       )
   received_fine base b rs cs (Waits (Sends d k bs) c) f r = (f.0, f.1, f.2)
   received_fine base b rs cs (Waits (Forks t v n) c) f r = (f.0, f.1, f.2)
@@ -258,7 +258,8 @@ module _ (g : Setting) {Area : Type 0} (H : Area → List Home) (E : Area → �
           callers = j.callers;
           whole = Rattle.sp_cell.specs.Fork.taken c.store.map c.store.moved j.whole;
           lives = lives_whole g H E T Room Cells base b rs r mine pc qc st qt n c j a l;
-          stands = t_store (j.area ∷ j.callers) (At pc st n) (λ m. plain.joined m c.store) j.stands;
+          stands = t_store (j.area ∷ j.callers) (At pc st n) (λ m. plain.joined m c.store)
+              (λ m. refl) j.stands;
           lent = lent_rest g H E T Room Cells base b rs r mine pc qc st qt n c j a l;
         }
 

@@ -43,14 +43,14 @@ module _ (c : Parts) (small : KeepsSizes c) (v : IsVerified c) where
   types : FitsTypes c
   types = fits_types c small
 
-  k : Keeps c
+  pub k : Keeps c
   k = keeps c children types (v V1) (v V2) (v V3) (v V4) (v V5)
 
-  e : KeepsEffects c (Does c)
+  pub e : KeepsEffects c (Does c)
   e = keeps_effects c (Does c) (HasStop c) (λ a p j t i f br. v V6 t.entry (a, p, j, t, i, f, refl, br))
       (λ a p b up ss l i call br. v V7 p (inl (a, b, up, ss, l, i, call, br)))
 
-  known : (p : ℕ) → Unknown c p → ⊥
+  pub known : (p : ℕ) → Unknown c p → ⊥
   known p u = v V1 p (TableUnknown u)
 
   -- verified code is sound

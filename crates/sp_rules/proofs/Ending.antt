@@ -26,6 +26,7 @@ use Rattle.sp_rules.specs.Effects.{IsActual, Does}
 use Rattle.sp_rules.specs.Forks as fork
 use Rattle.sp_rules.specs.Verdict.{is_stop, HasStop}
 use Rattle.sp_rules.specs.Running.{Base, Lives, Aims, ForksWell, StopsWell}
+use Rattle.sp_rules.specs.Writable.{AllWriteWell, MayWrite}
 use Rattle.sp_rules.proofs.Answering.{Linked, IsAmong, linked_kept, answers_quietly}
 use Rattle.sp_rules.proofs.Holds.{kept, elsewhere}
 use Rattle.sp_rules.proofs.Pushes.{KeepsCalls}
@@ -36,11 +37,11 @@ use Rattle.sp_code.specs.Ranks.{IsRankedAlong}
 use Rattle.sp_rules.proofs.Walking.{passes}
 
 module _ (g : Setting) where
-  -- how a process stands whose activations are of these areas; it is no deeper than the limit, and each activation is
-  -- of a block that the one below it calls
+  -- how a process stands whose activations are of these areas; it is no deeper than the limit, each activation is of a
+  -- block that the one below it calls, and what it may store stands where the process may write
   abbrev pub T : List Area → Config (Memory Plain) → Type 0
   T us (At p st n) = (s : StandsAt g.code p st n.frames) × (us ≡ areas s) × (n.depth ≤ g.limits.depth)
-      × Linked g.code us
+      × Linked g.code us × MayWrite g.code us n
 
   -- where a message of a type is received, so many cells are left; and it has so many
   abbrev pub Room : ℕ → ℕ → Type 0
@@ -49,8 +50,15 @@ module _ (g : Setting) where
   abbrev pub Sent : ℕ → ℕ → Type 0
   Sent k n = IsSent g.code k n
 
-  pub t_store : (us : List Area) (c : Config (Memory Plain)) (f : Plain → Plain) → T us c → T us (on_store f c)
-  t_store us (At p st n) f t = t
+  pub t_store : (us : List Area) (c : Config (Memory Plain)) (f : Plain → Plain)
+      → ((p : Plain) → (f p).moved ≡ p.moved) → T us c → T us (on_store f c)
+  t_store us (At p st n) f same t = (
+    t.0,
+    t.1,
+    t.2,
+    t.3,
+    subst (λ ss. AllWriteWell g.code n.process ss us n.frames) (sym (same n.store)) t.4,
+  )
 
   pub t_entered : (us : List Area) (c : Config (Memory Plain)) → T us c → T us (entered_now c)
   t_entered us (At p st n) t = t
@@ -71,15 +79,20 @@ module _ (g : Setting) where
       (forks : (a : Area) (p t n : ℕ) (v : ℤ) (d : Config (Memory Plain)) (us : List Area) → IsArea g.code a
       → Passes g.code a p → ForksAt g.code p t n → T (a ∷ us) d → depth_of d + 1 ≤ g.limits.depth
       → ForksWell g (homes g.code) E T a t v n d)
+      (writes : (b : Base g (homes g.code) E T) (p q : ℕ) (st s1 : List Entry) (n m : Memory Plain)
+      (s : StandsAt g.code p st n.frames) (t : StandsAt g.code q s1 m.frames)
+      → Lives g (homes g.code) E T b (areas s) (At p st n) → MayWrite g.code (areas s) n
+      → safe.ChangesAt plain g k p st n s (areas t) m → MayWrite g.code (areas t) m)
       (b : Base g (homes g.code) E T) where
     abbrev Lv : List Area → Config (Memory Plain) → Type 0
     Lv us c = Lives g (homes g.code) E T b us c
 
     -- what is known beside how it stands
-    abbrev Holds : (p : ℕ) (st : List Entry) (n : Memory Plain) → StandsAt g.code p st n.frames → Type 0
+    abbrev pub Holds : (p : ℕ) (st : List Entry) (n : Memory Plain) → StandsAt g.code p st n.frames → Type 0
     Holds p st n s = Lv (areas s) (At p st n) × (n.depth ≤ g.limits.depth) × Linked g.code (areas s)
+        × MayWrite g.code (areas s) n
 
-    holds_ready : (p : ℕ) (st : List Entry) (n : Memory Plain) (s : StandsAt g.code p st n.frames) → Holds p st n s
+    pub holds_ready : (p : ℕ) (st : List Entry) (n : Memory Plain) (s : StandsAt g.code p st n.frames) → Holds p st n s
         → safe.ReadyAt plain g k p st n s
     holds_ready p st n s h = ready b p st n s h.0 h.1
 
@@ -105,20 +118,29 @@ module _ (g : Setting) where
     deep p st n m s vs (Returns e is d) h = subst (λ (z : Memory Plain). z.depth ≤ g.limits.depth) (sym d)
         (let x = closed_depth n in omega (arith, x, h))
 
-    holds_kept : (p q : ℕ) (st s1 : List Entry) (n m : Memory Plain) (s : StandsAt g.code p st n.frames)
+    pub holds_kept : (p q : ℕ) (st s1 : List Entry) (n m : Memory Plain) (s : StandsAt g.code p st n.frames)
         (t : StandsAt g.code q s1 m.frames) → Holds p st n s → safe.ChangesAt plain g k p st n s (areas t) m
         → Holds q s1 m t
     holds_kept p q st s1 n m s t h ch = (
       kept g k E T mays calls b p q st s1 n s h.0 m t ch,
       deep p st n m s (areas t) ch h.1,
       linked_kept g k p q st s1 n m s t h.2 ch,
+      writes b p q st s1 n m s t h.0 h.3 ch,
     )
 
     abbrev Known : Config (Memory Plain) → Type 0
     Known c = safe.Known plain g k Holds holds_ready holds_kept c
 
-    known : (us : List Area) (c : Config (Memory Plain)) → Lv us c → T us c → Known c
-    known us (At p st n) l t = (t.0, (subst (λ z. Lv z (At p st n)) t.1 l, t.2, subst (Linked g.code) t.1 t.3))
+    pub known : (us : List Area) (c : Config (Memory Plain)) → Lv us c → T us c → Known c
+    known us (At p st n) l t = (
+      t.0,
+      (
+        subst (λ z. Lv z (At p st n)) t.1 l,
+        t.2,
+        subst (Linked g.code) t.1 t.3,
+        subst (λ z. MayWrite g.code z n) t.1 t.4,
+      ),
+    )
 
     -- no instruction of its turn lacks anything
     pub turn_safe : (us : List Area) (c : Config (Memory Plain)) → Lv us c → T us c → IsSafe (memory plain g) g.code c
@@ -191,8 +213,9 @@ module _ (g : Setting) where
             h.1,
             subst (λ z. Linked g.code (z ∷ areas_of s.callers))
                 (sym e) h.2,
+            subst (λ z. MayWrite g.code (z ∷ areas_of s.callers) m) (sym e) h.3,
           ) ne);
-      stands = λ w. (s, refl, h.1, h.2);
+      stands = λ w. (s, refl, h.1, h.2, h.3);
     }
 
     at_stop : (x : Stop) (d : Config (Memory Plain)) → safe.AtStop plain g k Holds holds_ready holds_kept x d → Out x d
@@ -212,7 +235,7 @@ module _ (g : Setting) where
       lives = w.1.0;
       well = tt;
       stands = λ z.
-          (w.0, refl, w.1.1, w.1.2);
+          (w.0, refl, w.1.1, w.1.2, w.1.3);
     }
 
     -- and it stops as it should

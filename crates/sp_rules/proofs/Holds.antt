@@ -247,6 +247,23 @@ passed_at ls fs (f ∷ ms) (b ∷ bs) (e1 ∷ es) j pr r t (suc k) m e s =
     (passed_at ls fs ms bs es (suc j) pr.1 (and_parts (rule.fits_formal f b) (rule.fit_formals ms bs) r).1 t k m
     (omega (arith, e)) s)
 
+-- what stands for a reference formal of a called block: the variable of an operand
+pub call_given : (ls : List Layout) (fs : List Frame) (lay : Layout) (ss : List Shape) (es : List Entry)
+    → Pairs ls fs (rule.lowest_first (length lay.formals) ss []) es
+    → rule.fit_formals lay.formals (rule.lowest_first (length lay.formals) ss []) ≡ true
+    → (j m : ℕ) → slice_get lay.formals j ≡ Some (formal.Reference m) → (x : ℕ) × IsActual lay ss j x
+    × ((to : Address) × (referred j (references 0 es) ≡ Some to) × (spot_of ls fs x ≡ Some to.spot))
+call_given ls fs lay ss es pr ft j m e =
+    let bs = rule.lowest_first (length lay.formals) ss [] in
+    let w = passed_at ls fs lay.formals bs es 0 pr ft j j m (omega arith) e in
+    let len : length lay.formals ≤ length ss =
+    (let a = lowest_length (length lay.formals) ss [] in let c = fit_length lay.formals bs ft in omega (arith, a, c)) in
+    let lt = slice_get_within lay.formals j (formal.Reference m) e in (
+      w.variable,
+      (m, w.left, e, sym (in_order (length lay.formals) j ss [] lt len) ∙ w.shape),
+      (w.address, w.is, w.points.stands),
+    )
+
 -- ---- all ways
 
 module _ (g : Setting) (kp : Keeps g.code) (E : Area → ℕ → Type 0) (T : List Area → Config (Memory Plain) → Type 0)
@@ -309,23 +326,7 @@ module _ (g : Setting) (kp : Keeps g.code) (E : Area → ℕ → Type 0) (T : Li
         given : (j m : ℕ) → slice_get lay.formals j ≡ Some (formal.Reference m) → (x : ℕ) × IsActual lay s.shapes j x
             × ((to : Address) × (referred j (references 0 es) ≡ Some to)
             × (spot_of g.code.layouts n.frames x ≡ Some to.spot))
-        given j m e =
-            let bs = rule.lowest_first (length lay.formals) s.shapes [] in
-            let w = passed_at g.code.layouts n.frames lay.formals bs es 0 pr ft j j m (omega arith) e in
-            let len : length lay.formals ≤ length s.shapes =
-            (let a = lowest_length (length lay.formals) s.shapes [] in let c = fit_length lay.formals bs ft in omega
-            (arith, a, c)) in
-            let lt = slice_get_within lay.formals j (formal.Reference m) e in (
-              w.variable,
-              (
-                m,
-                w.left,
-                e,
-                sym (in_order (length lay.formals) j s.shapes [] lt len)
-                    ∙ w.shape,
-              ),
-              (w.address, w.is, w.points.stands),
-            )
+        given = call_given g.code.layouts n.frames lay s.shapes es pr ft
 
         same_moved : (sizes : List ℕ) → (opened plain g lay up es n).store.moved ≡ b.moved
         same_moved sizes = filled_keeps (next_frame n.store) (λ z. z.moved ≡ b.moved) (λ z j cs h. h) 0 es

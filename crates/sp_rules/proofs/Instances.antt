@@ -99,8 +99,8 @@ module _ (c : Parts) (k : Keeps c) (e : KeepsEffects c (Does c)) (known : (p : �
     own : (y : ℕ) → IsMember y (variables_of (layout_of c.layouts b)) → IsMember y l.variables
     own y m = subst (λ o. IsMember y (variables_of o)) call.layout m
 
-    actual_effect : (j x : ℕ) → IsActual l ss j x → HasEffect c (Does c) a x
-    actual_effect j x w = inl (record { areas = []; by = inl (p, ss, call.reached, stored) })
+    pub actual_stored : (j x : ℕ) → IsActual l ss j x → IsEffect c (Does c) Stored a x
+    actual_stored j x w = record { areas = []; by = inl (p, ss, call.reached, stored) }
       where
         there : IsIn x (addresses (length l.formals) ss)
         there = let b = slice_get_within l.formals j (formal.Reference w.0) w.2 in in_addresses (length l.formals)
@@ -111,7 +111,7 @@ module _ (c : Parts) (k : Keeps c) (e : KeepsEffects c (Does c)) (known : (p : �
             (subst (λ o. IsIn x (Rattle.sp_rules.specs.Areas.given [] o
             (λ (m : Layout). addresses (length m.formals) ss))) (sym call.layout) there)
 
-    outer_effect : (u : Kind) (y : ℕ) → IsEffect c (Does c) u (Body b) y → (IsMember y l.variables → ⊥)
+    pub outer_effect : (u : Kind) (y : ℕ) → IsEffect c (Does c) u (Body b) y → (IsMember y l.variables → ⊥)
         → IsEffect c (Does c) u a y
     outer_effect u y f n = record {
       areas = Body b ∷ f.areas;
@@ -144,7 +144,7 @@ module _ (c : Parts) (k : Keeps c) (e : KeepsEffects c (Does c)) (known : (p : �
           (⊎_elim (λ g. inl (outer_effect Stored y g n)) (λ g. inr (outer_effect Loaded y g n)) f))
           (λ m. absurd (n (own y m))) d;
       passed = λ j x w. (
-        may_effect c k e known a x area (actual_effect j x w),
+        may_effect c k e known a x area (inl (actual_stored j x w)),
         around_real c k a x area
             (at_p (λ z. IsMember z (all_variables c.layouts (homes c a))) ss (length l.formals - 1 - j) x w.1
             (addresses_around c k a area p ss call.reached) w.3),

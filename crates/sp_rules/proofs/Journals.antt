@@ -51,8 +51,8 @@ numbers_low a (suc n) q (inr m) = let w = numbers_low (suc a) n q m in (omega (a
 module _ (g : Setting) {Area : Type 0} (H : Area → List Home) (E : Area → ℕ → Type 0) (T : List Area
     → Config (Memory Plain) → Type 0) (Room Cells : ℕ → ℕ → Type 0)
     (rooms : (k n m : ℕ) → Room k n → Cells k m
-    → m ≤ n) (t_store : (us : List Area) (c : Config (Memory Plain)) (f : Plain → Plain) → T us c
-    → T us (on_store f c)) where
+    → m ≤ n) (t_store : (us : List Area) (c : Config (Memory Plain)) (f : Plain → Plain)
+    → ((p : Plain) → (f p).moved ≡ p.moved) → T us c → T us (on_store f c)) where
   abbrev Good : (ℕ → Condition Plain) → Births → Type 0
   Good f b = Inv g H E T Room Cells f b
 
@@ -138,7 +138,7 @@ module _ (g : Setting) {Area : Type 0} (H : Area → List Home) (E : Area → �
         (subst (λ (x : Base g H E T). JoinsWell g H E T Room Cells base x (numbers P count) joining)
         (sym (old_base q there))
         (joins_well g H E T Room Cells (i.base q) a us pc st n l t value count fw room P base child_is
-        (t_store (a ∷ us) c (λ m. plain.handed m (plan_of plain g c t value count)) s)))
+        (t_store (a ∷ us) c (λ m. plain.handed m (plan_of plain g c t value count)) (λ m. refl) s)))
 
     old_fine : (r : ℕ) → is_next b count r ≡ false → q ≢ r → Fine g H E T Room Cells base (base r) (children r) (f r)
     old_fine r e d =

@@ -26,6 +26,7 @@ pub mod Instances
 pub mod Readiness
 pub mod Safe
 pub mod Holds
+pub mod Writing
 pub mod Ending
 pub mod Ranked
 pub mod Kept

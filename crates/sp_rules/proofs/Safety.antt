@@ -60,8 +60,8 @@ module _ (g : Setting) {Area : Type 0} (H : Area → List Home) (E : Area → �
     pub stands : (stop ≡ Ends → ⊥) → T areas d
 
   module _ (rooms : (k n m : ℕ) → Room k n → Cells k m
-      → m ≤ n) (t_store : (us : List Area) (c : Config (Memory Plain)) (f : Plain → Plain) → T us c
-      → T us (on_store f c))
+      → m ≤ n) (t_store : (us : List Area) (c : Config (Memory Plain)) (f : Plain → Plain)
+      → ((p : Plain) → (f p).moved ≡ p.moved) → T us c → T us (on_store f c))
       (t_entered : (us : List Area) (c : Config (Memory Plain)) → T us c
       → T us (entered_now c)) (t_deep : (us : List Area) (c : Config (Memory Plain)) → T us c
       → depth_of c ≤ 4294967295)
@@ -207,7 +207,7 @@ module _ (g : Setting) {Area : Type 0} (H : Area → List Home) (E : Area → �
                 a ∷ us,
                 lives_opened g H E T (i.base q) a us pc st m p 1 l w (cell.Channel s.births.channels),
                 t_store
-                    (a ∷ us) (At pc st m) (put_cell plain p (cell.Channel s.births.channels)) k,
+                    (a ∷ us) (At pc st m) (put_cell plain p (cell.Channel s.births.channels)) (λ m. refl) k,
               ) refl
       happens_ok (Sends ch k cs) c w e = go (s.pending ch) refl
         where
@@ -235,7 +235,7 @@ module _ (g : Setting) {Area : Type 0} (H : Area → List Home) (E : Area → �
                 lives_received g H E T (i.base q) a us pc st m p w.0.0 l w.0.2 cs
                     (received_room k z w.0.0 w.0.1 (s.condition z) (i.each z) e),
                 t_store (a ∷ us) (At pc st m)
-                    (put_cells plain p cs) t,
+                    (put_cells plain p cs) (λ m. refl) t,
               )
 
           go : (o : Option ℕ) → s.pending ch ≡ o

@@ -1,17 +1,19 @@
 -- Code that keeps the rules runs safely: along every journal no turn lacks anything, each fork, join and message can be
 -- carried out.
 use Rattle.std.proofs.Common.{◌≡◌, ℕ, ◌+◌, ◌≤◌, ◌==◌, ℤ, List, [], ◌∷◌, length, Some, true, false, refl, sym, ap, ◌∙◌}
-use Rattle.std.proofs.Common.{subst, arith}
+use Rattle.std.proofs.Common.{subst, arith, inl, Bool, if◌then◌else◌}
+use Rattle.std.proofs.lemmas.Bool.{eqb-true}
 use Rattle.std.specs.Prelude.{not}
 use Rattle.sp_cell.specs.Map.{Plain}
 use Rattle.sp_journal.specs.declared.entry.Entry.{Entry as Entered}
+use Rattle.sp_journal.specs.declared.entry.Event.{Event}
 use Rattle.sp_code.specs.declared.code.Layout.{Layout}
 use Rattle.sp_code.specs.declared.instr.Instr.TheVariants as i
 use Rattle.sp_code.specs.Machine.{Config, At, Entry, layout_of}
-use Rattle.sp_code.specs.Memory.{Setting, Home, Frame, Memory, memory}
+use Rattle.sp_code.specs.Memory.{Setting, Home, Frame, Memory, memory, first_memory}
 use Rattle.sp_code.specs.PlainStore.{plain}
-use Rattle.sp_code.specs.Sound.{IsSafeSystem}
-use Rattle.sp_code.specs.System.{System, Working, IsSystem, depth_of}
+use Rattle.sp_code.specs.Sound.{IsSafeSystem, identity, means}
+use Rattle.sp_code.specs.System.{System, Working, Enters, IsSystem, depth_of}
 use Rattle.sp_rules.specs.Areas.{Area, Body, Child, homes, instr_at}
 use Rattle.sp_rules.specs.Changes.{areas, areas_of}
 use Rattle.sp_rules.specs.Chains.{Chain}
@@ -27,21 +29,23 @@ use Rattle.sp_rules.specs.Shapes.{Shape}
 use Rattle.sp_rules.specs.Systems.{Fine, Inv}
 use Rattle.sp_rules.specs.Standing.{StandsAt, Caller, Under, IsBottom, Framed, ForksAt}
 use Rattle.sp_rules.specs.Touched.{HasAnswer, stored_by}
+use Rattle.sp_rules.specs.Writable.{WritesWell, MayWrite}
 use Rattle.sp_rules.proofs.Ending.{T, Room, Sent, t_store, t_entered, t_deep, turn_safe, turn_well, turn_ranked}
 use Rattle.sp_rules.proofs.Ending.{turn_quiet}
 use Rattle.sp_rules.proofs.Answering.{IsAmong}
 use Rattle.sp_rules.specs.Forks as fork
 use Rattle.sp_rules.specs.Verdict.{is_stop, HasStop}
 use Rattle.sp_code.specs.Turns.{Comes}
-use Rattle.sp_rules.proofs.Firsts.{first_stands, child_stands}
+use Rattle.sp_rules.proofs.Firsts.{first_stands, child_stands, root_frame}
 use Rattle.sp_rules.proofs.Instances.{may_do, keeps_calls, forks_well}
 use Rattle.sp_rules.proofs.Opening.{first_lives}
 use Rattle.sp_rules.proofs.Pushes.{KeepsCalls}
 use Rattle.sp_rules.proofs.Readiness.{whole, input, output, next_fits, closes, variable, answer_there}
 use Rattle.sp_rules.proofs.Safe as safe
-use Rattle.sp_rules.proofs.Safety.{system_ok, system_safe}
+use Rattle.sp_rules.proofs.Safety.{enters_ok, system_ok, system_safe}
 use Rattle.sp_rules.proofs.Scoping.{declared_here, found_layout, layout_different, newest}
 use Rattle.sp_rules.proofs.Walking.{passes}
+use Rattle.sp_rules.proofs.Writing.{writes_kept, child_writes}
 
 module _ (g : Setting) (k : Keeps g.code) (e : KeepsEffects g.code (Does g.code)) (known : (p : ℕ) → Unknown g.code p
     → ⊥) (small : g.limits.depth ≤ 4294967295) where
@@ -151,7 +155,25 @@ module _ (g : Setting) (k : Keeps g.code) (e : KeepsEffects g.code (Does g.code)
         refl,
         deep,
         tt,
+        child_writes g k e known a p j ch q st m v r number area pass is,
       ))
+
+  pub writes : (b : Base g H E (T g)) (p q : ℕ) (st s1 : List Entry) (n m : Memory Plain)
+      (s : StandsAt g.code p st n.frames) (t : StandsAt g.code q s1 m.frames)
+      → Lives g H E (T g) b (areas s) (At p st n) → MayWrite g.code (areas s) n
+      → safe.ChangesAt plain g k p st n s (areas t) m → MayWrite g.code (areas t) m
+  writes b p q st s1 n m s t l h ch = writes_kept g k e known (T g) b p q st s1 n m s t l h ch
+
+  -- all of the first process's frames are its own
+  pub first_writes : WritesWell g.code 0 [] (Body 0) (first_memory plain g (layout_of g.code.layouts 0)).frames
+  first_writes x s d at = inl (only s.frame)
+    where
+      only : (f : ℕ) → means (root_frame g.code k ∷ []) f ≡ identity 0 f
+      only f = go (0 == f) refl
+        where
+          go : (t : Bool) → (0 == f) ≡ t → (if t then identity 0 0 else identity 0 f) ≡ identity 0 f
+          go true i = ap (identity 0) (eqb-true 0 f i)
+          go false i = refl
 
   -- ---- along a journal
 
@@ -161,19 +183,33 @@ module _ (g : Setting) (k : Keeps g.code) (e : KeepsEffects g.code (Does g.code)
         → Inv g H E (T g) (Room g) (Sent g) s.condition s.births
     live_along es s l =
         system_ok g H E (T g) (Room g) (Sent g) k.rooms (t_store g) (t_entered g) (t_deep g small)
-        (λ b us c d x lv st tn. turn_well g k E mays calls ready forks b us c d x lv st tn)
-        (λ b us c lv st. turn_safe g k E mays calls ready forks b us c lv st)
-        (λ b us c lv st. turn_ranked g k E mays calls ready forks b v9 us c lv st)
-        (Body 0) (first_lives g k e known (T g)) (first_stands plain g k, refl, omega arith, tt) es s l
+        (λ b us c d x lv st tn. turn_well g k E mays calls ready forks writes b us c d x lv st tn)
+        (λ b us c lv st. turn_safe g k E mays calls ready forks writes b us c lv st)
+        (λ b us c lv st. turn_ranked g k E mays calls ready forks writes b v9 us c lv st)
+        (Body 0) (first_lives g k e known (T g)) (first_stands plain g k, refl, omega arith, tt, first_writes) es s l
 
-    -- in the system along every journal all is well with the next turn of each process and with its event
-    pub safe_along : (es : List Entered) (s : System Plain) → IsSystem plain g es s → IsSafeSystem g s
-    safe_along es s l =
+    -- an entry keeps that
+    pub enters_live : (s t : System Plain) (q : ℕ) (ev : Event) → Inv g H E (T g) (Room g) (Sent g) s.condition s.births
+        → Enters plain g s q ev t → Inv g H E (T g) (Room g) (Sent g) t.condition t.births
+    enters_live s t q ev i h =
+        enters_ok g H E (T g) (Room g) (Sent g) k.rooms (t_store g) (t_entered g) (t_deep g small)
+        (λ b us c d x lv st tn. turn_well g k E mays calls ready forks writes b us c d x lv st tn)
+        (λ b us c lv st. turn_safe g k E mays calls ready forks writes b us c lv st)
+        (λ b us c lv st. turn_ranked g k E mays calls ready forks writes b v9 us c lv st)
+        s t q ev i h
+
+    -- where all processes live, all is well with the next turn of each and with its event
+    pub safe_where : (s : System Plain) → Inv g H E (T g) (Room g) (Sent g) s.condition s.births → IsSafeSystem g s
+    safe_where s i =
         system_safe g H E (T g) (Room g) (Sent g) k.rooms (t_store g) (t_entered g) (t_deep g small)
-        (λ b us c d x lv st tn. turn_well g k E mays calls ready forks b us c d x lv st tn)
-        (λ b us c lv st. turn_safe g k E mays calls ready forks b us c lv st)
-        (λ b us c lv st. turn_ranked g k E mays calls ready forks b v9 us c lv st)
-        s (live_along es s l)
+        (λ b us c d x lv st tn. turn_well g k E mays calls ready forks writes b us c d x lv st tn)
+        (λ b us c lv st. turn_safe g k E mays calls ready forks writes b us c lv st)
+        (λ b us c lv st. turn_ranked g k E mays calls ready forks writes b v9 us c lv st)
+        s i
+
+    -- so it is in the system along every journal
+    pub safe_along : (es : List Entered) (s : System Plain) → IsSystem plain g es s → IsSafeSystem g s
+    safe_along es s l = safe_where s (live_along es s l)
 
     -- a process that runs comes to no instruction that stops, other than by a fault or a pause, while a block that
     -- answers is being called
@@ -188,4 +224,4 @@ module _ (g : Setting) (k : Keeps g.code) (e : KeepsEffects g.code (Does g.code)
     quiet_along eight es s l q c runs p st m way is =
         let i = live_along es s l in
         let w = subst (λ y. Fine g H E (T g) (Room g) (Sent g) i.base (i.base q) (i.children q) y) runs (i.each q) in
-        turn_quiet g k E mays calls ready forks (i.base q) eight w.0 c p st m w.1 w.2 way is
+        turn_quiet g k E mays calls ready forks writes (i.base q) eight w.0 c p st m w.1 w.2 way is

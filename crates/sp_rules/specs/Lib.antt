@@ -10,6 +10,7 @@ pub mod Standing
 pub mod Holding
 pub mod Running
 pub mod Systems
+pub mod Writable
 pub mod Named
 pub mod Rules
 pub mod Keeps

@@ -14,11 +14,12 @@
 //!   them, `Verdict` all rules together.
 //! - `Activations` says what a process may stop at while a block with a result is being called.
 //! - The other files of `specs/` are what the proof is made of: what one process has at an instruction (`Standing`),
-//!   what its activations hold (`Extents`, `Holding`, `Running`), and what all processes hold along a journal
-//!   (`Systems`).
+//!   what its activations hold (`Extents`, `Holding`, `Running`), where they write (`Writable`), and what all processes
+//!   hold along a journal (`Systems`).
 //! - Of the proofs, `Turns` has one instruction, `Scoping` the resolution of variables, `Kept` what follows where no
-//!   rule is broken, `Ranked` the ranks from V9, `Safe` and `Ending` a turn, `Forking`, `Births`, `Rejoining` and
-//!   `Messages` the events, `Safety` the system along a journal, `Assembly` the law.
+//!   rule is broken, `Ranked` the ranks from V9, `Writing` where a process writes, `Safe` and `Ending` a turn,
+//!   `Forking`, `Births`, `Rejoining` and `Messages` the events, `Safety` the system along a journal, `Assembly` the
+//!   law.
 //! - `proofs/Rows`, `AnswerRow` and `AnswerForks` have a code that keeps all rules and neighbours of it that break one,
 //!   `EffectRows` codes that break V6 or V7, `KeptRows` a code with a fork that keeps V6 and V7.
 //!
