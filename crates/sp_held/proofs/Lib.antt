@@ -1,0 +1,13 @@
+pub mod Identity
+pub mod Contents
+pub mod Sole
+pub mod Sides
+pub mod Becoming
+pub mod Plans
+pub mod Splitting
+pub mod Joining
+pub mod Turning
+pub mod Running
+pub mod Conditions
+pub mod Journeys
+pub mod Held
