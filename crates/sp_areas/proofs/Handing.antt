@@ -149,10 +149,6 @@ module _ (c : Parts) where
 
   -- ---- an instruction
 
-  pub is_nobody : (os : List Owner) (p : ℕ) (w : Owner) → slice_get os p ≡ Some w → is_same w owner.Nobody ≡ true
-      → (o : Owner) → slice_get os p ≡ Some o → IsOwner o → ⊥
-  is_nobody os p w e h o f some = some (same_Some o w (sym f ∙ e) ∙ same_is w owner.Nobody h)
-
   pub an_owner : (w : Owner) → is_same w owner.Nobody ≡ false → IsOwner w
   an_owner w h e = not_true_and_false (is_same w owner.Nobody) (ap (λ z. is_same z owner.Nobody) e) h
 

@@ -1,5 +1,5 @@
 -- Layouts that get a node are led to block 0, and where none is left that may get one, all that are led have theirs.
-use Rattle.std.proofs.Common.{◌≡◌, ◌≢◌, ◌⊎◌, ⊎_elim, refl, ap, sym, ◌∙◌, subst, ℕ, zero, suc, ◌+◌, ◌*◌, ◌<◌}
+use Rattle.std.proofs.Common.{◌≡◌, ◌≢◌, ⊎_elim, refl, ap, sym, ◌∙◌, subst, ℕ, zero, suc, ◌+◌, ◌*◌, ◌<◌}
 use Rattle.std.proofs.Common.{◌==◌, if◌then◌else◌, List, [], ◌∷◌, length, replicate, Option, Some, None, Bool}
 use Rattle.std.proofs.Common.{true, false, arith, eqb-true}
 use Rattle.std.specs.Prelude.{slice_get, slice_set}

@@ -1,5 +1,5 @@
 -- What an instruction names by what is around it: by the tests of its one area, none of the points on that is broken.
-use Rattle.std.proofs.Common.{◌≡◌, ◌⊎◌, inl, inr, ⊎_elim, refl, ap, sym, ◌∙◌, ℕ, ◌<◌, length, Option, Some, None}
+use Rattle.std.proofs.Common.{◌≡◌, inl, inr, ⊎_elim, refl, ap, sym, ◌∙◌, ℕ, ◌<◌, length, Option, Some, None}
 use Rattle.std.proofs.Common.{Bool, true, false, ◌&&◌}
 use Rattle.std.specs.Prelude.{not}
 use Rattle.std.proofs.lemmas.Option.{slice_get_within}

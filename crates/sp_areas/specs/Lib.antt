@@ -10,7 +10,6 @@ pub mod Namers
 pub mod Sums
 pub mod Tree
 pub mod Homes
-pub mod Levels
 pub mod Grown
 pub mod Around
 pub mod Misnamed

@@ -2,6 +2,7 @@
 
 ghost use Rattle.std.specs.Prelude.{◌≡◌, ◌+◌, ◌≤◌, IfOk, OnOk, length};
 ghost use Rattle.sp_areas.specs.Blocks.{IsNumbered, Notes, number_from, number_of};
+ghost use Rattle.sp_areas.specs.Owners.{entry_at};
 ghost use Rattle.std.specs.Option.{is_some, option_copied};
 ghost use Rattle.sp_code.specs.Machine.{layout_of};
 
@@ -64,6 +65,17 @@ impl Blocks {
         match self.place(block) {
             None => None,
             Some(place) => layouts.get(place as usize),
+        }
+    }
+
+    /// Where a block begins.
+    pub fn entry_of(&self, layouts: &List<Layout>, block: u32) -> Option<u32>
+        requires { IsNumbered self.now.first layouts.now }
+        ensures { result ≡ entry_at (layout_of layouts.now block) }
+    {
+        match self.find(layouts, block) {
+            None => None,
+            Some(l) => Some(l.entry),
         }
     }
 

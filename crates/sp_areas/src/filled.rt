@@ -5,9 +5,10 @@ ghost use Rattle.sp_code.specs.Machine.{layout_of};
 ghost use Rattle.sp_rules.specs.Areas.{is_root};
 ghost use Rattle.sp_areas.specs.Around.{AreFilled};
 ghost use Rattle.sp_areas.specs.Blocks.{IsNumbered};
+ghost use Rattle.sp_areas.specs.Grown.{AreAllLed};
 
 use crate::blocks::Blocks;
-use crate::led::{led, nothing};
+use crate::led::nothing;
 use crate::tree::{Frame, Grown, give_node, node_at};
 use sp_base::Memory;
 use sp_code::Code;
@@ -58,23 +59,25 @@ fn is_root(code: &Code, blocks: &Blocks) -> bool
 }
 
 // What is led to the program, if there is one.
-fn begun(code: &Code, blocks: &Blocks) -> Result<Grown, Memory>
-    requires { IsNumbered blocks.now.first code.now.layouts }
+fn begun(code: &Code, blocks: &Blocks, led: Grown) -> Result<Grown, Memory>
+    requires blocks { IsNumbered blocks.now.first code.now.layouts }
+    requires led { AreAllLed code.now.layouts led }
     ensures { IfOk result (λ grown. AreFilled code.now 0 grown) }
 {
     if is_root(code, blocks) {
-        led(code, blocks)
+        Ok(led)
     } else {
         nothing(code, code.parts().layouts.len())
     }
 }
 
-/// Nodes for all layouts. The only other answer is want of memory.
-pub(crate) fn filled(code: &Code, blocks: &Blocks) -> Result<Grown, Memory>
-    requires { IsNumbered blocks.now.first code.now.layouts }
+/// Nodes for all layouts, with those that are led to the program. The only other answer is want of memory.
+pub(crate) fn filled(code: &Code, blocks: &Blocks, led: Grown) -> Result<Grown, Memory>
+    requires blocks { IsNumbered blocks.now.first code.now.layouts }
+    requires led { AreAllLed code.now.layouts led }
     ensures { IfOk result (λ grown. AreFilled code.now (length code.now.layouts) grown) }
 {
-    let mut grown = begun(code, blocks)?;
+    let mut grown = begun(code, blocks, led)?;
     fill(code, blocks, &mut grown)?;
     Ok(grown)
 }

@@ -1,6 +1,6 @@
 //! Where variables are likely to be found. It only saves time: whoever uses a hint looks whether it is right.
 
-use crate::tables::mark;
+use crate::flags::{flag_at, mark, no_flags};
 use crate::tree::{Frame, Node};
 use sp_base::{List, Memory};
 use sp_code::{Code, Layout};
@@ -83,13 +83,6 @@ fn note_layout(hints: &mut Hints, l: &Layout, depth: usize) -> Result<(), Memory
     Ok(())
 }
 
-fn was_seen(seen: &List<bool>, place: usize) -> bool {
-    match seen.get(place) {
-        None => true,
-        Some(seen) => *seen,
-    }
-}
-
 fn note_frame(
     layouts: &List<Layout>,
     seen: &mut List<bool>,
@@ -100,10 +93,10 @@ fn note_frame(
     match frame {
         Frame::Index(x) => hints.note(x, depth, 0),
         Frame::Block { block: _, place } => {
-            if was_seen(seen, place as usize) {
+            if flag_at(seen, place as usize) {
                 return Ok(());
             }
-            mark(seen, place);
+            mark(seen, place as usize);
             match layouts.get(place as usize) {
                 None => Ok(()),
                 Some(l) => note_layout(hints, l, depth),
@@ -117,7 +110,7 @@ pub(crate) fn find_hints(code: &Code, nodes: &List<Node>) -> Result<Hints, Memor
     let layouts = &code.parts().layouts;
     let alloc = nodes.alloc();
     let depths = depths(nodes)?;
-    let mut seen = List::of(vec![in alloc; false; layouts.len()]?);
+    let mut seen = no_flags(alloc, layouts.len())?;
     let mut hints = Hints {
         depths,
         hints: List::new(alloc),

@@ -10,9 +10,8 @@ ghost use Rattle.sp_areas.specs.Least.{IsLeast};
 ghost use Rattle.sp_areas.specs.Misnamed.{Decides};
 
 use crate::blocks::Blocks;
+use crate::flags::{flag_at, mark, no_flags};
 use crate::least::{least, place_if};
-use crate::led::led;
-use crate::tables::{flag_at, mark};
 use crate::tree::{Grown, node_at};
 use sp_base::{List, Memory};
 use sp_code::Code;
@@ -38,7 +37,7 @@ fn note(blocks: &Blocks, flags: &mut List<bool>, item: usize, block: u32)
     }
     match blocks.place(block) {
         None => (),
-        Some(place) => mark(flags, place),
+        Some(place) => mark(flags, place as usize),
     }
 }
 
@@ -49,7 +48,7 @@ fn doubled(code: &Code, blocks: &Blocks) -> Result<List<bool>, Memory>
 {
     let parts = code.parts();
     let count = parts.layouts.len();
-    let mut flags = List::of(vec![in parts.instrs.alloc(); false; count]?);
+    let mut flags = no_flags(parts.instrs.alloc(), count)?;
     for (item, l) in parts.layouts.items().iter().enumerate() {
         note(blocks, &mut flags, item, l.block);
     }
@@ -91,11 +90,11 @@ fn first_lacking(code: &Code, blocks: &Blocks, flags: &List<bool>, grown: &Grown
 
 /// The least entry of a layout of a block that another layout has too, or of one whose parents do not lead to block 0;
 /// None where there is none. The only other answer is want of memory.
-pub fn first_homeless(code: &Code, blocks: &Blocks) -> Result<Option<u32>, Memory>
-    requires { IsNumbered blocks.now.first code.now.layouts }
+pub fn first_homeless(code: &Code, blocks: &Blocks, led: &Grown) -> Result<Option<u32>, Memory>
+    requires blocks { IsNumbered blocks.now.first code.now.layouts }
+    requires led { AreAllLed code.now.layouts led.now }
     ensures { IfOk result (λ first. IsLeast (Homeless code.now) first) }
 {
     let flags = doubled(code, blocks)?;
-    let grown = led(code, blocks)?;
-    Ok(first_lacking(code, blocks, &flags, &grown))
+    Ok(first_lacking(code, blocks, &flags, led))
 }

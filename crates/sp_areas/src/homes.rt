@@ -12,7 +12,7 @@ use sp_base::List;
 use sp_code::{Code, Formal, Layout};
 
 /// How a variable is named: by `addr`, not at all since it is the input or the output, or by `deref`.
-#[derive(Clone, Copy, Debug, PartialEq, Eq)]
+#[derive(Clone, Copy)]
 pub enum Naming {
     Plainly,
     Never,
@@ -20,7 +20,7 @@ pub enum Naming {
 }
 
 /// A variable: its number in the tree, its cells, and how it is named. A reference formal has the cells of its type.
-#[derive(Clone, Copy, Debug, PartialEq, Eq)]
+#[derive(Clone, Copy)]
 pub struct Found {
     pub number: u32,
     pub cells: u32,

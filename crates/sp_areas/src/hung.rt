@@ -13,7 +13,7 @@ ghost use Rattle.sp_areas.specs.declared.tree.Node.{Node};
 
 use crate::blocks::Blocks;
 use crate::order::order;
-use crate::owners::{Owner, table_named};
+use crate::owners::{Owner, table_number};
 use crate::tree::{Frame, Grown, Jump, Node, node_at, put};
 use sp_base::{List, Memory};
 use sp_code::{ChildTable, Code};
@@ -80,16 +80,6 @@ fn give_nodes(
     Ok(())
 }
 
-/// The table that an instruction names.
-pub(crate) fn table_of(code: &Code, p: u32) -> Option<u32>
-    ensures { result ≡ table_named (instr_at code.now p) }
-{
-    match code.instr(p) {
-        None => None,
-        Some(instr) => table_named(instr),
-    }
-}
-
 fn owner_in(owners: &List<Owner>, p: usize) -> Owner
     ensures { result ≡ owner_in owners.now p }
 {
@@ -126,7 +116,7 @@ fn node_of(
             None => None,
             Some(place) => node_at(of_blocks, place as usize),
         },
-        Owner::Child { at, child } => match table_of(code, at) {
+        Owner::Child { at, child } => match table_number(code, at) {
             None => None,
             Some(t) => match node_at(&grown.of, t as usize) {
                 None => None,
@@ -153,7 +143,7 @@ fn hang(
     ensures { IfOk result (λ changed. Steps (AreHung code.now of_blocks.now) grown.old grown.new
         (IsHungBy code.now owners.now of_blocks.now q) changed) }
 {
-    let t = match table_of(code, q) {
+    let t = match table_number(code, q) {
         None => return Ok(false),
         Some(t) => t as usize,
     };

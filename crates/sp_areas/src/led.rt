@@ -7,7 +7,7 @@ ghost use Rattle.sp_areas.specs.Grown.{AreAllLed, AreLed, EachItem, IsTried, Ste
 
 use crate::blocks::Blocks;
 use crate::order::order;
-use crate::tree::{Frame, Grown, give_node, node_at};
+use crate::tree::{Frame, Grown, give_node, no_nodes, node_at};
 use sp_base::{List, Memory};
 use sp_code::{Code, Layout};
 
@@ -127,7 +127,7 @@ pub(crate) fn nothing(code: &Code, count: usize) -> Result<Grown, Memory>
     ensures { IfOk result (λ grown. (grown.nodes ≡ []) × (grown.of ≡ replicate count None)) }
 {
     let alloc = code.parts().instrs.alloc();
-    let of = List::of(vec![in alloc; None; count]?);
+    let of = no_nodes(alloc, count)?;
     Ok(Grown {
         nodes: List::new(alloc),
         of,
@@ -135,7 +135,7 @@ pub(crate) fn nothing(code: &Code, count: usize) -> Result<Grown, Memory>
 }
 
 /// Nodes for exactly the layouts whose parents lead to block 0. The only other answer is want of memory.
-pub(crate) fn led(code: &Code, blocks: &Blocks) -> Result<Grown, Memory>
+pub fn led(code: &Code, blocks: &Blocks) -> Result<Grown, Memory>
     requires { IsNumbered blocks.now.first code.now.layouts }
     ensures { IfOk result (λ grown. AreAllLed code.now.layouts grown) }
 {

@@ -3,17 +3,20 @@
 //!
 //! Calls:
 //! - `Blocks::of` (`blocks`): a table of layouts, with the place of the first layout of each block. `place`, `find`,
-//!   `has`: that place, that layout, and whether there is one.
+//!   `entry_of`, `has`: that place, that layout, its first instruction, and whether there is one.
 //! - `owners`: whose code each instruction is: of no area, of one block or child alone, or of several (`AreOwners`).
-//! - `homes` (`around`): what is around each instruction that lies in the code of one area alone (`AreHomes`).
-//!   `Homes::variable` finds a variable there by level and number, `block_outward` (`levels`) the block of a level.
+//!   `table_named`, `table_number`: the table that an instruction names.
+//! - `led`: the layouts whose parents lead to block 0 (`AreAllLed`). `homes` (`around`): by these, what is around each
+//!   instruction that lies in the code of one area alone (`AreHomes`). `Homes::variable` finds a variable there by
+//!   level and number, `is_block_outward` (`levels`) says whether a level is that of a block.
 //! - `first_v1` (`whole`): the least instruction at which V1 is broken; none where it is broken nowhere.
 //! - `first_round` (`rounds`): the same for V9.
 //! - `first_wrong_alone` (`parts`), `first_homeless`, `first_twice` (`declarations`), `first_unnamed` (`naming`),
 //!   `first_misplaced` (`placed`): the same for some points of V1 each.
 //! - `first_out_of_range` (`ranges`), `first_unknown`: the same for points of V1 on what is around an instruction, of
 //!   instructions that lie in the code of one area alone.
-//! - `least`, `place_if`: the first of two answers; a place, if something is broken there.
+//! - `least`, `place_if`: the first of two answers; a place, if something is broken there. `no_flags`, `flag_at`,
+//!   `mark` (`flags`): flags by their numbers.
 //!
 //! To know:
 //! - Each answer is exact. The only other one is want of memory.
@@ -44,6 +47,7 @@ pub mod blocks;
 pub mod components;
 pub mod declarations;
 pub mod filled;
+pub mod flags;
 pub mod hints;
 pub mod homeless;
 pub mod homes;

@@ -1,19 +1,7 @@
 //! An order in which what others stand on comes first. It only saves time: no proof rests on it.
 
+use crate::flags::{flag_at, mark, no_flags};
 use sp_base::{List, Memory};
-
-fn is_new(seen: &List<bool>, item: usize) -> bool {
-    match seen.get(item) {
-        None => false,
-        Some(seen) => !*seen,
-    }
-}
-
-fn mark(seen: &mut List<bool>, item: usize) {
-    if item < seen.len() {
-        let _old = seen.replace(item, true);
-    }
-}
 
 fn next(up: &List<Option<usize>>, item: usize) -> Option<usize> {
     match up.get(item) {
@@ -31,7 +19,7 @@ fn climb(
 ) -> Result<(), Memory> {
     let mut at = item;
     for _step in 0..up.len() {
-        if !is_new(seen, at) {
+        if seen.len() <= at || flag_at(seen, at) {
             return Ok(());
         }
         mark(seen, at);
@@ -59,7 +47,7 @@ fn come_back(way: &mut List<usize>, order: &mut List<usize>) -> Result<(), Memor
 pub(crate) fn order(up: &List<Option<usize>>) -> Result<List<usize>, Memory> {
     let alloc = up.alloc();
     let count = up.len();
-    let mut seen = List::of(vec![in alloc; false; count]?);
+    let mut seen = no_flags(alloc, count)?;
     let mut way = List::new(alloc);
     let mut order = List::new(alloc);
     for item in 0..count {

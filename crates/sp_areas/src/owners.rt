@@ -3,18 +3,17 @@
 
 ghost use Rattle.std.specs.Prelude.{◌≡◌, ℕ, ◌+◌, ◌<◌, Some, IfOk, OnOk, length, slice_get};
 ghost use Rattle.sp_code.specs.declared.code.ChildTable.{ChildTable};
-ghost use Rattle.sp_code.specs.Machine.{layout_of};
 ghost use Rattle.sp_rules.specs.Areas.{instr_at, table_named};
 ghost use Rattle.sp_areas.specs.Blocks.{IsNumbered};
 ghost use Rattle.sp_rules.specs.Named.{Names};
 ghost use Rattle.sp_areas.specs.Owners.{AreBegun, AreOwners, AreTrue, Each, Gives, IsClosed, IsHanded, IsOwner};
 ghost use Rattle.sp_areas.specs.Owners.{IsSpread, IsSpreadBy, IsTrueOf, Knows, KnowsAt, Spreads, as_child};
-ghost use Rattle.sp_areas.specs.Owners.{entry_at, is_same, join, of_child};
+ghost use Rattle.sp_areas.specs.Owners.{is_same, join, of_child};
 
 use crate::blocks::Blocks;
 use crate::ways::ways_on;
 use sp_base::{List, Memory};
-use sp_code::{ChildTable, Code, Instr, Layout};
+use sp_code::{ChildTable, Code, Instr};
 
 /// Whose code an instruction is: the area in whose code it lies, by the area's last step.
 #[derive(Clone, Copy, Debug, PartialEq, Eq)]
@@ -29,7 +28,8 @@ pub enum Owner {
     Several,
 }
 
-pub(crate) fn is_same(w: Owner, o: Owner) -> bool
+/// Whether two owners are the same.
+pub fn is_same(w: Owner, o: Owner) -> bool
     ensures { result ≡ is_same w o }
 {
     match w {
@@ -109,14 +109,24 @@ fn give(
     Ok(true)
 }
 
-/// The table that an instruction names.
-pub(crate) fn table_named(instr: Instr) -> Option<u32>
+/// The number of the table that an instruction names.
+pub fn table_named(instr: Instr) -> Option<u32>
     ensures { result ≡ table_named (Some instr) }
 {
     match instr {
         Instr::Fork(t) => Some(t),
         Instr::Forall(t) => Some(t),
         _ => None,
+    }
+}
+
+/// That which the instruction at p names, if there is one.
+pub fn table_number(code: &Code, p: u32) -> Option<u32>
+    ensures { result ≡ table_named (instr_at code.now p) }
+{
+    match code.instr(p) {
+        None => None,
+        Some(instr) => table_named(instr),
     }
 }
 
@@ -253,17 +263,6 @@ fn visit_table(
     visit_children(code, owners, waiting, table.children.items(), o)
 }
 
-// Where a block begins.
-fn entry_of(blocks: &Blocks, layouts: &List<Layout>, block: u32) -> Option<u32>
-    requires { IsNumbered blocks.now.first layouts.now }
-    ensures { result ≡ entry_at (layout_of layouts.now block) }
-{
-    match blocks.find(layouts, block) {
-        None => None,
-        Some(l) => Some(l.entry),
-    }
-}
-
 // Hands each block to its entry.
 fn begin(
     code: &Code,
@@ -279,7 +278,7 @@ fn begin(
     let layouts = &code.parts().layouts;
     let mut changed = false;
     for l in layouts.items() {
-        let entry = entry_of(blocks, layouts, l.block);
+        let entry = blocks.entry_of(layouts, l.block);
         let new = hand(code, owners, waiting, entry, Owner::Block(l.block))?;
         changed |= new;
     }
@@ -398,15 +397,15 @@ fn search(code: &Code, blocks: &Blocks, owners: &mut List<Owner>) -> Result<(), 
 }
 
 /// Whose code each instruction is, for every code. The only other answer is want of memory.
-pub fn owners(code: &Code) -> Result<List<Owner>, Memory>
+pub fn owners(code: &Code, blocks: &Blocks) -> Result<List<Owner>, Memory>
+    requires { IsNumbered blocks.now.first code.now.layouts }
     ensures { IfOk result (λ owners. AreOwners code.now owners) }
 {
     let parts = code.parts();
     let alloc = parts.instrs.alloc();
     let count = parts.instrs.len();
-    let blocks = Blocks::of(alloc, parts.layouts.items())?;
     let mut owners = List::of(vec![in alloc; Owner::Nobody; count + parts.forks.len()]?);
-    search(code, &blocks, &mut owners)?;
+    search(code, blocks, &mut owners)?;
     owners.truncate(count);
     Ok(owners)
 }

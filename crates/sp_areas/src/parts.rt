@@ -2,6 +2,7 @@
 
 ghost use Rattle.std.specs.Prelude.{IfOk};
 ghost use Rattle.sp_areas.specs.Alone.{BreaksAlone};
+ghost use Rattle.sp_areas.specs.Blocks.{IsNumbered};
 ghost use Rattle.sp_areas.specs.Least.{IsLeast};
 
 use crate::blocks::Blocks;
@@ -17,7 +18,8 @@ use sp_code::Code;
 /// that is not there, or has a parent, formals or an answer; sizes that do not fit the variables, formals and answer;
 /// a child of a fork with an index, and a forall with other than one child with an index. An entry past the code
 /// counts by its number. The only other answer is want of memory.
-pub fn first_wrong_alone(code: &Code) -> Result<Option<u32>, Memory>
+pub fn first_wrong_alone(code: &Code, blocks: &Blocks) -> Result<Option<u32>, Memory>
+    requires { IsNumbered blocks.now.first code.now.layouts }
     ensures { IfOk result (λ first. IsLeast (BreaksAlone code.now) first) }
 {
     let parts = code.parts();
@@ -25,10 +27,9 @@ pub fn first_wrong_alone(code: &Code) -> Result<Option<u32>, Memory>
     let instrs = parts.instrs.items();
     let layouts = parts.layouts.items();
     let tables = parts.forks.items();
-    let blocks = Blocks::of(alloc, layouts)?;
     let forked = flags(alloc, false, instrs, tables.len())?;
     let foralled = flags(alloc, true, instrs, tables.len())?;
-    let named = first_misnaming(code, &blocks);
+    let named = first_misnaming(code, blocks);
     let program = place_if(!blocks.has(0), 0);
     let layout = first_layout(layouts, instrs.len());
     let child = first_in(tables, instrs.len(), &forked, &foralled);

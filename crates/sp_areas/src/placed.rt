@@ -1,14 +1,14 @@
 //! Instructions that stand where they may not: in two areas, going on past the last instruction, or ending what they
 //! may not end.
 
-ghost use Rattle.std.specs.Prelude.{◌≡◌, ◌<◌, Some, IfOk, length, slice_get};
+ghost use Rattle.std.specs.Prelude.{◌≡◌, ◌<◌, Some, length, slice_get};
 ghost use Rattle.sp_areas.specs.Least.{IsLeast};
 ghost use Rattle.sp_areas.specs.Owners.{AreOwners, listed};
 ghost use Rattle.sp_areas.specs.Placed.{IsMisplaced, ends_as, fails_placed, leads, runs_past};
 
-use crate::owners::{Owner, owners};
+use crate::owners::Owner;
 use crate::ways::ways_on;
-use sp_base::{List, Memory};
+use sp_base::List;
 use sp_code::{Code, Instr};
 
 // Whether what an instruction ends may end so.
@@ -76,8 +76,10 @@ pub(crate) fn owner_at(owners: &List<Owner>, p: usize) -> Owner
     owners.items()[p]
 }
 
-// The least instruction that may not, by whose each is.
-pub(crate) fn first_by(code: &Code, owners: &List<Owner>) -> Option<u32>
+/// The least instruction that lies in the code of two areas, from which one goes on past the last instruction, or
+/// that ends what it may not: `return` in the program or in a child, `end` in another block. None where there is
+/// none.
+pub fn first_misplaced(code: &Code, owners: &List<Owner>) -> Option<u32>
     requires { AreOwners code.now owners.now }
     ensures { IsLeast (IsMisplaced code.now) result }
 {
@@ -90,14 +92,4 @@ pub(crate) fn first_by(code: &Code, owners: &List<Owner>) -> Option<u32>
         }
     }
     None
-}
-
-/// The least instruction that lies in the code of two areas, from which one goes on past the last instruction, or
-/// that ends what it may not: `return` in the program or in a child, `end` in another block. None where there is
-/// none. The only other answer is want of memory.
-pub fn first_misplaced(code: &Code) -> Result<Option<u32>, Memory>
-    ensures { IfOk result (λ first. IsLeast (IsMisplaced code.now) first) }
-{
-    let owners = owners(code)?;
-    Ok(first_by(code, &owners))
 }

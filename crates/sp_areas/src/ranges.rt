@@ -2,20 +2,19 @@
 
 ghost use Rattle.std.specs.Prelude.{◌≡◌, ◌<◌, Some, false, length, slice_get};
 ghost use Rattle.sp_rules.specs.Areas.{Area, given, instr_at};
-ghost use Rattle.sp_rules.specs.Named.{is_block, is_loop_variable, is_plain, is_reference, level_fits};
+ghost use Rattle.sp_rules.specs.Named.{is_loop_variable, is_plain, is_reference, level_fits};
 ghost use Rattle.sp_areas.specs.Blocks.{IsNumbered};
 ghost use Rattle.sp_areas.specs.Homes.{AreHomes, found_of};
 ghost use Rattle.sp_areas.specs.Least.{IsLeast};
 ghost use Rattle.sp_areas.specs.Misnamed.{Decides, MisnamesOnly, fits};
 ghost use Rattle.sp_areas.specs.Only.{LiesOnlyIn};
 ghost use Rattle.sp_areas.specs.Owners.{AreOwners, Owns};
-ghost use Rattle.sp_areas.specs.Tree.{home_at};
 
 use crate::blocks::Blocks;
 use crate::homes::{Found, Homes, Naming};
+use crate::levels::is_block_outward;
 use crate::owners::Owner;
 use crate::placed::{instr_of, owner_at};
-use crate::tree::Frame;
 use sp_base::List;
 use sp_code::{Code, Instr};
 
@@ -58,18 +57,6 @@ fn is_loop_variable(found: Option<Found>) -> bool
     }
 }
 
-fn is_block(block: u32, frame: Option<Frame>) -> bool
-    ensures { result ≡ is_block (Some block) (home_at frame) }
-{
-    match frame {
-        None => false,
-        Some(frame) => match frame {
-            Frame::Block { block: b, place: _ } => block == b,
-            Frame::Index(_) => false,
-        },
-    }
-}
-
 // Whether the level of a call is that of its block's parent.
 fn level_fits(code: &Code, blocks: &Blocks, homes: &Homes, p: u32, block: u32, up: u32) -> bool
     requires blocks { IsNumbered blocks.now.first code.now.layouts }
@@ -83,7 +70,7 @@ fn level_fits(code: &Code, blocks: &Blocks, homes: &Homes, p: u32, block: u32, u
     };
     match parent {
         None => false,
-        Some(parent) => is_block(parent, homes.frame(p, up as usize)),
+        Some(parent) => is_block_outward(code, homes, p, up, parent),
     }
 }
 

@@ -13,6 +13,7 @@ ghost use Rattle.sp_areas.specs.Rounds.{AreFlagged, AreLed, BreaksAt, Falls, Fal
 ghost use Rattle.sp_areas.specs.Rounds.{before, gaps, with_flag};
 
 use crate::components::{components, has_owner, number_at};
+use crate::flags::{flag_at, no_flags};
 use crate::owners::Owner;
 use crate::ways::free_ways;
 use sp_base::{List, Memory};
@@ -80,15 +81,6 @@ fn first_staying(code: &Code, owners: &List<Owner>, numbers: &List<u32>) -> Opti
 
 // ---- a search from an instruction
 
-fn flag_at(flags: &List<bool>, p: u32) -> bool
-    ensures { result ≡ flag_at flags.now p }
-{
-    match flags.get(p as usize) {
-        None => false,
-        Some(flag) => *flag,
-    }
-}
-
 // An instruction to which a way from another leads, and that has no flag.
 fn open_way(flags: &List<bool>, to: Option<u32>) -> Option<u32>
     ensures { MatchOption result ((q : ℕ) → to ≡ Some q → q < length flags.now → flag_at flags.now q ≡ true)
@@ -97,7 +89,7 @@ fn open_way(flags: &List<bool>, to: Option<u32>) -> Option<u32>
     match to {
         None => None,
         Some(q) => {
-            if (q as usize) < flags.len() && !flag_at(flags, q) {
+            if (q as usize) < flags.len() && !flag_at(flags, q as usize) {
                 Some(q)
             } else {
                 None
@@ -125,7 +117,7 @@ fn open_end(code: &Code, start: u32, flags: &List<bool>) -> Option<u32>
 {
     let count = code.parts().instrs.len();
     for p in 0..count {
-        if p as u32 == start || flag_at(flags, p as u32) {
+        if p as u32 == start || flag_at(flags, p) {
             match open_way_from(code, flags, p as u32) {
                 None => {}
                 Some(q) => return Some(q),
@@ -146,7 +138,7 @@ fn flag(flags: &mut List<bool>, waiting: &mut List<u32>, to: Option<u32>) -> Res
     if flags.len() <= q as usize {
         return Ok(());
     }
-    if flag_at(flags, q) {
+    if flag_at(flags, q as usize) {
         return Ok(());
     }
     let _old = flags.replace(q as usize, true);
@@ -158,7 +150,7 @@ fn flag(flags: &mut List<bool>, waiting: &mut List<u32>, to: Option<u32>) -> Res
 fn visit(code: &Code, flags: &mut List<bool>, waiting: &mut List<u32>, p: u32) -> Result<(), Memory>
     ensures { (s : ℕ) → AreLed code.now s flags.old → OnOk result (Widens code.now s flags.old flags.new) }
 {
-    if !flag_at(flags, p) {
+    if !flag_at(flags, p as usize) {
         return Ok(());
     }
     let ways = free_ways(code, p);
@@ -198,7 +190,7 @@ fn reach(code: &Code, start: u32) -> Result<List<bool>, Memory>
 {
     let instrs = &code.parts().instrs;
     let alloc = instrs.alloc();
-    let mut flags = List::of(vec![in alloc; false; instrs.len()]?);
+    let mut flags = no_flags(alloc, instrs.len())?;
     let mut waiting = List::new(alloc);
     'rounds: loop {
         let q = match open_end(code, start, &flags) {
@@ -218,7 +210,7 @@ fn breaks(code: &Code, owners: &List<Owner>, p: u32) -> Result<bool, Memory>
         return Ok(false);
     }
     let flags = reach(code, p)?;
-    Ok(flag_at(&flags, p))
+    Ok(flag_at(&flags, p as usize))
 }
 
 fn breaks_at(code: &Code, owners: &List<Owner>, first: Option<u32>) -> Result<bool, Memory>

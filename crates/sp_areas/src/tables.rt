@@ -1,10 +1,11 @@
 //! What can be wrong with a table of children in itself.
 
 ghost use Rattle.std.specs.Prelude.{◌≡◌, Some, length, IfOk};
-ghost use Rattle.sp_areas.specs.Alone.{AreFlags, ChildFails, ChildrenFail, Marks, TableFails, child_fails};
-ghost use Rattle.sp_areas.specs.Alone.{first_fails, flag_at, named_in, table_by};
+ghost use Rattle.sp_areas.specs.Alone.{AreFlags, ChildFails, ChildrenFail, TableFails, child_fails, first_fails};
+ghost use Rattle.sp_areas.specs.Alone.{flag_at, named_in, table_by};
 ghost use Rattle.sp_areas.specs.Least.{IsLeast, Upto};
 
+use crate::flags::{flag_at, mark, no_flags};
 use crate::least::{least, place_if};
 use sp_base::{List, Memory};
 use sp_code::{ChildTable, ForkTable, Instr};
@@ -21,16 +22,6 @@ fn table_by(forall: bool, instr: Instr) -> Option<u32>
     }
 }
 
-/// Sets the flag of a table, if it has one.
-pub(crate) fn mark(flags: &mut List<bool>, table: u32)
-    ensures { Marks flags.old flags.new table }
-{
-    let at = table as usize;
-    if at < flags.len() {
-        let _old = flags.replace(at, true);
-    }
-}
-
 /// For each table, whether a fork, or a forall, names it.
 pub(crate) fn flags(
     alloc: Global,
@@ -40,10 +31,10 @@ pub(crate) fn flags(
 ) -> Result<List<bool>, Memory>
     ensures { IfOk result (λ flags. AreFlags forall instrs.now count flags) }
 {
-    let mut flags = List::of(vec![in alloc; false; count]?);
+    let mut flags = no_flags(alloc, count)?;
     for instr in instrs {
         if let Some(t) = table_by(forall, *instr) {
-            mark(&mut flags, t);
+            mark(&mut flags, t as usize);
         }
     }
     Ok(flags)
@@ -96,15 +87,6 @@ fn first_of_table(
         first_child(children, count, forked),
         first_of_forall(children, foralled),
     )
-}
-
-pub(crate) fn flag_at(flags: &List<bool>, table: usize) -> bool
-    ensures { result ≡ flag_at flags.now table }
-{
-    match flags.get(table) {
-        None => false,
-        Some(flag) => *flag,
-    }
 }
 
 /// The least entry of a child that is wrong, in all tables.

@@ -1,7 +1,7 @@
 //! A tree of what is around code, in which one finds who is so many levels outward.
 
-ghost use Rattle.std.specs.Prelude.{◌≡◌, ℕ, ◌+◌, ◌<◌, ◌≤◌, ◌∷◌, ◌++◌, List, Some, None, [], OnOk, MatchOption, length};
-ghost use Rattle.std.specs.Prelude.{slice_get};
+ghost use Rattle.std.specs.Prelude.{◌≡◌, ℕ, ◌+◌, ◌<◌, ◌≤◌, ◌∷◌, ◌++◌, List, Some, None, [], IfOk, OnOk, MatchOption};
+ghost use Rattle.std.specs.Prelude.{length, replicate, slice_get};
 ghost use Rattle.sp_code.specs.declared.code.Layout.{Layout};
 ghost use Rattle.sp_code.specs.Memory.{Home};
 ghost use Rattle.sp_areas.specs.Grown.{Gets, Puts, node_at};
@@ -9,6 +9,7 @@ ghost use Rattle.sp_areas.specs.Tree.{AreLists, IsAround, IsFound, IsFrame, IsJu
 ghost use Rattle.sp_areas.specs.Tree.{with_list};
 
 use sp_base::{List, Memory};
+use std::alloc::Global;
 
 /// What has a frame.
 #[derive(Clone, Copy)]
@@ -106,9 +107,16 @@ pub(crate) fn outward(tree: &List<Node>, node: usize, up: usize) -> Option<Frame
 
 /// A tree that grows, and for each of the items that are to have a node theirs, where they have one.
 #[derive(Drop)]
-pub(crate) struct Grown {
-    pub nodes: List<Node>,
-    pub of: List<Option<usize>>,
+pub struct Grown {
+    pub(crate) nodes: List<Node>,
+    pub(crate) of: List<Option<usize>>,
+}
+
+/// No node for each of so many items. The only other answer is want of memory.
+pub(crate) fn no_nodes(alloc: Global, count: usize) -> Result<List<Option<usize>>, Memory>
+    ensures { IfOk result (λ of. of ≡ replicate count None) }
+{
+    Ok(List::of(vec![in alloc; None; count]?))
 }
 
 /// The node of an item.

@@ -13,8 +13,7 @@ ghost use Rattle.sp_areas.specs.Unknown.{ChildUnknown, HasUnknown, IsBelow, IsBe
 
 use crate::hints::{Hint, Hints, find_hints};
 use crate::homes::Homes;
-use crate::hung::table_of;
-use crate::owners::Owner;
+use crate::owners::{Owner, table_number};
 use crate::placed::owner_at;
 use crate::tree::Frame;
 use sp_base::{List, Memory};
@@ -238,7 +237,7 @@ fn after_one(code: &Code, homes: &Homes, hints: &Hints, q: u32, before: Option<u
     requires before { IsLeast (Upto (UnknownBy code.now) q) before }
     ensures { IsLeast (Upto (UnknownBy code.now) (q + 1)) result }
 {
-    let t = match table_of(code, q) {
+    let t = match table_number(code, q) {
         None => return before,
         Some(t) => t,
     };

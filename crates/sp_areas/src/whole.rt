@@ -13,13 +13,12 @@ ghost use Rattle.sp_areas.specs.Placed.{IsMisplaced};
 
 use crate::blocks::Blocks;
 use crate::declarations::first_twice;
-use crate::homeless::first_homeless;
 use crate::homes::Homes;
 use crate::least::least;
 use crate::naming::first_unnamed;
 use crate::owners::Owner;
 use crate::parts::first_wrong_alone;
-use crate::placed::first_by;
+use crate::placed::first_misplaced;
 use crate::ranges::first_out_of_range;
 use crate::unknown::first_unknown;
 use sp_base::{List, Memory};
@@ -54,27 +53,29 @@ fn first_of(code: &Code, owners: &List<Owner>, f: Firsts) -> Option<u32>
 }
 
 /// The least instruction at which rule V1 is broken; None where it is nowhere. A layout or a table alone counts by its
-/// entry, or that of its first child at fault. The owners say whose code each instruction is, and the homes what is
-/// around it. The only other answer is want of memory.
+/// entry, or that of its first child at fault. The owners say whose code each instruction is, the homes what is around
+/// it, and `homeless` is what `first_homeless` finds. The only other answer is want of memory.
 pub fn first_v1(
     code: &Code,
     blocks: &Blocks,
     owners: &List<Owner>,
     homes: &Homes,
+    homeless: Option<u32>,
 ) -> Result<Option<u32>, Memory>
     requires blocks { IsNumbered blocks.now.first code.now.layouts }
     requires owners { AreOwners code.now owners.now }
     requires homes { AreHomes code.now homes.now }
+    requires homeless { IsLeast (Homeless code.now) homeless }
     ensures { IfOk result (λ first. IsLeast (BreaksV1 code.now) first) }
 {
     let firsts = Firsts {
-        alone: first_wrong_alone(code)?,
-        homeless: first_homeless(code, blocks)?,
+        alone: first_wrong_alone(code, blocks)?,
+        homeless,
         twice: first_twice(code)?,
         unnamed: first_unnamed(code, owners)?,
         unknown: first_unknown(code, owners, homes)?,
         range: first_out_of_range(code, blocks, owners, homes),
-        misplaced: first_by(code, owners),
+        misplaced: first_misplaced(code, owners),
     };
     Ok(first_of(code, owners, firsts))
 }

@@ -4,7 +4,7 @@ use sp_base::Text;
 use sp_code::{ChildTable, Instr, Layout};
 
 /// What one line behind the first adds to code.
-#[derive(Debug, Drop)]
+#[derive(Drop)]
 pub(crate) enum Item {
     Layout(Layout),
     Text(Text),

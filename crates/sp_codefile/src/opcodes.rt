@@ -11,7 +11,7 @@ use crate::words::{class_cut, integer, next_word, number};
 use sp_code::Instr;
 
 /// A word read as a number of each kind.
-#[derive(Clone, Copy, Debug)]
+#[derive(Clone, Copy)]
 pub(crate) struct Operand {
     number: u32,
     integer: i64,

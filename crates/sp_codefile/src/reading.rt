@@ -181,7 +181,7 @@ fn read_child(alloc: Global, text: &[u8]) -> Result<Item, Memory>
 }
 
 /// What a line says, by its first bytes.
-#[derive(Clone, Copy, Debug, PartialEq, Eq)]
+#[derive(Clone, Copy)]
 enum Kind {
     Layout,
     Text,

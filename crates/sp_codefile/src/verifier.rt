@@ -3,6 +3,7 @@
 
 ghost use Rattle.std.specs.Prelude.{◌≡◌, ◌+◌, IfOk, IfErr, OnOk};
 ghost use Rattle.sp_code.specs.Sound.{IsSound};
+ghost use Rattle.sp_rules.specs.Named.{Homeless};
 ghost use Rattle.sp_rules.specs.Verdict.{Breaks, IsVerified, number};
 ghost use Rattle.sp_areas.specs.Blocks.{IsNumbered};
 ghost use Rattle.sp_areas.specs.Homes.{AreHomes};
@@ -10,12 +11,15 @@ ghost use Rattle.sp_areas.specs.Least.{IsLeast};
 ghost use Rattle.sp_areas.specs.Owners.{AreOwners};
 ghost use Rattle.sp_shapes.specs.Shapes.{AreShapes};
 ghost use Rattle.sp_effects.specs.Effects.{AreEffects};
+ghost use Rattle.sp_effects.specs.Grounds.{IsGround};
 ghost use Rattle.sp_codefile.specs.declared.verifier.Rejected.TheVariants.{Memory as OutOfMemory};
 ghost use Rattle.sp_codefile.specs.Verifying.{IsRefused, KeepsBefore, Verifies, rule_of};
 
 use sp_areas::around::homes;
 use sp_areas::blocks::Blocks;
+use sp_areas::homeless::first_homeless;
 use sp_areas::homes::Homes;
+use sp_areas::led::led;
 use sp_areas::owners::{Owner, owners};
 use sp_areas::rounds::first_round;
 use sp_areas::whole::first_v1;
@@ -23,6 +27,7 @@ use sp_base::{List, Memory};
 use sp_code::Code;
 use sp_effects::clash::first_clash;
 use sp_effects::effects::{Effects, find_effects};
+use sp_effects::ground::Ground;
 use sp_effects::handed::first_ill_handed;
 use sp_effects::loud::first_loud;
 use sp_rules::laws::verified_code_is_sound;
@@ -165,33 +170,34 @@ fn keep_cells(code: &Code, blocks: &Blocks, shapes: &Shapes) -> Result<(), Rejec
 }
 
 // Whether V6, V7 and V8 are.
-fn keep_effects(
-    code: &Code,
-    blocks: &Blocks,
-    owners: &List<Owner>,
-    homes: &Homes,
-    shapes: &Shapes,
-    effects: &Effects,
-) -> Result<(), Rejected>
-    requires kept { KeepsBefore code.now 6 }
-    requires blocks { IsNumbered blocks.now.first code.now.layouts }
-    requires owners { AreOwners code.now owners.now }
-    requires homes { AreHomes code.now homes.now }
-    requires shapes { AreShapes code.now shapes.now }
-    requires effects { AreEffects code.now effects.now }
-    ensures ok { OnOk result (KeepsBefore code.now 9) }
-    ensures err { IfErr result (λ e. IsRefused code.now e) }
+fn keep_effects(g: &Ground, effects: &Effects) -> Result<(), Rejected>
+    requires known { IsGround g.now }
+    requires kept { KeepsBefore g.now.code.now 6 }
+    requires effects { AreEffects g.now.code.now effects.now }
+    ensures ok { OnOk result (KeepsBefore g.now.code.now 9) }
+    ensures err { IfErr result (λ e. IsRefused g.now.code.now e) }
 {
-    let handed = first_ill_handed(code, owners, effects)?;
-    keep(code, VRule::V6, handed)?;
-    let clash = first_clash(code, blocks, homes, shapes, effects)?;
-    keep(code, VRule::V7, clash)?;
-    let loud = first_loud(code, effects)?;
-    keep(code, VRule::V8, loud)
+    let handed = first_ill_handed(g, effects)?;
+    keep(g.code, VRule::V6, handed)?;
+    let clash = first_clash(g, effects)?;
+    keep(g.code, VRule::V7, clash)?;
+    keep(g.code, VRule::V8, first_loud(g, effects))
 }
 
-// Whether all rules behind V1 are.
-fn keep_others(
+// Whether V3 to V8 are.
+fn keep_shaped(g: &Ground) -> Result<(), Rejected>
+    requires known { IsGround g.now }
+    requires kept { KeepsBefore g.now.code.now 3 }
+    ensures ok { OnOk result (KeepsBefore g.now.code.now 9) }
+    ensures err { IfErr result (λ e. IsRefused g.now.code.now e) }
+{
+    keep_cells(g.code, g.blocks, g.shapes)?;
+    let effects = find_effects(g)?;
+    keep_effects(g, &effects)
+}
+
+// Whether V2 to V8 are.
+fn keep_between(
     code: &Code,
     blocks: &Blocks,
     owners: &List<Owner>,
@@ -201,29 +207,72 @@ fn keep_others(
     requires blocks { IsNumbered blocks.now.first code.now.layouts }
     requires owners { AreOwners code.now owners.now }
     requires homes { AreHomes code.now homes.now }
-    ensures ok { OnOk result (IsVerified code.now) }
+    ensures ok { OnOk result (KeepsBefore code.now 9) }
     ensures err { IfErr result (λ e. IsRefused code.now e) }
 {
     let shapes = keep_shapes(code, blocks, owners, homes)?;
-    keep_cells(code, blocks, &shapes)?;
-    let effects = find_effects(code, blocks, owners, homes, &shapes)?;
-    keep_effects(code, blocks, owners, homes, &shapes, &effects)?;
+    keep_shaped(&Ground {
+        code,
+        blocks,
+        owners,
+        homes,
+        shapes: &shapes,
+    })
+}
+
+// Whether all rules are, by what is around instructions, and by what `first_homeless` finds.
+fn keep_all(
+    code: &Code,
+    blocks: &Blocks,
+    owners: &List<Owner>,
+    homes: &Homes,
+    homeless: Option<u32>,
+) -> Result<(), Rejected>
+    requires blocks { IsNumbered blocks.now.first code.now.layouts }
+    requires owners { AreOwners code.now owners.now }
+    requires homes { AreHomes code.now homes.now }
+    requires homeless { IsLeast (Homeless code.now) homeless }
+    ensures ok { OnOk result (IsVerified code.now) }
+    ensures err { IfErr result (λ e. IsRefused code.now e) }
+{
+    let first = first_v1(code, blocks, owners, homes, homeless)?;
+    keep(code, VRule::V1, first)?;
+    keep_between(code, blocks, owners, homes)?;
     let round = first_round(code, owners)?;
     keep(code, VRule::V9, round)
 }
 
-// Whether all rules are.
+// The same, by whose code each instruction is.
+fn keep_owned(code: &Code, blocks: &Blocks, owners: &List<Owner>) -> Result<(), Rejected>
+    requires blocks { IsNumbered blocks.now.first code.now.layouts }
+    requires owners { AreOwners code.now owners.now }
+    ensures ok { OnOk result (IsVerified code.now) }
+    ensures err { IfErr result (λ e. IsRefused code.now e) }
+{
+    let led = led(code, blocks)?;
+    let homeless = first_homeless(code, blocks, &led)?;
+    let homes = homes(code, blocks, owners, led)?;
+    keep_all(code, blocks, owners, &homes, homeless)
+}
+
+// The same, by the blocks.
+fn keep_numbered(code: &Code, blocks: &Blocks) -> Result<(), Rejected>
+    requires { IsNumbered blocks.now.first code.now.layouts }
+    ensures ok { OnOk result (IsVerified code.now) }
+    ensures err { IfErr result (λ e. IsRefused code.now e) }
+{
+    let owners = owners(code, blocks)?;
+    keep_owned(code, blocks, &owners)
+}
+
+// Whether all rules are kept.
 fn judge(code: &Code) -> Result<(), Rejected>
     ensures ok { OnOk result (IsVerified code.now) }
     ensures err { IfErr result (λ e. IsRefused code.now e) }
 {
     let parts = code.parts();
     let blocks = Blocks::of(parts.instrs.alloc(), parts.layouts.items())?;
-    let owners = owners(code)?;
-    let homes = homes(code, &blocks, &owners)?;
-    let first = first_v1(code, &blocks, &owners, &homes)?;
-    keep(code, VRule::V1, first)?;
-    keep_others(code, &blocks, &owners, &homes)
+    keep_numbered(code, &blocks)
 }
 
 /// Verifies code: it is verified exactly where it breaks no rule. Otherwise it is let go. The only other answer is want

@@ -60,15 +60,15 @@ one_listed fs ss rest i f s at e =
 
 -- ---- going over variables
 
-pub outer_on : (e : Effects) (ks : List (ℕ × ℕ)) (j n : ℕ) (xs : List ℕ) (i : ℕ) → i < length xs
-    → is_outer e ks j n (get_or xs i 0) ≡ false
-    → meets_outer e ks j n (drop i xs) ≡ meets_outer e ks j n xs
-    → meets_outer e ks j n (drop (i + 1) xs) ≡ meets_outer e ks j n xs
-outer_on e ks j n xs i h f g = sym (at_drop_more (meets_outer e ks j n) xs i 0 h
-    ∙ ap (λ b. b || meets_outer e ks j n (drop (i + 1) xs)) f) ∙ g
+pub outer_on : (e : Effects) (n : ℕ) (xs : List ℕ) (i : ℕ) → i < length xs
+    → is_outer e n (get_or xs i 0) ≡ false
+    → meets_outer e n (drop i xs) ≡ meets_outer e n xs
+    → meets_outer e n (drop (i + 1) xs) ≡ meets_outer e n xs
+outer_on e n xs i h f g = sym (at_drop_more (meets_outer e n) xs i 0 h
+    ∙ ap (λ b. b || meets_outer e n (drop (i + 1) xs)) f) ∙ g
 
-pub outer_here : (e : Effects) (ks : List (ℕ × ℕ)) (j n : ℕ) (xs : List ℕ) (i : ℕ) → i < length xs
-    → is_outer e ks j n (get_or xs i 0) ≡ true
-    → meets_outer e ks j n (drop i xs) ≡ meets_outer e ks j n xs → true ≡ meets_outer e ks j n xs
-outer_here e ks j n xs i h f g = sym (at_drop_more (meets_outer e ks j n) xs i 0 h
-    ∙ ap (λ b. b || meets_outer e ks j n (drop (i + 1) xs)) f) ∙ g
+pub outer_here : (e : Effects) (n : ℕ) (xs : List ℕ) (i : ℕ) → i < length xs
+    → is_outer e n (get_or xs i 0) ≡ true
+    → meets_outer e n (drop i xs) ≡ meets_outer e n xs → true ≡ meets_outer e n xs
+outer_here e n xs i h f g = sym (at_drop_more (meets_outer e n) xs i 0 h
+    ∙ ap (λ b. b || meets_outer e n (drop (i + 1) xs)) f) ∙ g

@@ -2,7 +2,7 @@
 use Rattle.std.proofs.Common.{◌≡◌, inl, inr, ⊎_elim, refl, ap, sym, ◌∙◌, subst, ℕ, zero, suc, ◌<◌, ◌==◌, List, [], ◌∷◌}
 use Rattle.std.proofs.Common.{length, Option, Some, None, Bool, true, false, if◌then◌else◌, arith, eqb-true}
 use Rattle.std.specs.Prelude.{slice_get}
-use Rattle.std.proofs.lemmas.Bool.{eq-eqb, cases_eq}
+use Rattle.std.proofs.lemmas.Bool.{eq-eqb}
 use Rattle.std.proofs.lemmas.Option.{slice_get_within, none-some, same_Some}
 use Rattle.sp_base.proofs.Facts.{not_true_and_false}
 use Rattle.sp_tree.specs.Interference.{IsMember}
@@ -11,7 +11,6 @@ use Rattle.sp_code.specs.declared.instr.Instr.TheVariants as i
 use Rattle.sp_code.specs.declared.code.Layout.{Layout}
 use Rattle.sp_code.specs.declared.code.ChildTable.{ChildTable}
 use Rattle.sp_code.specs.declared.code.Parts.{Parts}
-use Rattle.sp_code.specs.Machine.{layout_of}
 use Rattle.sp_rules.specs.Areas.{Area, Body, Child, instr_at, child_at, table_named, entry, entry_of_layout}
 use Rattle.sp_rules.specs.Areas.{entry_of_child}
 use Rattle.sp_rules.specs.Shapes.{Shape}
@@ -20,7 +19,7 @@ use Rattle.sp_rules.specs.Touched.{stored_by, loaded_by}
 use Rattle.sp_rules.specs.Effects.{Kind, Stored, Loaded, IsAside, IsNumber, IsActual, Becomes, IsStarted, IsCalled}
 use Rattle.sp_rules.specs.Effects.{Does, IsEffect}
 use Rattle.sp_rules.specs.Verdict.{HasStop, is_stop}
-use Rattle.sp_rules.specs.Named.{BreaksV1, BlocksApart, InTwo, LiesIn}
+use Rattle.sp_rules.specs.Named.{BreaksV1, InTwo, LiesIn}
 use Rattle.sp_areas.specs.declared.owners.Owner.{Owner}
 use Rattle.sp_areas.specs.declared.owners.Owner.TheVariants as owner
 use Rattle.sp_areas.specs.Owners.{AreOwners, Owns}
@@ -31,14 +30,15 @@ use Rattle.sp_effects.specs.declared.edges.Edge.TheVariants as edge
 use Rattle.sp_effects.specs.declared.facts.Fact.{Fact}
 use Rattle.sp_effects.specs.declared.facts.Deed.{Deed}
 use Rattle.sp_effects.specs.declared.facts.Deed.TheVariants as deed
-use Rattle.sp_effects.specs.Facts.{has_fact, fact, has_pair, Tells}
+use Rattle.sp_effects.specs.Facts.{has_fact, fact, Tells}
 use Rattle.sp_effects.specs.Own.{DoesAt, OwnBefore}
 use Rattle.sp_effects.specs.Edges.{EdgeAt, AreEdges}
 use Rattle.sp_effects.specs.Effects.{Comes}
-use Rattle.sp_effects.specs.Closing.{AreOwn, is_own, is_index, fact_along, Leads, FollowsBy, Closes, ClosesBy, IsDeed}
+use Rattle.sp_effects.specs.Closing.{is_own, is_index, fact_along, Leads, FollowsBy, Closes, ClosesBy, IsDeed}
 use Rattle.sp_effects.specs.Closing.{AreFacts}
-use Rattle.sp_effects.proofs.Owns.{in_member, member_in}
-use Rattle.sp_effects.proofs.Linking.{name_of, layout_place, entry_within}
+use Rattle.sp_effects.specs.Variables.{AreOwn, owns}
+use Rattle.sp_effects.proofs.Linking.{name_of, entry_within}
+use Rattle.sp_effects.proofs.Owned.{begins, in_own, own_in}
 
 -- ---- areas by their first instructions
 
@@ -47,22 +47,6 @@ owner_is [] p l = absurd (omega (arith, l))
 owner_is (o ∷ os) zero l = (o, refl)
 owner_is (o ∷ os) (suc p) l = owner_is os p (omega (arith, l))
 
-layout_some : (ls : List Layout) (j : ℕ) (l : Layout) → slice_get ls j ≡ Some l → (m : Layout)
-    × (layout_of ls l.block ≡ Some m)
-layout_some [] j l e = absurd (none-some l e)
-layout_some (k ∷ ls) zero l e = go (k.block == l.block) refl
-  where
-    go : (t : Bool) → k.block == l.block ≡ t → (m : Layout) × ((if t then Some k else layout_of ls l.block) ≡ Some m)
-    go true h = (k, refl)
-    go false h = absurd (not_true_and_false (k.block == l.block)
-        (eq-eqb k.block l.block (ap (λ (x : Layout). x.block) (same_Some k l e))) h)
-layout_some (k ∷ ls) (suc j) l e = go (k.block == l.block) (layout_some ls j l e)
-  where
-    go : (t : Bool) → (m : Layout) × (layout_of ls l.block ≡ Some m) → (m : Layout)
-        × ((if t then Some k else layout_of ls l.block) ≡ Some m)
-    go true h = (k, refl)
-    go false h = h
-
 module _ (c : Parts) (kept : (p : ℕ) → BreaksV1 c p → ⊥) (os : List Owner) (owners : AreOwners c os) where
   alone : (p : ℕ) (o : Owner) → Owns c p o → (a b : Area) → LiesIn c p a → LiesIn c p b → a ≡ b
   alone p owner.Nobody h a b la lb = absurd (h a la)
@@ -70,44 +54,14 @@ module _ (c : Parts) (kept : (p : ℕ) → BreaksV1 c p → ⊥) (os : List Owne
   alone p (owner.Child q k) h a b la lb = h.only a la ∙ sym (h.only b lb)
   alone p owner.Several h a b la lb = absurd (kept p (InTwo (h.one, h.lies, inl (h.other, h.too, h.apart))))
 
-  begins : (a : Area) → IsArea c a → LiesIn c (entry c a) a
-  begins a i = (i, record { steps = 0; way = refl })
-
   pub one_area : (a b : Area) → IsArea c a → IsArea c b → entry c a ≡ entry c b → a ≡ b
   one_area a b ia ib e =
       let l = entry_within c kept a ia in
       let o = owner_is os (entry c a) (let s = owners.0 in omega (arith, l, s)) in
-      alone (entry c a) o.0 (owners.1 (entry c a) o.0 o.1) a b (begins a ia)
-      (subst (λ p. LiesIn c p b) (sym e) (begins b ib))
-
-  -- ---- variables of a block's own
-
-  same_layout : (f j : ℕ) (l m : Layout) → layout_of c.layouts f ≡ Some l → slice_get c.layouts j ≡ Some m
-      → l.entry ≡ m.entry → m ≡ l
-  same_layout f j l m e g s =
-      let r = layout_some c.layouts j m g in
-      let q = layout_place c.layouts m.block r.0 r.1 in
-      let first : layout_of c.layouts m.block ≡ Some m =
-      ⊎_elim (λ z. r.1 ∙ (sym q.1 ∙ ap (slice_get c.layouts) z
-      ∙ g)) (λ d. absurd (kept m.entry (BlocksApart (j, m, g, refl, inl (q.0, r.0, q.1, d, q.2)))))
-      (cases_eq q.0 j) in
-      let a : Body m.block ≡ Body f = one_area (Body m.block) (Body f) (m, first) (l, e) (ap entry_of_layout first
-      ∙ sym s ∙ sym (ap entry_of_layout e)) in
-      let b : m.block ≡ f = cc (a) in
-      same_Some m l (sym first ∙ ap (layout_of c.layouts) b ∙ e)
+      alone (entry c a) o.0 (owners.1 (entry c a) o.0 o.1) a b (begins c kept a ia)
+      (subst (λ p. LiesIn c p b) (sym e) (begins c kept b ib))
 
   module _ (ks : List (ℕ × ℕ)) (are_own : AreOwn c ks) where
-    own_in : (f : ℕ) (l : Layout) (x : ℕ) → layout_of c.layouts f ≡ Some l → has_pair ks (l.entry, x) ≡ true
-        → IsMember x l.variables
-    own_in f l x e h =
-        let o = (are_own (l.entry, x)).0 h in
-        in_member x l.variables (subst (λ (z : Layout). IsIn x z.variables) (same_layout f o.0 l o.1 e o.2 o.3.0) o.3.1)
-
-    in_own : (f : ℕ) (l : Layout) (x : ℕ) → layout_of c.layouts f ≡ Some l → IsMember x l.variables
-        → has_pair ks (l.entry, x) ≡ true
-    in_own f l x e h = let j = layout_place c.layouts f l e in (are_own (l.entry, x)).1
-        (j.0, l, j.1, (refl, member_in x l.variables h))
-
     -- ---- each follows
 
     -- an area does it
@@ -150,11 +104,19 @@ module _ (c : Parts) (kept : (p : ℕ) → BreaksV1 c p → ⊥) (os : List Owne
         by_call true (deed.Stores x) z h e = absurd (none-some g e)
         by_call false (deed.Stores x) z h e = led a (deed.Stores x) g ia e
             (called_effect c (Does c) Stored a p f up x x ss l call
-            (inl (refl, λ m. not_true_and_false (has_pair ks (l.entry, x)) (in_own f l x call.layout m) (sym z))) h)
+            (inl (
+              refl,
+              λ m. not_true_and_false (owns ks l.entry x) (in_own c kept ks are_own f l call.layout x m)
+                  (sym z),
+            )) h)
         by_call true (deed.Loads x) z h e = absurd (none-some g e)
         by_call false (deed.Loads x) z h e = led a (deed.Loads x) g ia e
             (called_effect c (Does c) Loaded a p f up x x ss l call
-            (inl (refl, λ m. not_true_and_false (has_pair ks (l.entry, x)) (in_own f l x call.layout m) (sym z))) h)
+            (inl (
+              refl,
+              λ m. not_true_and_false (owns ks l.entry x) (in_own c kept ks are_own f l call.layout x m)
+                  (sym z),
+            )) h)
         by_call own deed.Stops z h e = led a deed.Stops g ia e (Body f ∷ h.0, inr (p, f, up, ss, l, refl, call, h.1))
 
         by_pass : (k y x : ℕ) (own : Bool) (d : Deed) → IsNumber l k y → IsActual l ss k x → IsDeed c (Body f) d
@@ -328,11 +290,11 @@ module _ (c : Parts) (kept : (p : ℕ) → BreaksV1 c p → ⊥) (os : List Owne
           at_entry d h = subst (λ n. has_fact new (fact n d) ≡ true) (ap entry_of_layout call.layout)
               (h (l, call.layout))
 
-          outer : (x : ℕ) → (IsMember x l.variables → ⊥) → has_pair ks (l.entry, x) ≡ false
-          outer x never = go (has_pair ks (l.entry, x)) refl
+          outer : (x : ℕ) → (IsMember x l.variables → ⊥) → owns ks l.entry x ≡ false
+          outer x never = go (owns ks l.entry x) refl
             where
-              go : (b : Bool) → has_pair ks (l.entry, x) ≡ b → b ≡ false
-              go true e = absurd (never (own_in f l x call.layout e))
+              go : (b : Bool) → owns ks l.entry x ≡ b → b ≡ false
+              go true e = absurd (never (own_in c kept ks are_own f l call.layout x e))
               go false e = refl
 
           from_called : (d : Deed)

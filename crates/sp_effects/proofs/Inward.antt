@@ -21,24 +21,23 @@ use Rattle.sp_rules.specs.Verdict.{Inside}
 use Rattle.sp_rules.proofs.Scoping.{area_drop, homes_step, inner, is_block_of}
 use Rattle.sp_rules.proofs.Walking.{passes}
 use Rattle.sp_areas.specs.Alone.{Marks, flag_at}
-use Rattle.sp_areas.specs.Levels.{block_at}
 use Rattle.sp_areas.specs.Only.{LiesOnlyIn}
 use Rattle.sp_shapes.specs.declared.shapes.Shapes.{Shapes}
 use Rattle.sp_shapes.specs.Shapes.{AreShapes}
+use Rattle.sp_shapes.specs.Reached.{reached_at}
 use Rattle.sp_shapes.specs.Stacks.{list_of}
-use Rattle.sp_effects.specs.Calls.{reached}
-use Rattle.sp_effects.specs.Turns as turns
+use Rattle.sp_shapes.proofs.Reaching.{stands}
 use Rattle.sp_effects.specs.Turns.{AreInside, CallsInside, SomeCalls, inside_of, is_inside}
 
 -- ---- where a block stands among those around code
 
-block_is : (b : ℕ) (h : Option Home) → turns.is_block b (block_at h) ≡ true → h ≡ Some (OfBlock b)
+block_is : (b : ℕ) (h : Option Home) → is_block (Some b) h ≡ true → h ≡ Some (OfBlock b)
 block_is b None e = absurd (cc e)
-block_is b (Some (OfBlock d)) e = ap (λ z. Some (OfBlock z)) (eqb-true d b e)
+block_is b (Some (OfBlock d)) e = ap (λ z. Some (OfBlock z)) (sym (eqb-true b d e))
 block_is b (Some (OfIndex x)) e = absurd (cc e)
 
-is_block_here : (b : ℕ) (h : Option Home) → h ≡ Some (OfBlock b) → turns.is_block b (block_at h) ≡ true
-is_block_here b h e = ap (λ z. turns.is_block b (block_at z)) e ∙ eq-eqb b b refl
+is_block_here : (b : ℕ) (h : Option Home) → h ≡ Some (OfBlock b) → is_block (Some b) h ≡ true
+is_block_here b h e = ap (is_block (Some b)) e ∙ eq-eqb b b refl
 
 module _ (c : Parts) where
   -- a block around code is around the block whose code that is
@@ -87,7 +86,7 @@ module _ (c : Parts) where
         omega (arith, m, v, x, y, f, g)
 
     pub inside_is : is_inside (homes c a) b up ≡ true → Inside c (block_of c a) b
-    inside_is e = let r = and_parts (nat_lt 0 up) (turns.is_block b (block_at (slice_get (homes c a) (up - 1)))) e in
+    inside_is e = let r = and_parts (nat_lt 0 up) (is_block (Some b) (slice_get (homes c a) (up - 1))) e in
         to_block a (up - 1) b (block_is b (slice_get (homes c a) (up - 1)) r.1)
 
     pub is_inside_here : Inside c (block_of c a) b → is_inside (homes c a) b up ≡ true
@@ -95,30 +94,26 @@ module _ (c : Parts) where
         let r = from_block a b h in
         let s = just_inside r.0 r.1 in
         let t : r.0 ≡ up - 1 = omega (arith, s) in
-        and_from (nat_lt 0 up) (turns.is_block b (block_at (slice_get (homes c a) (up - 1)))) (Prim.grind (arith, s))
+        and_from (nat_lt 0 up) (is_block (Some b) (slice_get (homes c a) (up - 1))) (Prim.grind (arith, s))
         (is_block_here b (slice_get (homes c a) (up - 1)) (ap (slice_get (homes c a)) (sym t) ∙ r.1))
 
 -- ---- flags
 
 module _ (c : Parts) (k : Keeps c) (first : BTreeMap ℕ ℕ) (s : Shapes) (shapes : AreShapes c s) where
-  pub reached_is : (o : Option (Option ℕ)) (n : ℕ) → reached o ≡ Some n → o ≡ Some (Some n)
-  reached_is None n e = absurd (none-some n e)
-  reached_is (Some o) n e = ap Some e
-
-  pub only : (p n : ℕ) → reached (slice_get s.at p) ≡ Some n → (a : Area) × LiesOnlyIn c p a
+  pub only : (p n : ℕ) → reached_at s p ≡ Some n → (a : Area) × LiesOnlyIn c p a
   only p n e =
-      let r = shapes.come p n (reached_is (slice_get s.at p) n e) in
+      let r = shapes.come p n (stands s p n e) in
       let l : LiesIn c p r.0 = (r.1.0, passes c r.0 p (list_of s.stacks n) r.1.1) in
       (r.0, (l, λ b m. k.apart p b r.0 m l))
 
   -- what an instruction that is reached calls inside itself
-  module _ (p : ℕ) (o : Option ℕ) (come : (a : Area) (n : ℕ) → LiesOnlyIn c p a → reached (slice_get s.at p) ≡ Some n
+  module _ (p : ℕ) (o : Option ℕ) (come : (a : Area) (n : ℕ) → LiesOnlyIn c p a → reached_at s p ≡ Some n
       → o ≡ inside_of (homes c a) first (instr_at c p))
-      (none : reached (slice_get s.at p) ≡ None → o ≡ None) where
+      (none : reached_at s p ≡ None → o ≡ None) where
     pub placed_is : (j : ℕ) → o ≡ Some j → CallsInside c first s p j
-    placed_is j e = go (reached (slice_get s.at p)) refl
+    placed_is j e = go (reached_at s p) refl
       where
-        go : (t : Option ℕ) → reached (slice_get s.at p) ≡ t → CallsInside c first s p j
+        go : (t : Option ℕ) → reached_at s p ≡ t → CallsInside c first s p j
         go None h = absurd (none-some j (sym (none h) ∙ e))
         go (Some n) h = let a = only p n h in
             record { area = a.0; lies = a.1; stack = n; come = h; calls = sym (come a.0 n a.1 h) ∙ e }

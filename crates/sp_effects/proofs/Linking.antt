@@ -26,11 +26,12 @@ use Rattle.sp_rules.specs.Rules.{ComesTo}
 use Rattle.sp_areas.specs.Only.{LiesOnlyIn}
 use Rattle.sp_shapes.specs.declared.shapes.Shapes.{Shapes}
 use Rattle.sp_shapes.specs.Shapes.{AreShapes}
+use Rattle.sp_shapes.specs.Reached.{reached_at}
+use Rattle.sp_shapes.proofs.Reaching.{reached_there, stands}
 use Rattle.sp_shapes.specs.Stacks.{list_of}
 use Rattle.sp_rules.proofs.Walking.{passes}
 use Rattle.sp_effects.specs.declared.edges.Edge.{Edge}
 use Rattle.sp_effects.specs.declared.edges.Edge.TheVariants as edge
-use Rattle.sp_effects.specs.Own.{flat}
 use Rattle.sp_effects.specs.Edges.{InRow, HasEdge, Puts, Links, passed_by, formal_at, deep_edge, IsDeep, IsDeeper}
 use Rattle.sp_effects.specs.Edges.{IsPassed, called_block, IsCall, IsStart, OneStarts, CalledAt, StartedAt, EdgeAt}
 use Rattle.sp_effects.specs.Edges.{HasEdges}
@@ -263,20 +264,17 @@ none_below ss at j e h d l = ap (slice_get ss) further ∙ sym (h (d - j))
 
 -- ---- at an instruction
 
-called_is : (o : Option Instr) (f : ℕ) → called_block o ≡ Some f → (up : ℕ) × (o ≡ Some (i.Call f up))
+pub called_is : (o : Option Instr) (f : ℕ) → called_block o ≡ Some f → (up : ℕ) × (o ≡ Some (i.Call f up))
 called_is None f e = absurd (none-some f e)
 called_is (Some (i.Call b up)) f e = (up, ap (λ z. Some (i.Call z up)) (same_Some b f e))
 called_is (Some o) f e = absurd (none-some f e)
 
-flat_is : (o : Option (Option ℕ)) (s : ℕ) → flat o ≡ Some s → o ≡ Some (Some s)
-flat_is None s e = absurd (none-some s e)
-flat_is (Some o) s e = ap Some e
-
 module _ (c : Parts) (p : ℕ) where
   module _ (shapes : Shapes) (are : AreShapes c shapes) where
-    pub no_stack : (a : List (List Edge)) → flat (slice_get shapes.at p) ≡ None → Links a a (CalledAt c p)
+    pub no_stack : (a : List (List Edge)) → reached_at shapes p ≡ None → Links a a (CalledAt c p)
     no_stack a e = links_none a (CalledAt c p)
-        (λ m g w. let k = are.all w.0 p w.3 (w.5, w.6.reached) in none-some k.0 (sym e ∙ ap flat k.1))
+        (λ m g w. let k = are.all w.0 p w.3 (w.5, w.6.reached) in none-some k.0 (sym e
+        ∙ reached_there shapes p k.0 k.1))
 
   pub no_call : (a : List (List Edge)) → called_block (instr_at c p) ≡ None → Links a a (CalledAt c p)
   no_call a e = links_none a (CalledAt c p) (λ m g w. none-some w.1 (sym e ∙ ap called_block w.6.call))
@@ -288,7 +286,7 @@ module _ (c : Parts) (p : ℕ) where
 
   module _ (a : Area) (n : ℕ) (only : LiesOnlyIn c p a) (at : entry c a ≡ n) where
     pub call_at : (x y : List (List Edge)) (shapes : Shapes) (s f : ℕ) (l : Layout) → AreShapes c shapes
-        → flat (slice_get shapes.at p) ≡ Some s → called_block (instr_at c p) ≡ Some f → layout_of c.layouts f ≡ Some l
+        → reached_at shapes p ≡ Some s → called_block (instr_at c p) ≡ Some f → layout_of c.layouts f ≡ Some l
         → Links x y (IsCall l n (list_of shapes.stacks s)) → Links x y (CalledAt c p)
     call_at x y shapes s f l are e b h t = links_as x y (IsCall l n ss) (CalledAt c p) to from t
       where
@@ -296,7 +294,7 @@ module _ (c : Parts) (p : ℕ) where
         ss = list_of shapes.stacks s
 
         here : slice_get shapes.at p ≡ Some (Some s)
-        here = flat_is (slice_get shapes.at p) s e
+        here = stands shapes p s e
 
         same_area : (d : Area) (ts : List Shape) → ComesTo c d p ts → d ≡ a
         same_area d ts w = only.1 d (w.0, passes c d p ts w.1)

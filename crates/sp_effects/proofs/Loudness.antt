@@ -1,5 +1,5 @@
 -- Rule V8: what the pass finds is broken, and what is broken it finds.
-use Rattle.std.proofs.Common.{◌≡◌, inl, inr, ⊎_elim, sym, ap, subst, ◌∙◌, ℕ, List, [], length, Option, Some, None, Bool}
+use Rattle.std.proofs.Common.{◌≡◌, inl, inr, ⊎_elim, sym, ap, subst, ◌∙◌, ℕ, List, length, Option, Some, None, Bool}
 use Rattle.std.proofs.Common.{true, ◌||◌, arith}
 use Rattle.std.specs.Prelude.{slice_get}
 use Rattle.std.proofs.lemmas.Option.{slice_get_within}
@@ -18,34 +18,39 @@ use Rattle.sp_effects.specs.declared.effects.Deeds.{Deeds}
 use Rattle.sp_effects.specs.declared.effects.Effects.{Effects}
 use Rattle.sp_effects.specs.Effects.{AreEffects, AreDeeds}
 use Rattle.sp_effects.specs.Loud.{IsLoud, LayoutLoud, is_loud}
-use Rattle.sp_effects.specs.Variables.{goes_out, with_layouts}
+use Rattle.sp_effects.specs.Variables.{AreOwn, goes_out}
 use Rattle.sp_effects.proofs.Owned.{layout_here, one_layout, out_from, out_is}
 
 -- ---- one layout
 
-module _ (ls : List Layout) (j : ℕ) (l : Layout) (is : slice_get ls j ≡ Some l) (ks : List (ℕ
-    × ℕ)) (own : ks ≡ with_layouts [] 0 ls) where
-  loud_is : (o : Option Deeds) → is_loud ks j l o ≡ true → IsLoud l o
+module _ (c : Parts) (kept : (p : ℕ) → BreaksV1 c p → ⊥) (ks : List (ℕ × ℕ)) (own : AreOwn c ks) (j : ℕ) (l : Layout)
+    (is : slice_get c.layouts j ≡ Some l) where
+  at : layout_of c.layouts l.block ≡ Some l
+  at = layout_here c kept j l is
+
+  loud_is : (o : Option Deeds) → is_loud ks l o ≡ true → IsLoud l o
   loud_is None e = absurd (cc e)
   loud_is (Some d) e =
-      let b = and_parts l.answer (d.stops || goes_out ks j 0 d.stored) e in (
+      let b = and_parts l.answer (d.stops || goes_out ks l.entry 0 d.stored) e in (
         b.0,
-        ⊎_elim (λ h. inr h) (λ h. let r = out_is ls j l is ks own 0 d.stored h in inl (r.0, r.1, r.3))
-            (or_cases d.stops (goes_out ks j 0 d.stored) b.1),
+        ⊎_elim (λ h. inr h)
+            (λ h. let r = out_is c kept ks own l.block l at 0 d.stored h in inl (r.0, r.1, r.3))
+            (or_cases d.stops (goes_out ks l.entry 0 d.stored) b.1),
       )
 
-  loud_from : (o : Option Deeds) → IsLoud l o → is_loud ks j l o ≡ true
+  loud_from : (o : Option Deeds) → IsLoud l o → is_loud ks l o ≡ true
   loud_from None h = absurd h
   loud_from (Some d) (a, inr s) = and_from l.answer (d.stops
-      || goes_out ks j 0 d.stored) a (or_left d.stops (goes_out ks j 0 d.stored) s)
+      || goes_out ks l.entry 0 d.stored) a (or_left d.stops (goes_out ks l.entry 0 d.stored) s)
   loud_from (Some d) (a, inl (x, i, m)) =
-      and_from l.answer (d.stops || goes_out ks j 0 d.stored) a
-      (or_right d.stops (goes_out ks j 0 d.stored) (out_from ls j l is ks own 0 d.stored x i (omega arith) m))
+      and_from l.answer (d.stops || goes_out ks l.entry 0 d.stored) a
+      (or_right d.stops (goes_out ks l.entry 0 d.stored)
+      (out_from c kept ks own l.block l at 0 d.stored x i (omega arith) m))
 
-  pub one_loud : (e : Effects) (b : Bool) (o : Option ℕ) → b ≡ is_loud ks j l (slice_get e.rows l.entry)
-      → IsLeast (λ p. (l.entry ≡ p) × (b ≡ true)) o → IsLeast (LayoutLoud e ls j) o
+  pub one_loud : (e : Effects) (b : Bool) (o : Option ℕ) → b ≡ is_loud ks l (slice_get e.rows l.entry)
+      → IsLeast (λ p. (l.entry ≡ p) × (b ≡ true)) o → IsLeast (LayoutLoud e c.layouts j) o
   one_loud e b o t h =
-      one_layout (λ i m. IsLoud m (slice_get e.rows m.entry)) ls j l b o is
+      one_layout (λ i m. IsLoud m (slice_get e.rows m.entry)) c.layouts j l b o is
       (λ f. loud_is (slice_get e.rows l.entry) (sym t ∙ f)) (λ f. t ∙ loud_from (slice_get e.rows l.entry) f) h
 
 -- ---- the row of a block

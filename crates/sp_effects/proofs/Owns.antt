@@ -16,7 +16,9 @@ use Rattle.sp_tree.specs.Interference.{IsMember}
 use Rattle.sp_code.specs.declared.code.ChildTable.{ChildTable}
 use Rattle.sp_shapes.specs.declared.shapes.Shapes.{Shapes}
 use Rattle.sp_shapes.specs.Shapes.{AreShapes}
+use Rattle.sp_shapes.specs.Reached.{reached_at}
 use Rattle.sp_shapes.specs.Stacks.{list_of}
+use Rattle.sp_shapes.proofs.Reaching.{reached_there, stands}
 use Rattle.std.proofs.lemmas.Option.{none-some, same_Some}
 use Rattle.sp_base.proofs.Facts.{below_or_last}
 use Rattle.sp_effects.specs.declared.facts.Fact.{Fact}
@@ -24,7 +26,7 @@ use Rattle.sp_effects.specs.declared.facts.Deed.{Deed}
 use Rattle.sp_effects.specs.declared.facts.Deed.TheVariants as deed
 use Rattle.sp_effects.specs.Facts.{fact, with_fact, Tells}
 use Rattle.sp_effects.specs.Own.{IsOf, IsAmong, IsStop, IsHanded, OneIsHanded, ForkedAt, ReachedAt, OwnAt, OwnBefore}
-use Rattle.sp_effects.specs.Own.{DoesBy, deed_of, flat}
+use Rattle.sp_effects.specs.Own.{DoesBy, deed_of}
 use Rattle.sp_effects.proofs.Telling.{tells_none, tells_as, tells_then, tells_one}
 
 -- what holds where all went well
@@ -218,22 +220,18 @@ module _ (c : Parts) (p : ℕ) where
   -- ---- where it is reached
 
   module _ (shapes : Shapes) (are : AreShapes c shapes) where
-    pub not_reached : (f : List Fact) → flat (slice_get shapes.at p) ≡ None → Tells f f (ReachedAt c p)
+    pub not_reached : (f : List Fact) → reached_at shapes p ≡ None → Tells f f (ReachedAt c p)
     not_reached f e = tells_none f (ReachedAt c p) (λ z w. absurd (let k = are.all w.0 p w.1 w.2 in none-some k.0 (sym e
-        ∙ ap flat k.1)))
+        ∙ reached_there shapes p k.0 k.1)))
 
-    flat_is : (o : Option (Option ℕ)) (s : ℕ) → flat o ≡ Some s → o ≡ Some (Some s)
-    flat_is None s e = absurd (none-some s e)
-    flat_is (Some o) s e = ap Some e
-
-    pub reached_told : (f g : List Fact) (n s : ℕ) (a : Area) → flat (slice_get shapes.at p) ≡ Some s → LiesOnlyIn c p a
+    pub reached_told : (f g : List Fact) (n s : ℕ) (a : Area) → reached_at shapes p ≡ Some s → LiesOnlyIn c p a
         → entry c a ≡ n
         → Tells f g (IsOf n (DoesBy c a p (list_of shapes.stacks s))) → Tells f g (ReachedAt c p)
     reached_told f g n s a e only at t = tells_as f g (IsOf n (DoesBy c a p (list_of shapes.stacks s)))
         (ReachedAt c p) to from t
       where
         here : slice_get shapes.at p ≡ Some (Some s)
-        here = flat_is (slice_get shapes.at p) s e
+        here = stands shapes p s e
 
         same_area : (b : Area) (ss : List Shape) → ComesTo c b p ss → b ≡ a
         same_area b ss w = only.1 b (w.0, passes c b p ss w.1)

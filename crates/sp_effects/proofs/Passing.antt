@@ -2,14 +2,11 @@
 use Rattle.std.proofs.Common.{◌≡◌, ◌⊎◌, ◌≢◌, inl, inr, ⊎_elim, refl, sym, ap, subst, ◌∙◌, ℕ, zero, suc, ◌-◌, ◌<◌, List}
 use Rattle.std.proofs.Common.{[], ◌∷◌, ◌++◌, Option, Some, None, Bool, true, false, length, arith}
 use Rattle.std.specs.Prelude.{not, slice_get, ◌↔◌}
-use Rattle.std.specs.BTreeMap.{BTreeMap}
 use Rattle.std.proofs.lemmas.Option.{slice_get_within, none-some, same_Some}
 use Rattle.std.proofs.lemmas.Bool.{and_from, and_parts, false_from_ne_true, not-true, not_from_false, or_cases, or_left}
 use Rattle.std.proofs.lemmas.Bool.{or_right}
 use Rattle.sp_base.proofs.Facts.{less_same_or_more, not_true_and_false}
 use Rattle.sp_tree.specs.Interference.{IsMember, AllDifferent}
-use Rattle.sp_code.specs.declared.instr.Instr.{Instr}
-use Rattle.sp_code.specs.declared.instr.Instr.TheVariants as i
 use Rattle.sp_code.specs.declared.code.Formal.{Formal}
 use Rattle.sp_code.specs.declared.code.Formal.TheVariants as formal
 use Rattle.sp_code.specs.declared.code.Layout.{Layout}
@@ -18,23 +15,28 @@ use Rattle.sp_code.specs.Machine.{layout_of}
 use Rattle.sp_rules.specs.Areas.{Area, Body, given, instr_at, entry_of_layout}
 use Rattle.sp_rules.specs.Effects.{Does, HasEffect, IsActual, IsCalled}
 use Rattle.sp_rules.specs.Forks as fork
+use Rattle.sp_rules.specs.Named.{BreaksV1}
 use Rattle.sp_rules.specs.Reach.{IsArea}
 use Rattle.sp_rules.specs.Shapes.{Shape, O, C, L, A}
 use Rattle.sp_rules.specs.Verdict.{HasStop}
 use Rattle.sp_rules.proofs.Lists.{member_or, member_front, member_back, member_either, different_front, different_apart}
-use Rattle.sp_areas.specs.Blocks.{IsNumbered, number_from, number_of}
+use Rattle.sp_areas.specs.Blocks.{number_from}
 use Rattle.sp_areas.proofs.BlockLaws.{place_none, place_some}
 use Rattle.sp_shapes.specs.declared.shapes.Shapes.{Shapes}
 use Rattle.sp_shapes.specs.Shapes.{AreShapes}
+use Rattle.sp_shapes.specs.Reached.{reached_at}
 use Rattle.sp_shapes.specs.Stacks.{list_of}
+use Rattle.sp_shapes.proofs.Reaching.{reached_there, stands}
 use Rattle.sp_effects.specs.declared.effects.Effects.{Effects}
 use Rattle.sp_effects.specs.Effects.{AreEffects, touches}
-use Rattle.sp_effects.specs.Calls.{CallFails, actual_at, actual_of, actuals, call_clashes, called, is_outer, listed}
-use Rattle.sp_effects.specs.Calls.{meets_outer, reached, variable_of}
-use Rattle.sp_effects.specs.Variables.{owns, with_layouts}
+use Rattle.sp_effects.specs.Calls.{CallFails, actual_at, actual_of, actuals, call_clashes, is_outer, listed}
+use Rattle.sp_effects.specs.Calls.{meets_outer, variable_of}
+use Rattle.sp_effects.specs.Edges.{called_block}
+use Rattle.sp_effects.specs.Variables.{owns}
 use Rattle.sp_effects.specs.Sets.{all_new}
 use Rattle.sp_effects.proofs.Members.{new_from, new_is}
-use Rattle.sp_effects.proofs.Owned.{member_own, own_member}
+use Rattle.sp_effects.proofs.Linking.{called_is}
+use Rattle.sp_effects.proofs.Owned.{in_own, own_in}
 use Rattle.sp_effects.proofs.Alone.{different_join}
 
 -- ---- answers that are given
@@ -218,33 +220,33 @@ module _ (l : Layout) (ss : List Shape) where
 
 -- ---- what a block does outside itself
 
-module _ (e : Effects) (ks : List (ℕ × ℕ)) (j entry : ℕ) where
-  outer_is : (xs : List ℕ) → meets_outer e ks j entry xs ≡ true → (x : ℕ) × IsMember x xs × (touches e entry x ≡ true)
-      × (owns ks j x ≡ false)
+module _ (e : Effects) (entry : ℕ) where
+  outer_is : (xs : List ℕ) → meets_outer e entry xs ≡ true → (x : ℕ) × IsMember x xs × (touches e entry x ≡ true)
+      × (owns e.own.keys entry x ≡ false)
   outer_is [] h = absurd (cc h)
   outer_is (x ∷ xs) h =
-      ⊎_elim (λ k. let b = and_parts (touches e entry x) (not (owns ks j x)) k in
-      (x, inl refl, b.0, not-true (owns ks j x) b.1))
+      ⊎_elim (λ k. let b = and_parts (touches e entry x) (not (owns e.own.keys entry x)) k in
+      (x, inl refl, b.0, not-true (owns e.own.keys entry x) b.1))
       (λ k. let r = outer_is xs k in (r.0, inr r.1, r.2, r.3))
-      (or_cases (is_outer e ks j entry x) (meets_outer e ks j entry xs) h)
+      (or_cases (is_outer e entry x) (meets_outer e entry xs) h)
 
-  is_outer_from : (x : ℕ) → touches e entry x ≡ true → owns ks j x ≡ false → is_outer e ks j entry x ≡ true
-  is_outer_from x h f = and_from (touches e entry x) (not (owns ks j x)) h (not_from_false (owns ks j x) f)
+  is_outer_from : (x : ℕ) → touches e entry x ≡ true → owns e.own.keys entry x ≡ false → is_outer e entry x ≡ true
+  is_outer_from x h f = and_from (touches e entry x) (not (owns e.own.keys entry x)) h
+      (not_from_false (owns e.own.keys entry x) f)
 
-  outer_from : (xs : List ℕ) (x : ℕ) → IsMember x xs → touches e entry x ≡ true → owns ks j x ≡ false
-      → meets_outer e ks j entry xs ≡ true
+  outer_from : (xs : List ℕ) (x : ℕ) → IsMember x xs → touches e entry x ≡ true → owns e.own.keys entry x ≡ false
+      → meets_outer e entry xs ≡ true
   outer_from [] x m h f = absurd m
   outer_from (y ∷ ys) x (inl s) h f =
-      or_left (is_outer e ks j entry y) (meets_outer e ks j entry ys)
-      (subst (λ z. is_outer e ks j entry z ≡ true) s (is_outer_from x h f))
-  outer_from (y ∷ ys) x (inr m) h f = or_right (is_outer e ks j entry y) (meets_outer e ks j entry ys)
+      or_left (is_outer e entry y) (meets_outer e entry ys)
+      (subst (λ z. is_outer e entry z ≡ true) s (is_outer_from x h f))
+  outer_from (y ∷ ys) x (inr m) h f = or_right (is_outer e entry y) (meets_outer e entry ys)
       (outer_from ys x m h f)
 
 -- ---- one call
 
-module _ (c : Parts) (e : Effects) (are : AreEffects c e) (ks : List (ℕ × ℕ)) (own : ks ≡ with_layouts [] 0 c.layouts)
-    (j : ℕ) (l : Layout) (is : slice_get c.layouts j ≡ Some l) (b : ℕ) (at : layout_of c.layouts b ≡ Some l)
-    (ss : List Shape) where
+module _ (c : Parts) (e : Effects) (are : AreEffects c e) (kept : (p : ℕ) → BreaksV1 c p → ⊥) (l : Layout) (b : ℕ)
+    (at : layout_of c.layouts b ≡ Some l) (ss : List Shape) where
   touched : (x : ℕ) → (touches e l.entry x ≡ true) ↔ HasEffect c (Does c) (Body b) x
   touched x = subst (λ n. (touches e n x ≡ true) ↔ HasEffect c (Does c) (Body b) x) (ap entry_of_layout at)
       (are.touched (Body b) x (l, at))
@@ -252,45 +254,42 @@ module _ (c : Parts) (e : Effects) (are : AreEffects c e) (ks : List (ℕ × ℕ
   abbrev pub Xs : List ℕ
   Xs = actuals l.formals ss (length l.formals)
 
-  outer_rule : meets_outer e ks j l.entry Xs ≡ true → (k x : ℕ) × IsActual l ss k x
+  outer_rule : meets_outer e l.entry Xs ≡ true → (k x : ℕ) × IsActual l ss k x
       × fork.IsOuter c (Does c) (HasStop c) l b x
   outer_rule h =
-      let r = outer_is e ks j l.entry Xs h in
+      let r = outer_is e l.entry Xs h in
       let i = member_at l ss (length l.formals) r.0 r.1 in (
         length l.formals - 1 - i.0,
         r.0,
         at_is l ss i.0 r.0 i.1 i.2,
         (
           (touched r.0).0 r.2,
-          λ m. not_true_and_false (owns ks j r.0) (ap (λ (z : List (ℕ × ℕ)). owns z j r.0) own
-              ∙ member_own c.layouts j l is r.0 m) r.3,
+          λ m. not_true_and_false (owns e.own.keys l.entry r.0) (in_own c kept e.own.keys are.own b l at r.0 m) r.3,
         ),
       )
 
   rule_outer : (k x : ℕ) × IsActual l ss k x × fork.IsOuter c (Does c) (HasStop c) l b x
-      → meets_outer e ks j l.entry Xs ≡ true
+      → meets_outer e l.entry Xs ≡ true
   rule_outer (k, x, f, (h, m)) =
       let a = is_at l ss k x f in
       let y = a.0 in
-      outer_from e ks j l.entry Xs x (at_member l ss (length l.formals) (length l.formals - 1 - k) x
+      outer_from e l.entry Xs x (at_member l ss (length l.formals) (length l.formals - 1 - k) x
       (omega (arith, y)) a.1) ((touched x).1 h)
-      (false_from_ne_true (owns ks j x) (λ g. m
-      (own_member c.layouts j l is x (sym (ap (λ (z : List (ℕ × ℕ)). owns z j x) own)
-      ∙ g))))
+      (false_from_ne_true (owns e.own.keys l.entry x) (λ g. m (own_in c kept e.own.keys are.own b l at x g)))
 
-  pub clash_rule : call_clashes e ks j l ss ≡ true → fork.BreaksV7 c (Does c) (HasStop c) l b ss
+  pub clash_rule : call_clashes e l ss ≡ true → fork.BreaksV7 c (Does c) (HasStop c) l b ss
   clash_rule h = ⊎_elim (λ k. inl (go (twice_or l ss (length l.formals)) k)) (λ k. inr (outer_rule k))
-      (or_cases (not (all_new [] Xs)) (meets_outer e ks j l.entry Xs) h)
+      (or_cases (not (all_new [] Xs)) (meets_outer e l.entry Xs) h)
     where
       go : Twice l ss (length l.formals) ⊎ AllDifferent Xs → not (all_new [] Xs) ≡ true → IsTwice l ss
       go (inl t) k = twice_is l ss t
       go (inr d) k = absurd (not_true_and_false (all_new [] Xs) (new_from [] Xs d (λ x m. refl))
           (not-true (all_new [] Xs) k))
 
-  pub rule_clash : fork.BreaksV7 c (Does c) (HasStop c) l b ss → call_clashes e ks j l ss ≡ true
-  rule_clash (inl t) = or_left (not (all_new [] Xs)) (meets_outer e ks j l.entry Xs)
+  pub rule_clash : fork.BreaksV7 c (Does c) (HasStop c) l b ss → call_clashes e l ss ≡ true
+  rule_clash (inl t) = or_left (not (all_new [] Xs)) (meets_outer e l.entry Xs)
       (not_from_false (all_new [] Xs) (false_from_ne_true (all_new [] Xs) (λ h. is_twice l ss (new_is [] Xs h).0 t)))
-  rule_clash (inr t) = or_right (not (all_new [] Xs)) (meets_outer e ks j l.entry Xs) (rule_outer t)
+  rule_clash (inr t) = or_right (not (all_new [] Xs)) (meets_outer e l.entry Xs) (rule_outer t)
 
 -- ---- at an instruction
 
@@ -298,14 +297,6 @@ module _ (c : Parts) (e : Effects) (are : AreEffects c e) (ks : List (ℕ × ℕ
 abbrev pub CallBreaks : Parts → ℕ → Type 0
 CallBreaks c p = (a : Area) × (b up : ℕ) × (ss : List Shape) × (l : Layout) × IsArea c a × IsCalled c a p b up ss l
     × fork.BreaksV7 c (Does c) (HasStop c) l b ss
-
-called_is : (o : Option Instr) (b : ℕ) → called o ≡ Some b → (up : ℕ) × (o ≡ Some (i.Call b up))
-called_is (Some (i.Call d up)) b e = (up, ap (λ z. Some (i.Call z up)) (same_Some d b e))
-called_is o b e = absurd (none-some b e)
-
-reached_is : (o : Option (Option ℕ)) (n : ℕ) → reached o ≡ Some n → o ≡ Some (Some n)
-reached_is None n e = absurd (none-some n e)
-reached_is (Some o) n e = ap Some e
 
 -- the place of a layout that is there
 pub place_there : (ls : List Layout) (b : ℕ) (l : Layout) → layout_of ls b ≡ Some l → (j : ℕ)
@@ -316,49 +307,49 @@ place_there ls b l e = go (number_from 0 ls b) refl
     go None f = absurd (none-some l (sym (place_none 0 ls b f) ∙ e))
     go (Some j) f = (j, f, place_some ls b j f ∙ e)
 
-module _ (c : Parts) (e : Effects) (are : AreEffects c e) (ks : List (ℕ × ℕ)) (own : ks ≡ with_layouts [] 0 c.layouts)
-    (first : BTreeMap ℕ ℕ) (numbered : IsNumbered first c.layouts) (s : Shapes) (shapes : AreShapes c s) (p : ℕ) where
-  abbrev pub by_place : ℕ → ℕ → Bool
-  by_place n j = given false (slice_get c.layouts j) (λ l. call_clashes e ks j l (list_of s.stacks n))
+pub call_within : (c : Parts) (e : Effects) (s : Shapes) → AreShapes c s → (p : ℕ) → CallFails c e s p
+    → p < length c.instrs
+call_within c e s shapes p h =
+    let x = given_true (reached_at s p) (λ n. given false (called_block (instr_at c p))
+    (λ b. given false (layout_of c.layouts b) (λ l. call_clashes e l (list_of s.stacks n)))) h in
+    let l = slice_get_within s.at p (Some x.0) (stands s p x.0 x.1) in
+    let z = shapes.size in
+    omega (arith, l, z)
 
+module _ (c : Parts) (e : Effects) (are : AreEffects c e) (kept : (p : ℕ) → BreaksV1 c p → ⊥) (s : Shapes)
+    (shapes : AreShapes c s) (p : ℕ) where
   abbrev pub by_block : ℕ → ℕ → Bool
-  by_block n b = given false (number_of first b) (by_place n)
+  by_block n b = given false (layout_of c.layouts b) (λ l. call_clashes e l (list_of s.stacks n))
 
   abbrev pub by_stack : ℕ → Bool
-  by_stack n = given false (called (instr_at c p)) (by_block n)
+  by_stack n = given false (called_block (instr_at c p)) (by_block n)
 
-  pub call_found : CallFails c e ks first s p → CallBreaks c p
+  pub call_found : CallFails c e s p → CallBreaks c p
   call_found h =
-      let x = given_true (reached (slice_get s.at p)) by_stack h in
+      let x = given_true (reached_at s p) by_stack h in
       let n = x.0 in
-      let y = given_true (called (instr_at c p)) (by_block n) x.2 in
+      let y = given_true (called_block (instr_at c p)) (by_block n) x.2 in
       let b = y.0 in
-      let z = given_true (number_of first b) (by_place n) y.2 in
-      let j = z.0 in
-      let w = given_true (slice_get c.layouts j) (λ l. call_clashes e ks j l (list_of s.stacks n)) z.2 in
-      let l = w.0 in
-      let at = sym (place_some c.layouts b j (sym (numbered b) ∙ z.1)) ∙ w.1 in
-      let come = shapes.come p n (reached_is (slice_get s.at p) n x.1) in
+      let z = given_true (layout_of c.layouts b) (λ l. call_clashes e l (list_of s.stacks n)) y.2 in
+      let come = shapes.come p n (stands s p n x.1) in
       let call = called_is (instr_at c p) b y.1 in (
         come.0,
         b,
         call.0,
         list_of s.stacks n,
-        l,
+        z.0,
         come.1.0,
-        record { reached = come.1.1; call = call.1; layout = at },
-        clash_rule c e are ks own j l w.1 b at (list_of s.stacks n) w.2,
+        record { reached = come.1.1; call = call.1; layout = z.1 },
+        clash_rule c e are kept z.0 b z.1 (list_of s.stacks n) z.2,
       )
 
-  pub call_finds : CallBreaks c p → CallFails c e ks first s p
+  pub call_finds : CallBreaks c p → CallFails c e s p
   call_finds (a, b, up, ss, l, there, is, h) =
       let k = shapes.all a p ss (there, is.reached) in
       let n = k.0 in
-      let j = place_there c.layouts b l is.layout in
-      let clash = rule_clash c e are ks own j.0 l j.2 b is.layout (list_of s.stacks n)
+      let clash = rule_clash c e are kept l b is.layout (list_of s.stacks n)
       (subst (λ (z : List Shape). fork.BreaksV7 c (Does c) (HasStop c) l b z) (sym k.2) h) in
-      given_at false (reached (slice_get s.at p)) by_stack n (ap reached k.1)
-      ∙ given_at false (called (instr_at c p)) (by_block n) b (ap called is.call)
-      ∙ given_at false (number_of first b) (by_place n) j.0 (numbered b ∙ j.1)
-      ∙ given_at false (slice_get c.layouts j.0) (λ m. call_clashes e ks j.0 m (list_of s.stacks n)) l j.2
+      given_at false (reached_at s p) by_stack n (reached_there s p n k.1)
+      ∙ given_at false (called_block (instr_at c p)) (by_block n) b (ap called_block is.call)
+      ∙ given_at false (layout_of c.layouts b) (λ m. call_clashes e m (list_of s.stacks n)) l is.layout
       ∙ clash

@@ -2,6 +2,7 @@
 use Rattle.std.proofs.Common.{◌≡◌, ◌≢◌, ◌⊎◌, inl, inr, ⊎_elim, refl, ap, sym, ◌∙◌, subst, ℕ, zero, suc, ◌+◌, ◌<◌, List}
 use Rattle.std.proofs.Common.{[], ◌∷◌, ◌++◌, length, Some, None, Bool, true, false, arith}
 use Rattle.std.specs.Prelude.{slice_get, slice_set, ◌↔◌, IsTrue}
+use Rattle.std.specs.BTreeSet.{BTreeSet}
 use Rattle.std.proofs.lemmas.List.{length-set}
 use Rattle.std.proofs.lemmas.Option.{slice_get_within, none-some, same_Some}
 use Rattle.std.proofs.lemmas.Bool.{cases_eq, or_cases, or_left, or_right}
@@ -18,6 +19,7 @@ use Rattle.sp_effects.specs.declared.facts.Deed.TheVariants as deed
 use Rattle.sp_effects.specs.Facts.{has_fact, fact}
 use Rattle.sp_effects.specs.Effects.{InRow, HasDeed, Puts, Writes, AreRows, AreDeeds, AreEffects, touches}
 use Rattle.sp_effects.specs.Closing.{IsDeed, AreFacts}
+use Rattle.sp_effects.specs.Variables.{AreOwn}
 use Rattle.sp_effects.proofs.Telling.{told_place, place_told}
 use Rattle.sp_effects.proofs.Linking.{entry_within}
 
@@ -187,7 +189,7 @@ row_at (r ∷ rows) (suc m) l = row_at rows m (omega (arith, l))
 
 module _ (c : Parts) (kept : (p : ℕ) → BreaksV1 c p
     → ⊥) (fs : List Fact) (facts : AreFacts c fs) (rows : List Deeds)
-    (are : AreRows fs (length fs) (length c.instrs) rows) where
+    (are : AreRows fs (length fs) (length c.instrs) rows) (own : BTreeSet (ℕ × ℕ)) (are_own : AreOwn c own.keys) where
   row_is : (a : Area) (r : Deeds) (d : Deed) → IsArea c a → slice_get rows (entry c a) ≡ Some r
       → InRow r d ↔ IsDeed c a d
   row_is a r d ia e = (λ i. (facts a d ia).0 (are.only (entry c a) d (r, e, i)), back)
@@ -199,8 +201,8 @@ module _ (c : Parts) (kept : (p : ℕ) → BreaksV1 c p
           (entry_within c kept a ia) in
           subst (λ (x : Deeds). InRow x d) (same_Some w.0 r (sym w.1 ∙ e)) w.2
 
-  pub are_effects : AreEffects c (record { rows = rows; facts = fs })
-  are_effects = record { rows = there; touched = touched }
+  pub are_effects : AreEffects c (record { rows = rows; facts = fs; own = own })
+  are_effects = record { rows = there; touched = touched; own = are_own }
     where
       there : (a : Area) → IsArea c a → (r : Deeds) × (slice_get rows (entry c a) ≡ Some r) × AreDeeds c a r
       there a ia =
@@ -216,7 +218,7 @@ module _ (c : Parts) (kept : (p : ℕ) → BreaksV1 c p
           )
 
       touched : (a : Area) (x : ℕ) → IsArea c a
-          → IsTrue (touches (record { rows = rows; facts = fs }) (entry c a) x) ↔ HasEffect c (Does c) a x
+          → IsTrue (touches (record { rows = rows; facts = fs; own = own }) (entry c a) x) ↔ HasEffect c (Does c) a x
       touched a x ia = (
         λ i. ⊎_elim (λ h. inl ((facts a (deed.Stores x) ia).0 h)) (λ h. inr ((facts a (deed.Loads x) ia).0 h))
             (or_cases s l i),

@@ -7,13 +7,13 @@ use Rattle.std.proofs.lemmas.Bool.{eq-eqb, and_from, and_parts, or_cases, or_lef
 use Rattle.std.proofs.lemmas.Option.{slice_get_within, none-some, same_Some}
 use Rattle.sp_base.proofs.Facts.{below_or_last}
 use Rattle.sp_code.specs.declared.code.Layout.{Layout}
+use Rattle.sp_code.specs.declared.code.Parts.{Parts}
 use Rattle.sp_effects.specs.declared.edges.Edge.{Edge}
 use Rattle.sp_effects.specs.declared.facts.Fact.{Fact}
 use Rattle.sp_effects.specs.declared.facts.Deed.{Deed}
 use Rattle.sp_effects.specs.Facts.{has_fact, with_fact, pair_cmp, has_pair, Tells}
-use Rattle.sp_effects.specs.Closing.{AddsPairs, IsOwnOf, fact_along, AlongOne, Leads, Follows, ClosesTo}
-use Rattle.sp_effects.specs.Closing.{Closes}
-use Rattle.sp_effects.specs.Closing.{is_own}
+use Rattle.sp_effects.specs.Closing.{AlongOne, Closes, ClosesTo, Follows, Leads, fact_along, is_own}
+use Rattle.sp_effects.specs.Variables.{AddsPairs, AreOwn, IsOwnIn, IsOwnOf}
 use Rattle.sp_effects.proofs.Telling.{told_place, place_told, told_on, tells_as, tells_then, tells_one}
 use Rattle.sp_effects.proofs.Telling.{pair_put}
 use Rattle.sp_effects.proofs.Owns.{in_taken, taken_in}
@@ -63,6 +63,26 @@ none_first ls ks e q = (
       ∙ w in cc (z)),
   λ w. absurd (let l : w.0 < 0 = w.2 in omega (arith, l)),
 )
+
+pub first_more : (ls : List Layout) (j : ℕ) (l : Layout) (old new : List (ℕ × ℕ)) → slice_get ls j ≡ Some l
+    → AreFirst j ls old → AddsPairs old new (IsOwnOf l.entry l.variables) → AreFirst (j + 1) ls new
+first_more ls j l old new e h u q = (
+  λ w. ⊎_elim (λ o. let f = (h q).0 o in (f.0, f.1, (let m = f.2 in omega (arith, m)), f.3, f.4))
+      (λ o. (j, l, omega arith, e, o)) ((u q).0 w),
+  λ w. ⊎_elim (λ m. (u q).1 (inl ((h q).1 (w.0, w.1, m, w.3, w.4))))
+      (λ s. (u q).1 (inr (subst (λ (z : Layout). IsOwnOf z.entry z.variables q)
+      (same_Some w.1 l (sym w.3 ∙ ap (slice_get ls) s ∙ e)) w.4))) (below_or_last w.0 j w.2),
+)
+
+pub first_all : (c : Parts) (ls : List Layout) (n : ℕ) (ks : List (ℕ × ℕ)) → ls ≡ c.layouts → n ≡ length ls
+    → AreFirst n ls ks → AreOwn c ks
+first_all c ls n ks s e h = subst (λ (xs : List Layout). (q : ℕ × ℕ) → (has_pair ks q ≡ true) ↔ IsOwnIn xs q) s all
+  where
+    all : (q : ℕ × ℕ) → (has_pair ks q ≡ true) ↔ IsOwnIn ls q
+    all q = (
+      λ w. let f = (h q).0 w in (f.0, f.1, f.3, f.4),
+      λ w. (h q).1 (w.0, w.1, (let m = slice_get_within ls w.0 w.1 w.2 in omega (arith, m, e)), w.2, w.3),
+    )
 
 -- ---- along edges
 

@@ -1,5 +1,5 @@
 -- Rule V7: what the passes find is broken, and what is broken they find.
-use Rattle.std.proofs.Common.{◌≡◌, inl, inr, ⊎_elim, refl, sym, ap, subst, ◌∙◌, ℕ, ◌<◌, List, [], length, Option, Some}
+use Rattle.std.proofs.Common.{◌≡◌, inl, inr, ⊎_elim, refl, sym, ap, subst, ◌∙◌, ℕ, ◌<◌, List, length, Option, Some}
 use Rattle.std.proofs.Common.{None, Bool, true, false, ◌||◌, if◌then◌else◌, ◌==◌, arith, eqb-true}
 use Rattle.std.specs.Prelude.{slice_get}
 use Rattle.std.specs.BTreeMap.{BTreeMap}
@@ -32,50 +32,59 @@ use Rattle.sp_areas.proofs.Leasts.{all, both, same}
 use Rattle.sp_shapes.specs.declared.shapes.Shapes.{Shapes}
 use Rattle.sp_shapes.specs.Shapes.{AreShapes}
 use Rattle.sp_shapes.specs.Stacks.{list_of}
+use Rattle.sp_shapes.proofs.Reaching.{reached_there, stands}
 use Rattle.sp_effects.specs.declared.effects.Deeds.{Deeds}
 use Rattle.sp_effects.specs.declared.effects.Effects.{Effects}
-use Rattle.sp_effects.specs.Calls.{CallFails, reached}
+use Rattle.sp_effects.specs.Calls.{CallFails}
 use Rattle.sp_effects.specs.Effects.{AreEffects, AreDeeds}
 use Rattle.sp_effects.specs.Turns.{AreInside, LayoutTurns, SomeCalls, Turns, inside_of, is_inside, turns}
-use Rattle.sp_effects.specs.Variables.{goes_out, with_layouts}
-use Rattle.sp_effects.proofs.Inward.{inside_is, is_inside_here, reached_is}
+use Rattle.sp_effects.specs.Variables.{AreOwn, goes_out}
+use Rattle.sp_effects.proofs.Inward.{inside_is, is_inside_here}
 use Rattle.sp_effects.proofs.Loudness.{body_row}
 use Rattle.sp_effects.proofs.Owned.{layout_here, one_layout, out_from, out_is}
 use Rattle.sp_effects.proofs.Passing.{CallBreaks, call_found, call_finds, place_there}
 
 -- ---- one layout
 
-module _ (ls : List Layout) (j : ℕ) (l : Layout) (is : slice_get ls j ≡ Some l) (ks : List (ℕ
-    × ℕ)) (own : ks ≡ with_layouts [] 0 ls) (flags : List Bool) where
-  turns_is : (o : Option Deeds) → turns ks flags j o ≡ true → Turns flags j l o
-  turns_is None e = absurd (cc e)
-  turns_is (Some d) e =
-      let b = and_parts (flag_at flags j) (goes_out ks j 2 d.stored || goes_out ks j 2 d.loaded) e in (
+module _ (c : Parts) (kept : (p : ℕ) → BreaksV1 c p → ⊥) (ks : List (ℕ × ℕ)) (own : AreOwn c ks) (j : ℕ) (l : Layout)
+    (is : slice_get c.layouts j ≡ Some l) where
+  here : layout_of c.layouts l.block ≡ Some l
+  here = layout_here c kept j l is
+
+  abbrev pub Out : List ℕ → Bool
+  Out xs = goes_out ks l.entry 2 xs
+
+  turns_is : (flag : Bool) (o : Option Deeds) → turns ks flag l o ≡ true → Turns flag l o
+  turns_is flag None e = absurd (cc e)
+  turns_is flag (Some d) e =
+      let b = and_parts flag (Out d.stored || Out d.loaded) e in (
         b.0,
         ⊎_elim
-            (λ h. let r = out_is ls j l is ks own 2 d.stored h in
+            (λ h. let r = out_is c kept ks own l.block l here 2 d.stored h in
             (r.0, inl r.1, r.3, (let m = r.2 in omega (arith, m))))
-            (λ h. let r = out_is ls j l is ks own 2 d.loaded h in
+            (λ h. let r = out_is c kept ks own l.block l here 2 d.loaded h in
             (r.0, inr r.1, r.3, (let m = r.2 in omega (arith, m))))
-            (or_cases (goes_out ks j 2 d.stored) (goes_out ks j 2 d.loaded) b.1),
+            (or_cases (Out d.stored) (Out d.loaded) b.1),
       )
 
-  turns_from : (o : Option Deeds) → Turns flags j l o → turns ks flags j o ≡ true
-  turns_from None h = absurd h
-  turns_from (Some d) (f, (x, inl i, m, h)) =
-      and_from (flag_at flags j) (goes_out ks j 2 d.stored || goes_out ks j 2 d.loaded) f
-      (or_left (goes_out ks j 2 d.stored) (goes_out ks j 2 d.loaded)
-      (out_from ls j l is ks own 2 d.stored x i (omega (arith, h)) m))
-  turns_from (Some d) (f, (x, inr i, m, h)) =
-      and_from (flag_at flags j) (goes_out ks j 2 d.stored || goes_out ks j 2 d.loaded) f
-      (or_right (goes_out ks j 2 d.stored) (goes_out ks j 2 d.loaded)
-      (out_from ls j l is ks own 2 d.loaded x i (omega (arith, h)) m))
+  turns_from : (flag : Bool) (o : Option Deeds) → Turns flag l o → turns ks flag l o ≡ true
+  turns_from flag None h = absurd h
+  turns_from flag (Some d) (f, (x, inl i, m, h)) =
+      and_from flag (Out d.stored || Out d.loaded) f
+      (or_left (Out d.stored) (Out d.loaded)
+      (out_from c kept ks own l.block l here 2 d.stored x i (omega (arith, h)) m))
+  turns_from flag (Some d) (f, (x, inr i, m, h)) =
+      and_from flag (Out d.stored || Out d.loaded) f
+      (or_right (Out d.stored) (Out d.loaded)
+      (out_from c kept ks own l.block l here 2 d.loaded x i (omega (arith, h)) m))
 
-  pub one_turn : (e : Effects) (b : Bool) (o : Option ℕ) → b ≡ turns ks flags j (slice_get e.rows l.entry)
-      → IsLeast (λ p. (l.entry ≡ p) × (b ≡ true)) o → IsLeast (LayoutTurns e flags ls j) o
-  one_turn e b o t h =
-      one_layout (λ n m. Turns flags n m (slice_get e.rows m.entry)) ls j l b o is
-      (λ f. turns_is (slice_get e.rows l.entry) (sym t ∙ f)) (λ f. t ∙ turns_from (slice_get e.rows l.entry) f) h
+  pub one_turn : (flags : List Bool) (e : Effects) (b : Bool) (o : Option ℕ)
+      → b ≡ turns ks (flag_at flags j) l (slice_get e.rows l.entry)
+      → IsLeast (λ p. (l.entry ≡ p) × (b ≡ true)) o → IsLeast (LayoutTurns e flags c.layouts j) o
+  one_turn flags e b o t h =
+      one_layout (λ n m. Turns (flag_at flags n) m (slice_get e.rows m.entry)) c.layouts j l b o is
+      (λ f. turns_is (flag_at flags j) (slice_get e.rows l.entry) (sym t ∙ f))
+      (λ f. t ∙ turns_from (flag_at flags j) (slice_get e.rows l.entry) f) h
 
 -- ---- blocks that are called inside themselves
 
@@ -117,7 +126,7 @@ module _ (c : Parts) (k : Keeps c) (kept : (p : ℕ) → BreaksV1 c p → ⊥) (
             let same_place = place_some c.layouts b j (sym (numbered b) ∙ r.4) in
             let here : layout_of c.layouts b ≡ Some l = sym same_place ∙ is in
             let named : l.block ≡ b = (found_layout c.layouts b l here).0 in
-            let come = shapes.come h.at q.stack (reached_is c k first s shapes (slice_get s.at h.at) q.stack q.come) in
+            let come = shapes.come h.at q.stack (stands s h.at q.stack q.come) in
             let a = come.0 in
             let lies : LiesIn c h.at a = (come.1.0, passes c a h.at (list_of s.stacks q.stack) come.1.1) in
             let alike : a ≡ q.area = q.lies.1 a lies in
@@ -161,25 +170,25 @@ module _ (c : Parts) (k : Keeps c) (kept : (p : ℕ) → BreaksV1 c p → ⊥) (
             area = a;
             lies = (lies, λ b z. k.apart p b a z lies);
             stack = n.0;
-            come = ap reached n.1;
+            come = reached_there s p n.0 n.1;
             calls = calls;
           };
         })
 
-    turn_rule : (d : Deeds) → AreDeeds c (Body l.block) d → Turns flags j l (Some d)
+    turn_rule : (d : Deeds) → AreDeeds c (Body l.block) d → Turns (flag_at flags j) l (Some d)
         → fork.BreaksV7Inside c (Does c) (HasStop c) (Inside c) l l.block
     turn_rule d deeds (f, (x, inl h, m, z)) = (called_is f, (x, (inl ((deeds.stored x).0 h), m), z))
     turn_rule d deeds (f, (x, inr h, m, z)) = (called_is f, (x, (inr ((deeds.loaded x).0 h), m), z))
 
     rule_turn : (d : Deeds) → AreDeeds c (Body l.block) d
-        → fork.BreaksV7Inside c (Does c) (HasStop c) (Inside c) l l.block → Turns flags j l (Some d)
+        → fork.BreaksV7Inside c (Does c) (HasStop c) (Inside c) l l.block → Turns (flag_at flags j) l (Some d)
     rule_turn d deeds (f, (x, (inl h, m), z)) = (is_called f, (x, inl ((deeds.stored x).1 h), m, z))
     rule_turn d deeds (f, (x, (inr h, m), z)) = (is_called f, (x, inr ((deeds.loaded x).1 h), m, z))
 
   turn_found : (j p : ℕ) → LayoutTurns e flags c.layouts j p → TurnBreaks c p
   turn_found j p (l, is, first, h) =
       let r = body_row c e are l (at j l is) in
-      (l, (j, is), first, turn_rule j l is r.0 r.2 (subst (Turns flags j l) r.1 h))
+      (l, (j, is), first, turn_rule j l is r.0 r.2 (subst (Turns (flag_at flags j) l) r.1 h))
 
   turn_finds : (p : ℕ) → TurnBreaks c p → Upto (LayoutTurns e flags c.layouts) (length c.layouts) p
   turn_finds p (l, (j, is), first, h) =
@@ -188,16 +197,15 @@ module _ (c : Parts) (k : Keeps c) (kept : (p : ℕ) → BreaksV1 c p → ⊥) (
         item = j;
         below = slice_get_within c.layouts j l is;
         holds =
-            (l, is, first, subst (Turns flags j l) (sym r.1) (rule_turn j l is r.0 r.2 h));
+            (l, is, first, subst (Turns (flag_at flags j) l) (sym r.1) (rule_turn j l is r.0 r.2 h));
       }
 
-  pub v7_least : (ks : List (ℕ × ℕ)) → ks ≡ with_layouts [] 0 c.layouts → (a b : Option ℕ)
-      → IsLeast (CallFails c e ks first s) a
+  pub v7_least : (a b : Option ℕ) → IsLeast (CallFails c e s) a
       → IsLeast (Upto (LayoutTurns e flags c.layouts) (length c.layouts)) b → IsLeast (BreaksV7 c) (least a b)
-  v7_least ks own a b h g =
+  v7_least a b h g =
       both (CallBreaks c) (TurnBreaks c) a b
-      (same (CallFails c e ks first s) (CallBreaks c) a (λ p. call_found c e are ks own first numbered s shapes p)
-      (λ p. call_finds c e are ks own first numbered s shapes p) h)
+      (same (CallFails c e s) (CallBreaks c) a (λ p. call_found c e are kept s shapes p)
+      (λ p. call_finds c e are kept s shapes p) h)
       (all (LayoutTurns e flags c.layouts) (TurnBreaks c) (length c.layouts) b turn_found turn_finds g)
 
 -- ---- code that keeps V1 to V5

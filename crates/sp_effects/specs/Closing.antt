@@ -1,43 +1,25 @@
 -- None of this belongs to what the program promises: it is for contracts between crates.
 -- What goes on from fact to fact along edges, until nothing is new.
-use Rattle.std.specs.Prelude.{◌≡◌, ◌⊎◌, ◌↔◌, ℕ, zero, suc, ◌==◌, ◌<◌, List, Option, Some, None, Bool, true, false}
+use Rattle.std.specs.Prelude.{◌≡◌, ◌↔◌, ℕ, zero, suc, ◌==◌, ◌<◌, List, Option, Some, None, Bool, true, false}
 use Rattle.std.specs.Prelude.{if◌then◌else◌, slice_get}
-use Rattle.sp_code.specs.declared.code.Layout.{Layout}
 use Rattle.sp_code.specs.declared.code.Parts.{Parts}
 use Rattle.sp_rules.specs.Areas.{Area, entry}
-use Rattle.sp_rules.specs.Reach.{IsIn, IsArea}
+use Rattle.sp_rules.specs.Reach.{IsArea}
 use Rattle.sp_rules.specs.Effects.{Stored, Loaded, Does, IsEffect}
 use Rattle.sp_effects.specs.declared.edges.Edge.{Edge}
 use Rattle.sp_effects.specs.declared.edges.Edge.TheVariants as edge
 use Rattle.sp_effects.specs.declared.facts.Fact.{Fact}
 use Rattle.sp_effects.specs.declared.facts.Deed.{Deed}
 use Rattle.sp_effects.specs.declared.facts.Deed.TheVariants as deed
-use Rattle.sp_effects.specs.Facts.{fact, has_fact, has_pair}
+use Rattle.sp_effects.specs.Facts.{fact, has_fact}
 use Rattle.sp_effects.specs.Edges.{HasEdge, AreEdges}
 use Rattle.sp_effects.specs.Effects.{Comes}
-
--- ---- variables of a block's own
-
--- pairs are added
-abbrev pub AddsPairs : List (ℕ × ℕ) → List (ℕ × ℕ) → (ℕ × ℕ → Type 0) → Type 0
-AddsPairs old new W = (q : ℕ × ℕ) → (has_pair new q ≡ true) ↔ ((has_pair old q ≡ true) ⊎ W q)
-
--- a first instruction, and a variable among these
-abbrev pub IsOwnOf : ℕ → List ℕ → ℕ × ℕ → Type 0
-IsOwnOf m xs q = (q.0 ≡ m) × IsIn q.1 xs
-
--- of a layout, and a variable of it
-abbrev pub IsOwnIn : List Layout → ℕ × ℕ → Type 0
-IsOwnIn ls q = (j : ℕ) × (l : Layout) × (slice_get ls j ≡ Some l) × IsOwnOf l.entry l.variables q
-
--- the pairs are those
-abbrev pub AreOwn : Parts → List (ℕ × ℕ) → Type 0
-AreOwn c ks = (q : ℕ × ℕ) → (has_pair ks q ≡ true) ↔ IsOwnIn c.layouts q
+use Rattle.sp_effects.specs.Variables.{AreOwn, owns}
 
 -- it is done to a variable of the area's own
 abbrev pub is_own : List (ℕ × ℕ) → ℕ → Deed → Bool
-is_own ks m (deed.Stores x) = has_pair ks (m, x)
-is_own ks m (deed.Loads x) = has_pair ks (m, x)
+is_own ks m (deed.Stores x) = owns ks m x
+is_own ks m (deed.Loads x) = owns ks m x
 is_own ks m deed.Stops = false
 
 -- ---- along an edge

@@ -13,6 +13,7 @@ use Rattle.sp_effects.specs.declared.facts.Fact.{Fact}
 use Rattle.sp_effects.specs.declared.facts.Deed.{Deed}
 use Rattle.sp_effects.specs.declared.facts.Deed.TheVariants as deed
 use Rattle.sp_effects.specs.Facts.{has_fact, fact}
+use Rattle.sp_effects.specs.Variables.{AreOwn}
 
 -- a row says so
 abbrev pub InRow : Deeds → Deed → Type 0
@@ -55,7 +56,9 @@ module _ (c : Parts) where
     pub loaded : (x : ℕ) → IsIn x d.loaded ↔ IsEffect c (Does c) Loaded a x
     pub stops : IsTrue d.stops ↔ Comes a
 
-  -- each area that is there stands under its first instruction; the touched variables are those of its effects
+  -- each area that is there stands under its first instruction; the touched variables are those of its effects; the
+  -- own ones are those of the blocks
   pub record AreEffects (e : Effects) : Type 0 where
     pub rows : (a : Area) → IsArea c a → (d : Deeds) × (slice_get e.rows (entry c a) ≡ Some d) × AreDeeds a d
     pub touched : (a : Area) (x : ℕ) → IsArea c a → IsTrue (touches e (entry c a) x) ↔ HasEffect c (Does c) a x
+    pub own : AreOwn c e.own.keys

@@ -10,9 +10,9 @@ use Rattle.sp_effects.specs.declared.effects.Effects.{Effects}
 use Rattle.sp_effects.specs.Variables.{LayoutDoes, goes_out}
 
 -- an answering block stores outside itself, or stops
-abbrev pub is_loud : List (ℕ × ℕ) → ℕ → Layout → Option Deeds → Bool
-is_loud ks j l None = false
-is_loud ks j l (Some d) = l.answer && (d.stops || goes_out ks j 0 d.stored)
+abbrev pub is_loud : List (ℕ × ℕ) → Layout → Option Deeds → Bool
+is_loud ks l None = false
+is_loud ks l (Some d) = l.answer && (d.stops || goes_out ks l.entry 0 d.stored)
 
 abbrev pub IsLoud : Layout → Option Deeds → Type 0
 IsLoud l None = ⊥

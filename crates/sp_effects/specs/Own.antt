@@ -24,11 +24,6 @@ use Rattle.sp_effects.specs.declared.facts.Deed.TheVariants as deed
 use Rattle.sp_effects.specs.declared.places.Place.{Place}
 use Rattle.sp_effects.specs.declared.places.Place.TheVariants as place
 
--- what is there, if there is something
-abbrev pub flat : Option (Option ℕ) → Option ℕ
-flat None = None
-flat (Some o) = o
-
 -- where a child begins, if there is one
 abbrev pub child_entry : Option ChildTable → Option ℕ
 child_entry None = None

@@ -1,34 +1,36 @@
 -- None of this belongs to what the program promises: it is for contracts between crates.
--- Which variables blocks have: an ordered set of the places of layouts, each with a variable.
-use Rattle.std.specs.Prelude.{◌≡◌, ℕ, ◌+◌, List, [], ◌∷◌, Some, Bool, false, ◌&&◌, ◌||◌, not, nat_le, slice_get}
-use Rattle.std.specs.List.{list_any}
-use Rattle.std.specs.declared.cmp.Ordering.{Ordering}
-use Rattle.std.specs.Ordering.{nat_cmp, ordering_then}
-use Rattle.std.specs.BTreeMap.{is_at}
-use Rattle.std.specs.BTreeSet.{insert_key}
+-- Which variables blocks have: an ordered set of the first instructions of blocks, each with a variable.
+use Rattle.std.specs.Prelude.{◌≡◌, ◌⊎◌, ◌↔◌, ℕ, List, [], ◌∷◌, Some, Bool, true, false, ◌&&◌, ◌||◌, not, nat_le}
+use Rattle.std.specs.Prelude.{slice_get}
 use Rattle.sp_code.specs.declared.code.Layout.{Layout}
+use Rattle.sp_code.specs.declared.code.Parts.{Parts}
+use Rattle.sp_rules.specs.Reach.{IsIn}
+use Rattle.sp_effects.specs.Facts.{has_pair}
 
--- by place and variable
-abbrev pub place_cmp : ℕ × ℕ → ℕ × ℕ → Ordering
-place_cmp p q = ordering_then (nat_cmp p.0 q.0) (nat_cmp p.1 q.1)
-
--- the layout at a place has a variable
+-- the block that begins there has a variable
 abbrev pub owns : List (ℕ × ℕ) → ℕ → ℕ → Bool
-owns ks j x = list_any (is_at (place_cmp (j, x))) ks
+owns ks m x = has_pair ks (m, x)
 
--- with the variables of one layout; of all, of which the first has place j
-abbrev pub with_variables : List (ℕ × ℕ) → ℕ → List ℕ → List (ℕ × ℕ)
-with_variables ks j [] = ks
-with_variables ks j (x ∷ xs) = with_variables (insert_key place_cmp ks (j, x)) j xs
+-- pairs are added
+abbrev pub AddsPairs : List (ℕ × ℕ) → List (ℕ × ℕ) → (ℕ × ℕ → Type 0) → Type 0
+AddsPairs old new W = (q : ℕ × ℕ) → (has_pair new q ≡ true) ↔ ((has_pair old q ≡ true) ⊎ W q)
 
-abbrev pub with_layouts : List (ℕ × ℕ) → ℕ → List Layout → List (ℕ × ℕ)
-with_layouts ks j [] = ks
-with_layouts ks j (l ∷ ls) = with_layouts (with_variables ks j l.variables) (j + 1) ls
+-- a first instruction, and a variable among these
+abbrev pub IsOwnOf : ℕ → List ℕ → ℕ × ℕ → Type 0
+IsOwnOf m xs q = (q.0 ≡ m) × IsIn q.1 xs
 
--- one of these variables, from number n on, is not of that layout
-abbrev pub goes_out : List (ℕ × ℕ) → (j n : ℕ) → List ℕ → Bool
-goes_out ks j n [] = false
-goes_out ks j n (x ∷ xs) = (nat_le n x && not (owns ks j x)) || goes_out ks j n xs
+-- of a layout, and a variable of it
+abbrev pub IsOwnIn : List Layout → ℕ × ℕ → Type 0
+IsOwnIn ls q = (j : ℕ) × (l : Layout) × (slice_get ls j ≡ Some l) × IsOwnOf l.entry l.variables q
+
+-- the pairs are those
+abbrev pub AreOwn : Parts → List (ℕ × ℕ) → Type 0
+AreOwn c ks = (q : ℕ × ℕ) → (has_pair ks q ≡ true) ↔ IsOwnIn c.layouts q
+
+-- one of these variables, from number n on, is not of the block that begins there
+abbrev pub goes_out : List (ℕ × ℕ) → (m n : ℕ) → List ℕ → Bool
+goes_out ks m n [] = false
+goes_out ks m n (x ∷ xs) = (nat_le n x && not (owns ks m x)) || goes_out ks m n xs
 
 -- a layout at place j does something, and has its first instruction there
 abbrev pub LayoutDoes : (ℕ → Layout → Type 0) → List Layout → ℕ → ℕ → Type 0

@@ -1,37 +1,23 @@
 //! Areas of code, known by their first instructions.
 
-ghost use Rattle.std.specs.Prelude.{◌≡◌, ℕ, ◌<◌, Some, MatchOption, length, slice_get};
+ghost use Rattle.std.specs.Prelude.{◌≡◌, ◌<◌, MatchOption, length};
 ghost use Rattle.std.specs.Option.{option_copied};
-ghost use Rattle.sp_areas.specs.Blocks.{IsNumbered};
 ghost use Rattle.sp_areas.specs.Only.{LiesOnlyIn};
-ghost use Rattle.sp_areas.specs.Owners.{AreOwners, entry_at};
-ghost use Rattle.sp_code.specs.Machine.{layout_of};
-ghost use Rattle.sp_effects.specs.Own.{child_entry, entry_by, flat};
+ghost use Rattle.sp_effects.specs.Grounds.{IsGround};
+ghost use Rattle.sp_effects.specs.Edges.{called_block};
+ghost use Rattle.sp_effects.specs.Own.{child_entry, entry_by};
 ghost use Rattle.sp_rules.specs.Areas.{Area, child_at, entry, instr_at, table_at, table_named};
-ghost use Rattle.sp_rules.specs.Named.{BreaksV1, LiesIn};
+ghost use Rattle.sp_rules.specs.Named.{LiesIn};
 
-use sp_areas::blocks::Blocks;
-use sp_areas::owners::Owner;
-use sp_base::List;
-use sp_code::{ChildTable, Code, ForkTable, Instr};
-use sp_shapes::shapes::Shapes;
-
-// The table that an instruction names.
-fn table_named(instr: Option<Instr>) -> Option<u32>
-    ensures { result ≡ table_named instr }
-{
-    match instr {
-        Some(Instr::Fork(t)) => Some(t),
-        Some(Instr::Forall(t)) => Some(t),
-        _ => None,
-    }
-}
+use crate::ground::Ground;
+use sp_areas::owners::{Owner, table_number};
+use sp_code::{Code, ForkTable, Instr};
 
 /// The table of the fork or forall at p.
 pub fn table_of<'a>(code: &'a Code, p: u32) -> Option<&'a ForkTable>
     ensures { option_copied result ≡ table_at code.now.forks (table_named (instr_at code.now p)) }
 {
-    match table_named(code.instr(p)) {
+    match table_number(code, p) {
         None => None,
         Some(t) => code.parts().forks.get(t as usize),
     }
@@ -51,51 +37,38 @@ fn entry_of_child(code: &Code, p: u32, child: usize) -> Option<u32>
     }
 }
 
-// Where a block begins.
-fn entry_of_block(code: &Code, blocks: &Blocks, block: u32) -> Option<u32>
-    requires { IsNumbered blocks.now.first code.now.layouts }
-    ensures { result ≡ entry_at (layout_of code.now.layouts block) }
-{
-    match blocks.find(&code.parts().layouts, block) {
-        None => None,
-        Some(layout) => Some(layout.entry),
-    }
-}
-
 // Where the area of an owner begins.
-fn entry_of(code: &Code, blocks: &Blocks, owner: Owner) -> Option<u32>
-    requires { IsNumbered blocks.now.first code.now.layouts }
-    ensures { result ≡ entry_by code.now owner }
+fn entry_of(g: &Ground, owner: Owner) -> Option<u32>
+    requires known { IsGround g.now }
+    ensures { result ≡ entry_by g.now.code.now owner }
 {
     match owner {
         Owner::Nobody => None,
-        Owner::Block(block) => entry_of_block(code, blocks, block),
-        Owner::Child { at, child } => entry_of_child(code, at, child),
+        Owner::Block(block) => g.blocks.entry_of(&g.code.parts().layouts, block),
+        Owner::Child { at, child } => entry_of_child(g.code, at, child),
         Owner::Several => None,
     }
 }
 
 /// The area in which an instruction lies.
-pub fn area_at(code: &Code, blocks: &Blocks, owners: &List<Owner>, p: u32) -> Option<u32>
-    requires kept { (p : ℕ) → BreaksV1 code.now p → ⊥ }
-    requires blocks { IsNumbered blocks.now.first code.now.layouts }
-    requires owners { AreOwners code.now owners.now }
-    requires there { p < length code.now.instrs }
-    ensures { MatchOption result ((a : Area) → LiesIn code.now p a → ⊥)
-        (λ n. (a : Area) × LiesOnlyIn code.now p a × (entry code.now a ≡ n)) }
+pub fn area_at(g: &Ground, p: u32) -> Option<u32>
+    requires known { IsGround g.now }
+    requires there { p < length g.now.code.now.instrs }
+    ensures { MatchOption result ((a : Area) → LiesIn g.now.code.now p a → ⊥)
+        (λ n. (a : Area) × LiesOnlyIn g.now.code.now p a × (entry g.now.code.now a ≡ n)) }
 {
-    match owners.get(p as usize) {
+    match g.owners.get(p as usize) {
         None => None,
-        Some(owner) => entry_of(code, blocks, *owner),
+        Some(owner) => entry_of(g, *owner),
     }
 }
 
-/// The number of the shapes that reach an instruction.
-pub fn stack_at(shapes: &Shapes, p: u32) -> Option<u32>
-    ensures { result ≡ flat (slice_get shapes.now.at p) }
+/// The block that the instruction at p calls.
+pub(crate) fn called_block(code: &Code, p: u32) -> Option<u32>
+    ensures { result ≡ called_block (instr_at code.now p) }
 {
-    match shapes.at.get(p as usize) {
-        None => None,
-        Some(stack) => *stack,
+    match code.instr(p) {
+        Some(Instr::Call { block, up: _ }) => Some(block),
+        _ => None,
     }
 }

@@ -1,20 +1,20 @@
 //! Rule V7 at a call: the variables that it passes by reference.
 
-ghost use Rattle.std.specs.Prelude.{◌≡◌, ◌+◌, ◌++◌, ◌<◌, ◌≤◌, ℕ, [], IfOk, OnOk, Some, MatchOption, drop, length};
-ghost use Rattle.std.specs.Prelude.{slice_get};
+ghost use Rattle.std.specs.Prelude.{◌≡◌, ◌++◌, ◌<◌, IfOk, OnOk, Some, length, slice_get};
 ghost use Rattle.sp_areas.specs.Least.{IsLeast};
-ghost use Rattle.sp_shapes.specs.Shapes.{AreShapes};
 ghost use Rattle.sp_shapes.specs.Stacks.{Holds, IsStacks, list_of, shape_of};
-ghost use Rattle.sp_effects.specs.Calls.{actual_of, actuals, call_clashes, called, is_outer, listed, meets_outer};
-ghost use Rattle.sp_effects.specs.Calls.{CallFails, fails_at, reached};
+ghost use Rattle.sp_effects.specs.Grounds.{IsGround};
+ghost use Rattle.sp_effects.specs.Calls.{CallFails, actual_of, actuals, call_clashes, fails_at, is_outer, listed};
+ghost use Rattle.sp_effects.specs.Calls.{meets_outer};
 
+use crate::areas::called_block;
 use crate::effects::Effects;
+use crate::ground::Ground;
 use crate::sets::add_all;
 use crate::variables::owns;
-use sp_areas::blocks::Blocks;
 use sp_base::{List, Memory};
-use sp_code::{Code, Formal, Instr, Layout};
-use sp_shapes::shapes::Shapes;
+use sp_code::{Formal, Layout};
+use sp_shapes::reached::reached;
 use sp_shapes::stacks::{Shape, Stacks};
 use std::alloc::Global;
 use std::collections::BTreeSet;
@@ -78,25 +78,19 @@ fn actuals(
     Ok(xs)
 }
 
-// Whether code that begins there stores or loads a variable, which is not of the layout at a place.
-fn is_outer(effects: &Effects, own: &BTreeSet<(u32, u32)>, place: u32, entry: u32, x: u32) -> bool
-    ensures { result ≡ is_outer effects.now own.now.keys place entry x }
+// Whether a block that begins there stores or loads a variable that is not its own.
+fn is_outer(effects: &Effects, entry: u32, x: u32) -> bool
+    ensures { result ≡ is_outer effects.now entry x }
 {
-    effects.touches(entry, x) && !owns(own, place, x)
+    effects.touches(entry, x) && !owns(&effects.own, entry, x)
 }
 
-// Whether code that begins there stores or loads one of these, which is not of the layout at a place.
-fn meets_outer(
-    effects: &Effects,
-    own: &BTreeSet<(u32, u32)>,
-    place: u32,
-    entry: u32,
-    xs: &[u32],
-) -> bool
-    ensures { result ≡ meets_outer effects.now own.now.keys place entry xs.now }
+// Whether it does so with one of these.
+fn meets_outer(effects: &Effects, entry: u32, xs: &[u32]) -> bool
+    ensures { result ≡ meets_outer effects.now entry xs.now }
 {
     for x in xs {
-        if is_outer(effects, own, place, entry, *x) {
+        if is_outer(effects, entry, *x) {
             return true;
         }
     }
@@ -107,95 +101,48 @@ fn meets_outer(
 fn call_clashes(
     alloc: Global,
     effects: &Effects,
-    own: &BTreeSet<(u32, u32)>,
-    place: u32,
     l: &Layout,
     stacks: &Stacks,
     stack: u32,
 ) -> Result<bool, Memory>
     requires stacks { IsStacks stacks.now }
     requires there { Holds stacks.now stack }
-    ensures { IfOk result (λ clashes. clashes ≡ call_clashes effects.now own.now.keys place l.now
-        (list_of stacks.now stack)) }
+    ensures { IfOk result (λ clashes. clashes ≡ call_clashes effects.now l.now (list_of stacks.now stack)) }
 {
     let xs = actuals(alloc, stacks, stack, l.formals.items())?;
     let mut seen = BTreeSet::new(alloc);
     let new = add_all(&mut seen, xs.items())?;
-    Ok(!new || meets_outer(effects, own, place, l.entry, xs.items()))
-}
-
-// The block that an instruction calls.
-fn called(instr: Instr) -> Option<u32>
-    ensures { result ≡ called (Some instr) }
-{
-    match instr {
-        Instr::Call { block, up: _ } => Some(block),
-        _ => None,
-    }
-}
-
-// The shapes that are brought to an instruction.
-pub(crate) fn stack_at(shapes: &Shapes, p: usize) -> Option<u32>
-    ensures { result ≡ reached (slice_get shapes.now.at p) }
-{
-    match shapes.at.get(p) {
-        None => None,
-        Some(stack) => *stack,
-    }
+    Ok(!new || meets_outer(effects, l.entry, xs.items()))
 }
 
 // Whether an instruction is a call that clashes.
-fn fails_at(
-    code: &Code,
-    blocks: &Blocks,
-    own: &BTreeSet<(u32, u32)>,
-    effects: &Effects,
-    shapes: &Shapes,
-    p: u32,
-) -> Result<bool, Memory>
-    requires shapes { AreShapes code.now shapes.now }
-    ensures { IfOk result (λ fails. fails ≡ fails_at code.now effects.now own.now.keys blocks.now.first shapes.now p) }
+fn fails_at(g: &Ground, effects: &Effects, p: u32) -> Result<bool, Memory>
+    requires known { IsGround g.now }
+    ensures { IfOk result (λ fails. fails ≡ fails_at g.now.code.now effects.now g.now.shapes.now p) }
 {
-    let stack = match stack_at(shapes, p as usize) {
+    let stack = match reached(g.shapes, p) {
         None => return Ok(false),
         Some(stack) => stack,
     };
-    let block = match code.instr(p) {
+    let block = match called_block(g.code, p) {
         None => return Ok(false),
-        Some(instr) => match called(instr) {
-            None => return Ok(false),
-            Some(block) => block,
-        },
+        Some(block) => block,
     };
-    let place = match blocks.place(block) {
-        None => return Ok(false),
-        Some(place) => place,
-    };
-    let parts = code.parts();
-    match parts.layouts.get(place as usize) {
+    let parts = g.code.parts();
+    match g.blocks.find(&parts.layouts, block) {
         None => Ok(false),
-        Some(l) => {
-            let alloc = parts.instrs.alloc();
-            call_clashes(alloc, effects, own, place, l, &shapes.stacks, stack)
-        }
+        Some(l) => call_clashes(parts.instrs.alloc(), effects, l, &g.shapes.stacks, stack),
     }
 }
 
 // The least call that clashes.
-pub(crate) fn first_call(
-    code: &Code,
-    blocks: &Blocks,
-    own: &BTreeSet<(u32, u32)>,
-    effects: &Effects,
-    shapes: &Shapes,
-) -> Result<Option<u32>, Memory>
-    requires shapes { AreShapes code.now shapes.now }
-    ensures { IfOk result (λ first. IsLeast
-        (CallFails code.now effects.now own.now.keys blocks.now.first shapes.now) first) }
+pub(crate) fn first_call(g: &Ground, effects: &Effects) -> Result<Option<u32>, Memory>
+    requires known { IsGround g.now }
+    ensures { IfOk result (λ first. IsLeast (CallFails g.now.code.now effects.now g.now.shapes.now) first) }
 {
-    let count = code.parts().instrs.len();
+    let count = g.code.parts().instrs.len();
     for p in 0..count {
-        let fails = fails_at(code, blocks, own, effects, shapes, p as u32)?;
+        let fails = fails_at(g, effects, p as u32)?;
         if fails {
             return Ok(Some(p as u32));
         }

@@ -1,62 +1,26 @@
 //! How facts go on from area to area along edges, until nothing is new.
 
-ghost use Rattle.std.specs.Prelude.{◌≡◌, ℕ, ◌<◌, OnOk, IfOk, Some, Bool, length, slice_get};
-ghost use Rattle.sp_areas.specs.Blocks.{IsNumbered};
-ghost use Rattle.sp_areas.specs.Homes.{AreHomes};
-ghost use Rattle.sp_areas.specs.Owners.{AreOwners};
-ghost use Rattle.sp_effects.specs.Closing.{AddsPairs, AlongOne, AreFacts, AreOwn, Closes, ClosesBy};
-ghost use Rattle.sp_effects.specs.Closing.{IsOwnOf, Leads, fact_along, is_index, is_own};
+ghost use Rattle.std.specs.Prelude.{◌≡◌, ◌<◌, OnOk, IfOk, Some, Bool, length, slice_get};
+ghost use Rattle.sp_effects.specs.Grounds.{IsGround};
+ghost use Rattle.sp_effects.specs.Closing.{AlongOne, AreFacts, Closes, ClosesBy, Leads, fact_along, is_index, is_own};
 ghost use Rattle.sp_effects.specs.declared.edges.Edge.TheVariants as edge;
 ghost use Rattle.sp_effects.specs.Facts.{Tells, fact};
-ghost use Rattle.sp_rules.specs.Named.{BreaksV1};
-ghost use Rattle.sp_shapes.specs.Shapes.{AreShapes};
+ghost use Rattle.sp_effects.specs.Variables.{AreOwn};
 
 use crate::edges::{Edge, edges_of};
 use crate::facts::{Deed, Fact, Facts};
+use crate::ground::Ground;
 use crate::own::tell_own;
-use sp_areas::blocks::Blocks;
-use sp_areas::homes::Homes;
-use sp_areas::owners::Owner;
+use crate::variables::owns;
 use sp_base::{List, Memory};
-use sp_code::Code;
-use sp_shapes::shapes::Shapes;
 use std::collections::BTreeSet;
-
-// Puts the variables of a block, under its first instruction.
-fn put_own(own: &mut BTreeSet<(u32, u32)>, entry: u32, variables: &[u32]) -> Result<(), Memory>
-    ensures { OnOk result (AddsPairs own.old.keys own.new.keys (IsOwnOf entry variables.now)) }
-{
-    for i in 0..variables.len() {
-        own.insert((entry, variables[i]))?;
-    }
-    Ok(())
-}
-
-// The variables of all blocks.
-fn own_of(code: &Code) -> Result<BTreeSet<(u32, u32)>, Memory>
-    ensures { IfOk result (λ own. AreOwn code.now own.keys) }
-{
-    let layouts = code.parts().layouts.items();
-    let mut own = BTreeSet::new(code.parts().instrs.alloc());
-    for j in 0..layouts.len() {
-        let layout = &layouts[j];
-        put_own(&mut own, layout.entry, layout.variables.items())?;
-    }
-    Ok(own)
-}
 
 fn is_own(own: &BTreeSet<(u32, u32)>, area: u32, deed: Deed) -> bool
     ensures { result ≡ is_own own.now.keys area deed }
 {
     match deed {
-        Deed::Stores(x) => {
-            let key = (area, x);
-            own.contains(&key)
-        }
-        Deed::Loads(x) => {
-            let key = (area, x);
-            own.contains(&key)
-        }
+        Deed::Stores(x) => owns(own, area, x),
+        Deed::Loads(x) => owns(own, area, x),
         Deed::Stops => false,
     }
 }
@@ -202,41 +166,23 @@ fn close(
 }
 
 // The same, by the code.
-fn close_by(
-    code: &Code,
-    blocks: &Blocks,
-    owners: &List<Owner>,
-    shapes: &Shapes,
-    facts: &mut Facts,
-) -> Result<(), Memory>
-    requires kept { (p : ℕ) → BreaksV1 code.now p → ⊥ }
-    requires blocks { IsNumbered blocks.now.first code.now.layouts }
-    requires owners { AreOwners code.now owners.now }
-    requires shapes { AreShapes code.now shapes.now }
-    ensures { OnOk result (ClosesBy code.now facts.old facts.new) }
+fn close_by(g: &Ground, own: &BTreeSet<(u32, u32)>, facts: &mut Facts) -> Result<(), Memory>
+    requires known { IsGround g.now }
+    requires own { AreOwn g.now.code.now own.now.keys }
+    ensures { OnOk result (ClosesBy g.now.code.now facts.old facts.new) }
 {
-    let rows = edges_of(code, blocks, owners, shapes)?;
-    let own = own_of(code)?;
-    close(facts, &rows, &own)
+    let rows = edges_of(g)?;
+    close(facts, &rows, own)
 }
 
-/// What each area does, with what it starts and calls.
-pub fn facts_of(
-    code: &Code,
-    blocks: &Blocks,
-    owners: &List<Owner>,
-    homes: &Homes,
-    shapes: &Shapes,
-) -> Result<Facts, Memory>
-    requires kept { (p : ℕ) → BreaksV1 code.now p → ⊥ }
-    requires blocks { IsNumbered blocks.now.first code.now.layouts }
-    requires owners { AreOwners code.now owners.now }
-    requires homes { AreHomes code.now homes.now }
-    requires shapes { AreShapes code.now shapes.now }
-    ensures { IfOk result (AreFacts code.now) }
+/// What each area does, with what it starts and calls, by the variables of blocks.
+pub fn facts_of(g: &Ground, own: &BTreeSet<(u32, u32)>) -> Result<Facts, Memory>
+    requires known { IsGround g.now }
+    requires own { AreOwn g.now.code.now own.now.keys }
+    ensures { IfOk result (AreFacts g.now.code.now) }
 {
-    let mut facts = Facts::new(code.parts().instrs.alloc());
-    tell_own(code, blocks, owners, homes, shapes, &mut facts)?;
-    close_by(code, blocks, owners, shapes, &mut facts)?;
+    let mut facts = Facts::new(g.code.parts().instrs.alloc());
+    tell_own(g, &mut facts)?;
+    close_by(g, own, &mut facts)?;
     Ok(facts)
 }

@@ -1,31 +1,27 @@
 //! The ways on which effects go from area to area.
 
 ghost use Rattle.std.specs.Prelude.{◌≡◌, ℕ, ◌<◌, ◌-◌, OnOk, IfOk, Some, true, length, slice_get};
-ghost use Rattle.sp_areas.specs.Blocks.{IsNumbered};
 ghost use Rattle.sp_areas.specs.Only.{LiesOnlyIn};
-ghost use Rattle.sp_areas.specs.Owners.{AreOwners};
 ghost use Rattle.sp_code.specs.declared.code.ChildTable.{ChildTable};
 ghost use Rattle.sp_code.specs.declared.code.Layout.{Layout};
 ghost use Rattle.sp_code.specs.Machine.{layout_of};
+ghost use Rattle.sp_effects.specs.Grounds.{IsGround};
 ghost use Rattle.sp_effects.specs.declared.edges.Edge.{Edge as EdgeOf};
 ghost use Rattle.sp_effects.specs.Edges.{AreEdges, CalledAt, EdgeAt, HasEdge, IsCall, IsDeeper, Links};
-ghost use Rattle.sp_effects.specs.Edges.{OneStarts, Puts, StartWithin, StartedAt, called_block, deep_edge, passed_by};
+ghost use Rattle.sp_effects.specs.Edges.{OneStarts, Puts, StartWithin, StartedAt, deep_edge, passed_by};
 ghost use Rattle.sp_rules.specs.Areas.{Area, entry};
-ghost use Rattle.sp_rules.specs.Named.{BreaksV1};
-ghost use Rattle.sp_shapes.specs.Shapes.{AreShapes};
 ghost use Rattle.sp_shapes.specs.Stacks.{Holds, IsStacks, list_of, shape_of};
 
-use crate::areas::{area_at, stack_at, table_of};
-use sp_areas::blocks::Blocks;
-use sp_areas::owners::Owner;
+use crate::areas::{area_at, called_block, table_of};
+use crate::ground::Ground;
 use sp_base::{List, Memory};
-use sp_code::{ChildTable, Code, Formal, Instr, Layout};
-use sp_shapes::shapes::Shapes;
+use sp_code::{ChildTable, Code, Formal, Layout};
+use sp_shapes::reached::reached;
 use sp_shapes::stacks::{Shape, Stacks};
 use std::alloc::Global;
 
 /// A way on which effects go from an area to another, which has the first instruction `to`.
-#[derive(Clone, Copy, Debug)]
+#[derive(Clone, Copy)]
 pub enum Edge {
     /// From a child to the area that starts it: all but loads of its index.
     Started { to: u32, index: Option<u32> },
@@ -171,42 +167,24 @@ fn link_call(
     link_operands(rows, layout, to, stacks, stack)
 }
 
-// The block that an instruction calls.
-fn called_block(instr: Option<Instr>) -> Option<u32>
-    ensures { result ≡ called_block instr }
-{
-    match instr {
-        Some(Instr::Call { block, up: _ }) => Some(block),
-        _ => None,
-    }
-}
-
 // Puts those of the call at p, if there is one that is reached.
-fn link_called(
-    code: &Code,
-    blocks: &Blocks,
-    shapes: &Shapes,
-    rows: &mut List<List<Edge>>,
-    to: u32,
-    p: u32,
-) -> Result<(), Memory>
-    requires blocks { IsNumbered blocks.now.first code.now.layouts }
-    requires shapes { AreShapes code.now shapes.now }
-    requires lies { (a : Area) × LiesOnlyIn code.now p a × (entry code.now a ≡ to) }
-    requires there { (b : ℕ) (l : Layout) → layout_of code.now.layouts b ≡ Some l → l.entry < length rows.old }
-    ensures { OnOk result (Links rows.old rows.new (CalledAt code.now p)) }
+fn link_called(g: &Ground, rows: &mut List<List<Edge>>, to: u32, p: u32) -> Result<(), Memory>
+    requires known { IsGround g.now }
+    requires lies { (a : Area) × LiesOnlyIn g.now.code.now p a × (entry g.now.code.now a ≡ to) }
+    requires there { (b : ℕ) (l : Layout) → layout_of g.now.code.now.layouts b ≡ Some l → l.entry < length rows.old }
+    ensures { OnOk result (Links rows.old rows.new (CalledAt g.now.code.now p)) }
 {
-    let stack = match stack_at(shapes, p) {
+    let stack = match reached(g.shapes, p) {
         None => return Ok(()),
         Some(stack) => stack,
     };
-    let block = match called_block(code.instr(p)) {
+    let block = match called_block(g.code, p) {
         None => return Ok(()),
         Some(block) => block,
     };
-    match blocks.find(&code.parts().layouts, block) {
+    match g.blocks.find(&g.code.parts().layouts, block) {
         None => Ok(()),
-        Some(layout) => link_call(rows, layout, to, &shapes.stacks, stack),
+        Some(layout) => link_call(rows, layout, to, &g.shapes.stacks, stack),
     }
 }
 
@@ -240,28 +218,18 @@ fn link_started(code: &Code, rows: &mut List<List<Edge>>, to: u32, p: u32) -> Re
 }
 
 // Puts those at p.
-fn link_at(
-    code: &Code,
-    blocks: &Blocks,
-    owners: &List<Owner>,
-    shapes: &Shapes,
-    rows: &mut List<List<Edge>>,
-    p: u32,
-) -> Result<(), Memory>
-    requires kept { (p : ℕ) → BreaksV1 code.now p → ⊥ }
-    requires blocks { IsNumbered blocks.now.first code.now.layouts }
-    requires owners { AreOwners code.now owners.now }
-    requires shapes { AreShapes code.now shapes.now }
-    requires there { p < length code.now.instrs }
-    requires size { length rows.old ≡ length code.now.instrs }
-    ensures { OnOk result (Links rows.old rows.new (EdgeAt code.now p)) }
+fn link_at(g: &Ground, rows: &mut List<List<Edge>>, p: u32) -> Result<(), Memory>
+    requires known { IsGround g.now }
+    requires there { p < length g.now.code.now.instrs }
+    requires size { length rows.old ≡ length g.now.code.now.instrs }
+    ensures { OnOk result (Links rows.old rows.new (EdgeAt g.now.code.now p)) }
 {
-    let to = match area_at(code, blocks, owners, p) {
+    let to = match area_at(g, p) {
         None => return Ok(()),
         Some(to) => to,
     };
-    link_called(code, blocks, shapes, rows, to, p)?;
-    link_started(code, rows, to, p)
+    link_called(g, rows, to, p)?;
+    link_started(g.code, rows, to, p)
 }
 
 // So many rows with no edges.
@@ -276,22 +244,15 @@ fn empty_rows(alloc: Global, count: usize) -> Result<List<List<Edge>>, Memory>
 }
 
 /// All edges, by the first instructions of the areas from which they lead.
-pub fn edges_of(
-    code: &Code,
-    blocks: &Blocks,
-    owners: &List<Owner>,
-    shapes: &Shapes,
-) -> Result<List<List<Edge>>, Memory>
-    requires kept { (p : ℕ) → BreaksV1 code.now p → ⊥ }
-    requires blocks { IsNumbered blocks.now.first code.now.layouts }
-    requires owners { AreOwners code.now owners.now }
-    requires shapes { AreShapes code.now shapes.now }
-    ensures { IfOk result (AreEdges code.now) }
+pub fn edges_of(g: &Ground) -> Result<List<List<Edge>>, Memory>
+    requires known { IsGround g.now }
+    ensures { IfOk result (AreEdges g.now.code.now) }
 {
-    let count = code.parts().instrs.len();
-    let mut rows = empty_rows(code.parts().instrs.alloc(), count)?;
+    let instrs = &g.code.parts().instrs;
+    let count = instrs.len();
+    let mut rows = empty_rows(instrs.alloc(), count)?;
     for p in 0..count {
-        link_at(code, blocks, owners, shapes, &mut rows, p as u32)?;
+        link_at(g, &mut rows, p as u32)?;
     }
     Ok(rows)
 }

@@ -1,24 +1,18 @@
 //! The effects of areas of code, as a table by their first instructions.
 
 ghost use Rattle.std.specs.Prelude.{◌≡◌, ℕ, IfOk, OnOk, length, slice_get};
-ghost use Rattle.sp_areas.specs.Blocks.{IsNumbered};
-ghost use Rattle.sp_areas.specs.Homes.{AreHomes};
-ghost use Rattle.sp_areas.specs.Owners.{AreOwners};
+ghost use Rattle.sp_effects.specs.Grounds.{IsGround};
 ghost use Rattle.sp_effects.specs.Effects.{AreEffects, AreRows, HasDeed, Puts, Writes, touches};
 ghost use Rattle.sp_effects.specs.declared.facts.Deed.{Deed as DeedOf};
-ghost use Rattle.sp_rules.specs.Named.{BreaksV1};
-ghost use Rattle.sp_shapes.specs.Shapes.{AreShapes};
 ghost use Rattle.std.specs.Option.{option_copied};
 
 use crate::closing::facts_of;
 use crate::facts::{Deed, Fact, Facts};
-use sp_areas::blocks::Blocks;
-use sp_areas::homes::Homes;
-use sp_areas::owners::Owner;
+use crate::ground::Ground;
+use crate::variables::own_of;
 use sp_base::{List, Memory};
-use sp_code::Code;
-use sp_shapes::shapes::Shapes;
 use std::alloc::Global;
+use std::collections::BTreeSet;
 
 /// What the code of a block or child does, with the children that it starts and the blocks that it calls.
 #[derive(Drop)]
@@ -38,6 +32,8 @@ pub struct Effects {
     pub rows: List<Deeds>,
     /// The same as facts.
     pub facts: Facts,
+    /// The variables of each block, each under the first instruction of its block.
+    pub own: BTreeSet<(u32, u32)>,
 }
 
 impl Effects {
@@ -131,23 +127,14 @@ fn rows_of(alloc: Global, facts: &Facts, count: usize) -> Result<List<Deeds>, Me
     Ok(rows)
 }
 
-/// What the code of each block and child does. It wants V1 kept. The only other answer is want of memory.
-pub fn find_effects(
-    code: &Code,
-    blocks: &Blocks,
-    owners: &List<Owner>,
-    homes: &Homes,
-    shapes: &Shapes,
-) -> Result<Effects, Memory>
-    requires kept { (p : ℕ) → BreaksV1 code.now p → ⊥ }
-    requires blocks { IsNumbered blocks.now.first code.now.layouts }
-    requires owners { AreOwners code.now owners.now }
-    requires homes { AreHomes code.now homes.now }
-    requires shapes { AreShapes code.now shapes.now }
-    ensures { IfOk result (λ effects. AreEffects code.now effects) }
+/// What the code of each block and child does. The only other answer is want of memory.
+pub fn find_effects(g: &Ground) -> Result<Effects, Memory>
+    requires known { IsGround g.now }
+    ensures { IfOk result (λ effects. AreEffects g.now.code.now effects) }
 {
-    let facts = facts_of(code, blocks, owners, homes, shapes)?;
-    let instrs = &code.parts().instrs;
+    let own = own_of(g.code)?;
+    let facts = facts_of(g, &own)?;
+    let instrs = &g.code.parts().instrs;
     let rows = rows_of(instrs.alloc(), &facts, instrs.len())?;
-    Ok(Effects { rows, facts })
+    Ok(Effects { rows, facts, own })
 }

@@ -12,7 +12,7 @@ use std::marker::Model;
 use std::mem;
 
 /// What the code of an area does.
-#[derive(Clone, Copy, Debug, PartialEq, Eq)]
+#[derive(Clone, Copy)]
 pub enum Deed {
     /// It stores the variable of this number.
     Stores(u32),
@@ -23,7 +23,7 @@ pub enum Deed {
 }
 
 /// What one area does.
-#[derive(Clone, Copy, Debug, PartialEq, Eq)]
+#[derive(Clone, Copy)]
 pub struct Fact {
     /// The first instruction of the area.
     pub area: u32,

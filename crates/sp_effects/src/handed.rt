@@ -1,21 +1,20 @@
 //! Rule V6: what the children of forks are handed, held against what they do.
 
-ghost use Rattle.std.specs.Prelude.{◌≡◌, ℕ, IfOk, OnOk, length, slice_get, Some};
+ghost use Rattle.std.specs.Prelude.{◌≡◌, IfOk, OnOk, length, slice_get, Some};
 ghost use Rattle.sp_areas.specs.Least.{IsLeast, Upto};
-ghost use Rattle.sp_areas.specs.Owners.{AreOwners};
-ghost use Rattle.sp_rules.specs.Named.{BreaksV1};
 ghost use Rattle.sp_rules.specs.Verdict.{BreaksV6};
+ghost use Rattle.sp_effects.specs.Grounds.{IsGround};
 ghost use Rattle.sp_effects.specs.Effects.{AreEffects};
 ghost use Rattle.sp_effects.specs.Handed.{ChildFails, TableFails, clashes, fails_by};
 ghost use Rattle.sp_effects.specs.Handed.{fails_alone, is_loose};
 ghost use Rattle.sp_effects.specs.Sets.{with_all};
 
 use crate::effects::{Deeds, Effects};
+use crate::ground::Ground;
 use crate::sets::{add_all, add_index, goes_beyond, meets};
 use sp_areas::least::{least, place_if};
-use sp_areas::owners::Owner;
-use sp_base::{List, Memory};
-use sp_code::{ChildTable, Code, ForkTable};
+use sp_base::Memory;
+use sp_code::{ChildTable, ForkTable};
 use std::alloc::Global;
 use std::collections::BTreeSet;
 
@@ -135,19 +134,14 @@ fn first_in(alloc: Global, effects: &Effects, tables: &[ForkTable]) -> Result<Op
 }
 
 /// The least instruction at which V6 is broken: the first instruction of a child that stores or loads more than it is
-/// handed, is handed something wrongly, or clashes with a child before it. None where there is none. It wants V1 kept.
-/// The only other answer is want of memory.
+/// handed, is handed something wrongly, or clashes with a child before it. None where there is none. The only other
+/// answer is want of memory.
 #[tactic(auto, using(crate::proofs::Broken::v6_least))]
-pub fn first_ill_handed(
-    code: &Code,
-    owners: &List<Owner>,
-    effects: &Effects,
-) -> Result<Option<u32>, Memory>
-    requires kept { (p : ℕ) → BreaksV1 code.now p → ⊥ }
-    requires owners { AreOwners code.now owners.now }
-    requires effects { AreEffects code.now effects.now }
-    ensures { IfOk result (λ first. IsLeast (BreaksV6 code.now) first) }
+pub fn first_ill_handed(g: &Ground, effects: &Effects) -> Result<Option<u32>, Memory>
+    requires known { IsGround g.now }
+    requires effects { AreEffects g.now.code.now effects.now }
+    ensures { IfOk result (λ first. IsLeast (BreaksV6 g.now.code.now) first) }
 {
-    let parts = code.parts();
+    let parts = g.code.parts();
     first_in(parts.instrs.alloc(), effects, parts.forks.items())
 }

@@ -1,26 +1,25 @@
 //! What the code of blocks and children does to variables, for rules V6 to V8 of code files.
 //!
 //! Calls:
-//! - `find_effects` (`effects`): of code that keeps V1, exactly the variables that each area stores and loads, with
-//!   what it starts and calls, and whether it comes to a stop other than a fault (`AreEffects`).
+//! - `Ground` (`ground`): code that keeps V1, with what is known of it. All passes go by it.
+//! - `find_effects` (`effects`): exactly the variables that each area stores and loads, with what it starts and calls,
+//!   and whether it comes to a stop other than a fault (`AreEffects`).
 //! - `Effects::of`, `touches`: what the area with this first instruction does; whether it stores or loads a variable.
-//! - `first_ill_handed` (`handed`): the least instruction at which V6 is broken, of code that keeps V1; none where it
-//!   is broken nowhere.
-//! - `first_clash` (`clash`): the same for V7, of code that keeps V1 to V5. `first_loud` (`loud`): the same for V8, of
-//!   code that keeps V1.
+//! - `first_ill_handed` (`handed`): the least instruction at which V6 is broken; none where it is broken nowhere.
+//! - `first_clash` (`clash`): the same for V7, of code that keeps V2 to V5 too. `first_loud` (`loud`): the same for V8.
 //! - `tell_own` (`own`), `edges_of` (`edges`), `facts_of` (`closing`): what areas do themselves, the ways on which this
 //!   goes from area to area, and all that follows.
-//! - `Facts::new`, `len`, `at`, `has`, `add` (`facts`): a list of facts, each once. `table_of`, `area_at`, `stack_at`
-//!   (`areas`), `stored_place`, `loaded_place`, `is_stop` (`places`): what is looked up of an instruction.
+//! - `Facts::new`, `len`, `at`, `has`, `add` (`facts`): a list of facts, each once. `table_of`, `area_at` (`areas`),
+//!   `stored_place`, `loaded_place`, `is_stop` (`places`): what is looked up of an instruction.
 //!
 //! To know:
 //! - Each answer is exact. The only other one is want of memory.
 //! - An area is known by its first instruction: that of no other area, where V1 is kept.
 //! - `facts.rt` is a set of facts about areas (`specs/Facts.antt`), `places.rt` and `own.rt` are what instructions do
 //!   themselves, `edges.rt` and `closing.rt` how facts go from area to area until nothing is new, `effects.rt` makes a
-//!   table of them.
+//!   table of them, with the variables of blocks (`variables.rt`).
 //! - `handed.rt` is V6; `clash.rt` is V7, with `calls.rt` (a call) and `inside.rt` (a block that is called inside
-//!   itself); `loud.rt` is V8. `sets.rt` and `variables.rt` serve them.
+//!   itself); `loud.rt` is V8. `sets.rt` serves them.
 #![tactic(auto)]
 
 pub mod areas;
@@ -30,6 +29,7 @@ pub mod closing;
 pub mod edges;
 pub mod effects;
 pub mod facts;
+pub mod ground;
 pub mod handed;
 pub mod inside;
 pub mod loud;

@@ -1,30 +1,26 @@
 //! What instructions do themselves: the variables that they store and load, stops, and what forks hand on.
 
-ghost use Rattle.std.specs.Prelude.{◌≡◌, ◌++◌, ◌∷◌, [], ℕ, ◌<◌, OnOk, length, Some, List};
-ghost use Rattle.sp_areas.specs.Blocks.{IsNumbered};
-ghost use Rattle.sp_areas.specs.Homes.{AreHomes, found_of};
+ghost use Rattle.std.specs.Prelude.{◌≡◌, ◌++◌, ◌∷◌, [], ◌<◌, IfOk, OnOk, length, Some};
+ghost use Rattle.sp_areas.specs.Homes.{found_of};
 ghost use Rattle.sp_areas.specs.Only.{LiesOnlyIn};
-ghost use Rattle.sp_areas.specs.Owners.{AreOwners};
 ghost use Rattle.sp_code.specs.Machine.{layout_of};
+ghost use Rattle.sp_effects.specs.Grounds.{IsGround};
 ghost use Rattle.sp_effects.specs.Facts.{Tells};
 ghost use Rattle.sp_effects.specs.Own.{DoesBy, ForkedAt, IsAmong, IsHanded, IsOf, IsStop, OneIsHanded, OwnAt};
 ghost use Rattle.sp_effects.specs.Own.{OwnBefore, ReachedAt, deed_of, operand_variables, variables_at};
 ghost use Rattle.sp_rules.specs.Areas.{Area, entry, instr_at};
-ghost use Rattle.sp_rules.specs.Named.{BreaksV1};
 ghost use Rattle.sp_rules.specs.Touched.{topmost, addresses, numbered};
 ghost use Rattle.sp_rules.specs.Shapes.{below};
-ghost use Rattle.sp_shapes.specs.Shapes.{AreShapes};
 ghost use Rattle.sp_shapes.specs.Stacks.{Holds, IsStacks, list_of, shape_of};
 
-use crate::areas::{area_at, stack_at, table_of};
+use crate::areas::{area_at, table_of};
 use crate::facts::{Deed, Fact, Facts};
+use crate::ground::Ground;
 use crate::places::{Place, is_stop, loaded_place, stored_place};
-use sp_areas::blocks::Blocks;
-use sp_areas::homes::{Found, Homes};
-use sp_areas::owners::Owner;
+use sp_areas::homes::Found;
 use sp_base::{List, Memory};
 use sp_code::{ChildTable, Code, Instr};
-use sp_shapes::shapes::Shapes;
+use sp_shapes::reached::reached;
 use sp_shapes::stacks::{Shape, Stacks};
 
 // Puts a variable last.
@@ -103,45 +99,33 @@ fn push_addresses(
 }
 
 // Those of the operands of a call.
-fn push_passed(
-    list: &mut List<u32>,
-    code: &Code,
-    blocks: &Blocks,
-    block: u32,
-    stacks: &Stacks,
-    stack: u32,
-) -> Result<(), Memory>
-    requires blocks { IsNumbered blocks.now.first code.now.layouts }
-    requires stacks { IsStacks stacks.now }
-    requires there { Holds stacks.now stack }
+fn push_passed(list: &mut List<u32>, g: &Ground, block: u32, stack: u32) -> Result<(), Memory>
+    requires known { IsGround g.now }
+    requires there { Holds g.now.shapes.now.stacks stack }
     ensures { OnOk result (list.new ≡ list.old
-        ++ operand_variables (layout_of code.now.layouts block) (list_of stacks.now stack)) }
+        ++ operand_variables (layout_of g.now.code.now.layouts block) (list_of g.now.shapes.now.stacks stack)) }
 {
-    match blocks.find(&code.parts().layouts, block) {
+    match g.blocks.find(&g.code.parts().layouts, block) {
         None => Ok(()),
-        Some(layout) => push_addresses(list, stacks, stack, layout.formals.len()),
+        Some(layout) => push_addresses(list, &g.shapes.stacks, stack, layout.formals.len()),
     }
 }
 
 // The variables at a place.
 fn push_placed(
     list: &mut List<u32>,
-    code: &Code,
-    blocks: &Blocks,
-    homes: &Homes,
+    g: &Ground,
     p: u32,
     place: Place,
-    stacks: &Stacks,
     stack: u32,
 ) -> Result<(), Memory>
-    requires blocks { IsNumbered blocks.now.first code.now.layouts }
-    requires homes { AreHomes code.now homes.now }
-    requires stacks { IsStacks stacks.now }
-    requires there { Holds stacks.now stack }
-    requires within { p < length code.now.instrs }
-    ensures { OnOk result ((a : Area) → LiesOnlyIn code.now p a
-        → list.new ≡ list.old ++ variables_at code.now a place (list_of stacks.now stack)) }
+    requires known { IsGround g.now }
+    requires there { Holds g.now.shapes.now.stacks stack }
+    requires within { p < length g.now.code.now.instrs }
+    ensures { OnOk result ((a : Area) → LiesOnlyIn g.now.code.now p a
+        → list.new ≡ list.old ++ variables_at g.now.code.now a place (list_of g.now.shapes.now.stacks stack)) }
 {
+    let stacks = &g.shapes.stacks;
     match place {
         Place::Nowhere => Ok(()),
         Place::Number(x) => push(list, x),
@@ -152,11 +136,23 @@ fn push_placed(
         Place::Top => push_top(list, stacks, stack),
         Place::Second => push_second(list, stacks, stack),
         Place::Loop(var) => {
-            let found = homes.variable(code, p, 0, var);
+            let found = g.homes.variable(g.code, p, 0, var);
             push_found(list, found)
         }
-        Place::Passed(block) => push_passed(list, code, blocks, block, stacks, stack),
+        Place::Passed(block) => push_passed(list, g, block, stack),
     }
+}
+
+fn variables_at(g: &Ground, p: u32, place: Place, stack: u32) -> Result<List<u32>, Memory>
+    requires known { IsGround g.now }
+    requires there { Holds g.now.shapes.now.stacks stack }
+    requires within { p < length g.now.code.now.instrs }
+    ensures { IfOk result (λ xs. (a : Area) → LiesOnlyIn g.now.code.now p a
+        → xs ≡ variables_at g.now.code.now a place (list_of g.now.shapes.now.stacks stack)) }
+{
+    let mut list = List::new(g.code.parts().instrs.alloc());
+    push_placed(&mut list, g, p, place, stack)?;
+    Ok(list)
 }
 
 fn deed_of(stores: bool, x: u32) -> Deed
@@ -180,33 +176,6 @@ fn tell(facts: &mut Facts, area: u32, stores: bool, variables: &[u32]) -> Result
     Ok(())
 }
 
-// Tells what stands at a place.
-fn tell_placed(
-    code: &Code,
-    blocks: &Blocks,
-    homes: &Homes,
-    stacks: &Stacks,
-    facts: &mut Facts,
-    area: u32,
-    p: u32,
-    stores: bool,
-    place: Place,
-    stack: u32,
-) -> Result<(), Memory>
-    requires blocks { IsNumbered blocks.now.first code.now.layouts }
-    requires homes { AreHomes code.now homes.now }
-    requires stacks { IsStacks stacks.now }
-    requires there { Holds stacks.now stack }
-    requires within { p < length code.now.instrs }
-    ensures { OnOk result ((a : Area) → LiesOnlyIn code.now p a
-        → Tells facts.old facts.new (IsOf area
-        (IsAmong stores (variables_at code.now a place (list_of stacks.now stack))))) }
-{
-    let mut list = List::new(code.parts().instrs.alloc());
-    push_placed(&mut list, code, blocks, homes, p, place, stacks, stack)?;
-    tell(facts, area, stores, list.items())
-}
-
 // Tells that an area comes to a stop, if the instruction is one.
 fn tell_stop(facts: &mut Facts, area: u32, instr: Instr) -> Result<(), Memory>
     ensures { OnOk result (Tells facts.old facts.new (IsOf area (IsStop (Some instr)))) }
@@ -222,49 +191,24 @@ fn tell_stop(facts: &mut Facts, area: u32, instr: Instr) -> Result<(), Memory>
 
 // Tells what an instruction does itself, with these shapes.
 fn tell_shaped(
-    code: &Code,
-    blocks: &Blocks,
-    homes: &Homes,
-    stacks: &Stacks,
+    g: &Ground,
     facts: &mut Facts,
     area: u32,
     p: u32,
     instr: Instr,
     stack: u32,
 ) -> Result<(), Memory>
-    requires blocks { IsNumbered blocks.now.first code.now.layouts }
-    requires homes { AreHomes code.now homes.now }
-    requires stacks { IsStacks stacks.now }
-    requires there { Holds stacks.now stack }
-    requires instr { instr_at code.now p ≡ Some instr }
-    requires within { p < length code.now.instrs }
-    ensures { OnOk result ((a : Area) → LiesOnlyIn code.now p a
-        → Tells facts.old facts.new (IsOf area (DoesBy code.now a p (list_of stacks.now stack)))) }
+    requires known { IsGround g.now }
+    requires there { Holds g.now.shapes.now.stacks stack }
+    requires instr { instr_at g.now.code.now p ≡ Some instr }
+    requires within { p < length g.now.code.now.instrs }
+    ensures { OnOk result ((a : Area) → LiesOnlyIn g.now.code.now p a
+        → Tells facts.old facts.new (IsOf area (DoesBy g.now.code.now a p (list_of g.now.shapes.now.stacks stack)))) }
 {
-    tell_placed(
-        code,
-        blocks,
-        homes,
-        stacks,
-        facts,
-        area,
-        p,
-        true,
-        stored_place(instr),
-        stack,
-    )?;
-    tell_placed(
-        code,
-        blocks,
-        homes,
-        stacks,
-        facts,
-        area,
-        p,
-        false,
-        loaded_place(instr),
-        stack,
-    )?;
+    let stored = variables_at(g, p, stored_place(instr), stack)?;
+    tell(facts, area, true, stored.items())?;
+    let loaded = variables_at(g, p, loaded_place(instr), stack)?;
+    tell(facts, area, false, loaded.items())?;
     tell_stop(facts, area, instr)
 }
 
@@ -297,87 +241,44 @@ fn tell_forked(code: &Code, facts: &mut Facts, area: u32, p: u32) -> Result<(), 
 }
 
 // Tells what the instruction at p does itself, if it is reached.
-fn tell_reached(
-    code: &Code,
-    blocks: &Blocks,
-    homes: &Homes,
-    shapes: &Shapes,
-    facts: &mut Facts,
-    area: u32,
-    p: u32,
-) -> Result<(), Memory>
-    requires blocks { IsNumbered blocks.now.first code.now.layouts }
-    requires homes { AreHomes code.now homes.now }
-    requires shapes { AreShapes code.now shapes.now }
-    requires lies { (a : Area) × LiesOnlyIn code.now p a × (entry code.now a ≡ area) }
-    requires within { p < length code.now.instrs }
-    ensures { OnOk result (Tells facts.old facts.new (ReachedAt code.now p)) }
+fn tell_reached(g: &Ground, facts: &mut Facts, area: u32, p: u32) -> Result<(), Memory>
+    requires known { IsGround g.now }
+    requires lies { (a : Area) × LiesOnlyIn g.now.code.now p a × (entry g.now.code.now a ≡ area) }
+    requires within { p < length g.now.code.now.instrs }
+    ensures { OnOk result (Tells facts.old facts.new (ReachedAt g.now.code.now p)) }
 {
-    let stack = match stack_at(shapes, p) {
+    let stack = match reached(g.shapes, p) {
         None => return Ok(()),
         Some(stack) => stack,
     };
-    let instr = match code.instr(p) {
+    let instr = match g.code.instr(p) {
         None => return Ok(()),
         Some(instr) => instr,
     };
-    tell_shaped(
-        code,
-        blocks,
-        homes,
-        &shapes.stacks,
-        facts,
-        area,
-        p,
-        instr,
-        stack,
-    )
+    tell_shaped(g, facts, area, p, instr, stack)
 }
 
 // Tells what the instruction at p does.
-fn tell_at(
-    code: &Code,
-    blocks: &Blocks,
-    owners: &List<Owner>,
-    homes: &Homes,
-    shapes: &Shapes,
-    facts: &mut Facts,
-    p: u32,
-) -> Result<(), Memory>
-    requires kept { (p : ℕ) → BreaksV1 code.now p → ⊥ }
-    requires blocks { IsNumbered blocks.now.first code.now.layouts }
-    requires owners { AreOwners code.now owners.now }
-    requires homes { AreHomes code.now homes.now }
-    requires shapes { AreShapes code.now shapes.now }
-    requires there { p < length code.now.instrs }
-    ensures { OnOk result (Tells facts.old facts.new (OwnAt code.now p)) }
+fn tell_at(g: &Ground, facts: &mut Facts, p: u32) -> Result<(), Memory>
+    requires known { IsGround g.now }
+    requires there { p < length g.now.code.now.instrs }
+    ensures { OnOk result (Tells facts.old facts.new (OwnAt g.now.code.now p)) }
 {
-    let area = match area_at(code, blocks, owners, p) {
+    let area = match area_at(g, p) {
         None => return Ok(()),
         Some(area) => area,
     };
-    tell_reached(code, blocks, homes, shapes, facts, area, p)?;
-    tell_forked(code, facts, area, p)
+    tell_reached(g, facts, area, p)?;
+    tell_forked(g.code, facts, area, p)
 }
 
 /// What each area does itself, or hands to its children.
-pub fn tell_own(
-    code: &Code,
-    blocks: &Blocks,
-    owners: &List<Owner>,
-    homes: &Homes,
-    shapes: &Shapes,
-    facts: &mut Facts,
-) -> Result<(), Memory>
-    requires kept { (p : ℕ) → BreaksV1 code.now p → ⊥ }
-    requires blocks { IsNumbered blocks.now.first code.now.layouts }
-    requires owners { AreOwners code.now owners.now }
-    requires homes { AreHomes code.now homes.now }
-    requires shapes { AreShapes code.now shapes.now }
-    ensures { OnOk result (Tells facts.old facts.new (OwnBefore code.now (length code.now.instrs))) }
+pub fn tell_own(g: &Ground, facts: &mut Facts) -> Result<(), Memory>
+    requires known { IsGround g.now }
+    ensures { OnOk result (Tells facts.old facts.new (OwnBefore g.now.code.now (length g.now.code.now.instrs))) }
 {
-    for p in 0..code.parts().instrs.len() {
-        tell_at(code, blocks, owners, homes, shapes, facts, p as u32)?;
+    for p in 0..g.code.parts().instrs.len() {
+        tell_at(g, facts, p as u32)?;
     }
     Ok(())
 }

@@ -11,7 +11,7 @@ ghost use Rattle.sp_rules.specs.Verdict.{is_stop};
 use sp_code::Instr;
 
 /// Where variables are found.
-#[derive(Clone, Copy, Debug)]
+#[derive(Clone, Copy)]
 pub enum Place {
     /// There are none.
     Nowhere,

@@ -1,63 +1,49 @@
-//! Which variables the blocks of layouts have.
+//! Which variables blocks have, each under the first instruction of its block.
 
-ghost use Rattle.std.specs.Prelude.{◌≡◌, ◌≤◌, [], IfOk, OnOk, length};
-ghost use Rattle.std.specs.BTreeSet.{insert_key};
-ghost use Rattle.sp_effects.specs.Variables.{goes_out, owns, place_cmp, with_layouts, with_variables};
+ghost use Rattle.std.specs.Prelude.{◌≡◌, IfOk, OnOk};
+ghost use Rattle.sp_effects.specs.Variables.{AddsPairs, AreOwn, IsOwnOf, goes_out, owns};
 
 use sp_base::Memory;
-use sp_code::Layout;
-use std::alloc::Global;
+use sp_code::Code;
 use std::collections::BTreeSet;
 
-/// Whether the layout at a place has a variable.
-pub(crate) fn owns(own: &BTreeSet<(u32, u32)>, place: u32, x: u32) -> bool
-    ensures { result ≡ owns own.now.keys place x }
+/// Whether the block with this first instruction has a variable.
+pub(crate) fn owns(own: &BTreeSet<(u32, u32)>, entry: u32, x: u32) -> bool
+    ensures { result ≡ owns own.now.keys entry x }
 {
-    let key = (place, x);
+    let key = (entry, x);
     own.contains(&key)
 }
 
-// Adds one variable of a layout.
-fn add_variable(own: &mut BTreeSet<(u32, u32)>, place: u32, x: u32) -> Result<(), Memory>
-    ensures { OnOk result (own.new.keys ≡ insert_key place_cmp own.old.keys (place, x)) }
+// Puts the variables of a block.
+fn put_own(own: &mut BTreeSet<(u32, u32)>, entry: u32, variables: &[u32]) -> Result<(), Memory>
+    ensures { OnOk result (AddsPairs own.old.keys own.new.keys (IsOwnOf entry variables.now)) }
 {
-    own.insert((place, x))?;
-    Ok(())
-}
-
-// Adds the variables of one layout.
-fn add_variables(own: &mut BTreeSet<(u32, u32)>, place: u32, xs: &[u32]) -> Result<(), Memory>
-    ensures { OnOk result (own.new.keys ≡ with_variables own.old.keys place xs.now) }
-{
-    for x in xs {
-        add_variable(own, place, *x)?;
+    for i in 0..variables.len() {
+        own.insert((entry, variables[i]))?;
     }
     Ok(())
 }
 
-/// The variables of all layouts, each with the place of its layout.
-pub(crate) fn own_variables(
-    alloc: Global,
-    layouts: &[Layout],
-) -> Result<BTreeSet<(u32, u32)>, Memory>
-    requires { length layouts.now ≤ 1048576 }
-    ensures { IfOk result (λ own. own.keys ≡ with_layouts [] 0 layouts.now) }
+/// The variables of all blocks.
+pub(crate) fn own_of(code: &Code) -> Result<BTreeSet<(u32, u32)>, Memory>
+    ensures { IfOk result (λ own. AreOwn code.now own.keys) }
 {
-    let mut own = BTreeSet::new(alloc);
-    let mut place = 0;
-    for l in layouts {
-        add_variables(&mut own, place, l.variables.items())?;
-        place += 1;
+    let layouts = code.parts().layouts.items();
+    let mut own = BTreeSet::new(code.parts().instrs.alloc());
+    for j in 0..layouts.len() {
+        let layout = &layouts[j];
+        put_own(&mut own, layout.entry, layout.variables.items())?;
     }
     Ok(own)
 }
 
-/// Whether one of these variables, from a number on, is not of the layout at a place.
-pub(crate) fn goes_out(own: &BTreeSet<(u32, u32)>, place: u32, from: u32, xs: &[u32]) -> bool
-    ensures { result ≡ goes_out own.now.keys place from xs.now }
+/// Whether one of these variables, from a number on, is not of the block with this first instruction.
+pub(crate) fn goes_out(own: &BTreeSet<(u32, u32)>, entry: u32, from: u32, xs: &[u32]) -> bool
+    ensures { result ≡ goes_out own.now.keys entry from xs.now }
 {
     for x in xs {
-        if from <= *x && !owns(own, place, *x) {
+        if from <= *x && !owns(own, entry, *x) {
             return true;
         }
     }

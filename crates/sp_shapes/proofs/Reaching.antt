@@ -28,6 +28,9 @@ stands s p n e = go (slice_get s.at p) refl e
     go None f g = absurd (none-some n g)
     go (Some w) f g = f ∙ ap Some g
 
+pub reached_there : (s : Shapes) (p n : ℕ) → slice_get s.at p ≡ Some (Some n) → reached_at s p ≡ Some n
+reached_there s p n e = ap (λ (o : Option (Option ℕ)). given None o (λ w. w)) e
+
 pub holds : (c : Parts) (s : Shapes) → AreShapes c s → (p n : ℕ) → reached_at s p ≡ Some n → Holds s.stacks n
 holds c s h p n e = h.held p n (stands s p n e)
 

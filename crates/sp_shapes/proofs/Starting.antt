@@ -16,12 +16,12 @@ use Rattle.sp_rules.specs.Reach.{IsArea}
 use Rattle.sp_rules.specs.Named.{LiesIn}
 use Rattle.sp_areas.specs.declared.owners.Owner.{Owner}
 use Rattle.sp_areas.specs.declared.owners.Owner.TheVariants as owner
-use Rattle.sp_areas.specs.Owners.{Owns}
+use Rattle.sp_areas.specs.Owners.{Owns, is_same}
 use Rattle.sp_shapes.specs.declared.steps.Arrival.{Arrival}
 use Rattle.sp_shapes.specs.declared.search.Search.{Search}
 use Rattle.sp_shapes.specs.Stacks.{IsStacks, list_of}
 use Rattle.sp_shapes.specs.Search.{IsAmong, HasAt, IsMarked, Compares}
-use Rattle.sp_shapes.specs.Starts.{start, AreAll, IsEntry, Adds, IsOfLayouts, IsOfChildren, IsMadeAt, IsMade, is_nobody}
+use Rattle.sp_shapes.specs.Starts.{start, AreAll, IsEntry, Adds, IsOfLayouts, IsOfChildren, IsMadeAt, IsMade}
 use Rattle.sp_shapes.proofs.Ways.{block_in}
 use Rattle.sp_shapes.proofs.Searching.{among_last, among_left, among_or}
 
@@ -84,27 +84,27 @@ module _ (c : Parts) where
       go (inl a) = inl (k, d, a, g, at)
       go (inr s) = inr (sym at ∙ ap (λ (y : ChildTable). y.entry) (same_Some d ch (sym g ∙ ap (slice_get ts) s ∙ e)))
 
-  someone : (p : ℕ) (o : Owner) → Owns c p o → is_nobody o ≡ false → (a : Area) × LiesIn c p a
+  someone : (p : ℕ) (o : Owner) → Owns c p o → is_same o owner.Nobody ≡ false → (a : Area) × LiesIn c p a
   someone p owner.Nobody h e = absurd (cc e)
   someone p (owner.Block b) h e = (h.area, h.lies)
   someone p (owner.Child q k) h e = (h.area, h.lies)
   someone p owner.Several h e = (h.one, h.lies)
 
-  module _ (p t : ℕ) (i : Instr) (tb : ForkTable) (e : instr_at c p ≡ Some i) (f : table_named (Some i) ≡ Some t)
-      (g : slice_get c.forks t ≡ Some tb) where
-    child_is : (k : ℕ) → child_at c p k ≡ slice_get tb.children k
-    child_is k = ap (λ (o : Option ℕ). child_of (table_at c.forks o) k) (ap table_named e ∙ f)
-        ∙ ap (λ (o : Option ForkTable). child_of o k) g
+  module _ (p t : ℕ) (tb : ForkTable) (e : table_named (instr_at c p) ≡ Some t) (g : slice_get c.forks t ≡ Some tb)
+    where
+      child_is : (k : ℕ) → child_at c p k ≡ slice_get tb.children k
+      child_is k = ap (λ (o : Option ℕ). child_of (table_at c.forks o) k) e
+          ∙ ap (λ (o : Option ForkTable). child_of o k) g
 
-    pub of_child : (o : Owner) → Owns c p o → is_nobody o ≡ false → (k : ℕ) (ch : ChildTable)
-        → slice_get tb.children k ≡ Some ch → IsEntry c ch.entry
-    of_child o h s k ch w =
-        let z = someone p o h s in
-        let at : child_at c p k ≡ Some ch = child_is k ∙ w in
-        (Child z.0 p k, (z.1.0, z.1.1, (ch, at)), ap entry_of_child at)
+      pub of_child : (o : Owner) → Owns c p o → is_same o owner.Nobody ≡ false → (k : ℕ) (ch : ChildTable)
+          → slice_get tb.children k ≡ Some ch → IsEntry c ch.entry
+      of_child o h s k ch w =
+          let z = someone p o h s in
+          let at : child_at c p k ≡ Some ch = child_is k ∙ w in
+          (Child z.0 p k, (z.1.0, z.1.1, (ch, at)), ap entry_of_child at)
 
-    pub made_is : (q : ℕ) → IsMadeAt c p q → IsOfChildren tb.children (length tb.children) q
-    made_is q (k, ch, w, at, a) = let z = sym (child_is k) ∙ w in (k, ch, slice_get_within tb.children k ch z, z, at)
+      pub made_is : (q : ℕ) → IsMadeAt c p q → IsOfChildren tb.children (length tb.children) q
+      made_is q (k, ch, w, at, a) = let z = sym (child_is k) ∙ w in (k, ch, slice_get_within tb.children k ch z, z, at)
 
   pub none_made : (q : ℕ) → IsMade c 0 q → ⊥
   none_made q h = let l = h.1 in omega (arith, l)

@@ -1,6 +1,6 @@
 -- None of this belongs to what the program promises: it is for contracts between crates.
 -- Where ways begin: at the entry of each area that is there, with no operands.
-use Rattle.std.specs.Prelude.{◌≡◌, ◌⊎◌, ℕ, ◌<◌, List, Some, Bool, true, false, slice_get, length}
+use Rattle.std.specs.Prelude.{◌≡◌, ◌⊎◌, ℕ, ◌<◌, List, Some, slice_get, length}
 use Rattle.sp_code.specs.declared.code.Layout.{Layout}
 use Rattle.sp_code.specs.declared.code.ChildTable.{ChildTable}
 use Rattle.sp_code.specs.declared.code.Parts.{Parts}
@@ -8,8 +8,6 @@ use Rattle.sp_code.specs.Machine.{layout_of}
 use Rattle.sp_rules.specs.Areas.{Area, child_at, entry}
 use Rattle.sp_rules.specs.Reach.{IsArea}
 use Rattle.sp_rules.specs.Named.{LiesIn}
-use Rattle.sp_areas.specs.declared.owners.Owner.{Owner}
-use Rattle.sp_areas.specs.declared.owners.Owner.TheVariants as owner
 use Rattle.sp_shapes.specs.declared.steps.Arrival.{Arrival}
 use Rattle.sp_shapes.specs.Search.{IsAmong}
 
@@ -47,9 +45,3 @@ IsMadeAt c p q = (k : ℕ) × (ch : ChildTable) × (child_at c p k ≡ Some ch) 
 -- one of the first instructions makes it
 abbrev pub IsMade : Parts → ℕ → ℕ → Type 0
 IsMade c n q = (p : ℕ) × (p < n) × IsMadeAt c p q
-
-abbrev pub is_nobody : Owner → Bool
-is_nobody owner.Nobody = true
-is_nobody (owner.Block b) = false
-is_nobody (owner.Child p k) = false
-is_nobody owner.Several = false

@@ -4,17 +4,16 @@ ghost use Rattle.std.specs.Prelude.{◌≡◌, ℕ, OnOk, IfOk, None, Some, [], 
 ghost use Rattle.sp_areas.specs.Blocks.{IsNumbered};
 ghost use Rattle.sp_areas.specs.Owners.{AreOwners, Owns};
 ghost use Rattle.sp_code.specs.declared.code.ChildTable.{ChildTable};
-ghost use Rattle.sp_rules.specs.Areas.{table_named};
 ghost use Rattle.sp_shapes.specs.Search.{AreCompared};
-ghost use Rattle.sp_shapes.specs.Starts.{Adds, AreAll, IsEntry, IsMade, IsMadeAt, IsOfChildren, IsOfLayouts, is_nobody};
+ghost use Rattle.sp_shapes.specs.Starts.{Adds, AreAll, IsEntry, IsMade, IsMadeAt, IsOfChildren, IsOfLayouts};
 
 use crate::search::Search;
 use crate::stacks::Stacks;
 use crate::steps::Arrival;
 use sp_areas::blocks::Blocks;
-use sp_areas::owners::Owner;
+use sp_areas::owners::{Owner, is_same, table_number};
 use sp_base::{List, Memory};
-use sp_code::{ChildTable, Code, Instr};
+use sp_code::{ChildTable, Code};
 use std::alloc::Global;
 
 fn start(code: &Code, arrivals: &mut List<Arrival>, at: u32) -> Result<(), Memory>
@@ -55,38 +54,15 @@ fn begin_children(
     Ok(())
 }
 
-fn table_named(instr: Instr) -> Option<u32>
-    ensures { result ≡ table_named (Some instr) }
-{
-    match instr {
-        Instr::Fork(t) => Some(t),
-        Instr::Forall(t) => Some(t),
-        _ => None,
-    }
-}
-
-fn is_nobody(o: Owner) -> bool
-    ensures { result ≡ is_nobody o }
-{
-    match o {
-        Owner::Nobody => true,
-        _ => false,
-    }
-}
-
 // At the entries of the children that an instruction makes, if it lies in an area.
 fn begin_at(code: &Code, arrivals: &mut List<Arrival>, p: u32, o: Owner) -> Result<(), Memory>
     requires { Owns code.now p o }
     ensures { OnOk result (Adds code.now (IsMadeAt code.now p) arrivals.old arrivals.new) }
 {
-    if is_nobody(o) {
+    if is_same(o, Owner::Nobody) {
         return Ok(());
     }
-    let instr = match code.instr(p) {
-        None => return Ok(()),
-        Some(instr) => instr,
-    };
-    let t = match table_named(instr) {
+    let t = match table_number(code, p) {
         None => return Ok(()),
         Some(t) => t,
     };

@@ -7,6 +7,7 @@
 //! - `first_passing` (`cells`): by these shapes, the least instruction at which V3 is broken; none where it is broken
 //!   nowhere.
 //! - `first_length` (`messages`), `first_unfit` (`calls`): the same for V4 and V5.
+//! - `reached`: the number of the shapes that an instruction is reached with.
 //! - `Stacks::new`, `push`, `top` (`stacks`): lists of shapes by their numbers. `push` answers want of memory at 2^32
 //!   lists too.
 //!
@@ -19,7 +20,7 @@
 //!   a few forms (`specs/Plans.antt`, `proofs/Forms.antt`).
 //! - `taking.rt` and `steps.rt` are one step by these forms, `begin.rt` is where ways begin, `search.rt` follows all
 //!   ways level by level (`specs/Search.antt` says what is kept meanwhile), `shapes.rt` is V2.
-//! - `reached.rt` asks what an instruction is reached with; `cells.rt`, `messages.rt` and `calls.rt` are V3, V4 and V5.
+//! - `cells.rt`, `messages.rt` and `calls.rt` are V3, V4 and V5.
 #![tactic(auto)]
 
 pub mod begin;

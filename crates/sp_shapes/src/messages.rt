@@ -19,7 +19,7 @@ use std::alloc::Global;
 use std::collections::BTreeMap;
 
 /// A message of a type, by its length in cells; or the room for one where it is received.
-#[derive(Clone, Copy, Debug)]
+#[derive(Clone, Copy)]
 pub struct Message {
     pub kind: u32,
     pub cells: u32,

@@ -6,7 +6,7 @@ ghost use Rattle.sp_shapes.specs.Reached.{reached_at};
 use crate::shapes::Shapes;
 
 /// The number of the list of shapes that an instruction is reached with, if some way comes to it.
-pub(crate) fn reached(shapes: &Shapes, p: u32) -> Option<u32>
+pub fn reached(shapes: &Shapes, p: u32) -> Option<u32>
     ensures { result ≡ reached_at shapes.now p }
 {
     match shapes.at.get(p as usize) {

@@ -8,7 +8,7 @@ use std::alloc::Global;
 use std::collections::BTreeMap;
 
 /// The shape of an operand.
-#[derive(Clone, Copy, Debug, PartialEq, Eq)]
+#[derive(Clone, Copy)]
 pub enum Shape {
     Ordinal,
     Channel,
@@ -19,7 +19,7 @@ pub enum Shape {
 }
 
 /// A list that is not empty: its first shape, and the number of the rest.
-#[derive(Clone, Copy, Debug)]
+#[derive(Clone, Copy)]
 pub struct Cell {
     pub shape: Shape,
     pub below: u32,

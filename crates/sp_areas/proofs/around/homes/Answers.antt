@@ -1,10 +1,14 @@
-use Rattle.std.proofs.Common.{refl}
+use Rattle.std.proofs.Common.{◌≡◌, length, replicate, None, ap, ◌∙◌, refl}
+use Rattle.sp_code.specs.declared.code.Parts.{Parts}
 use Rattle.sp_areas.proofs.Surrounding.{homes_are, hung_start}
 use Rattle.sp_areas.proofs.around.homes.Goals as goal
 
 pub hang_all-requires-clause-just : goal.hang_all-requires-clause-just
-hang_all-requires-clause-just c = hung_start c.args.code.now c.in_ok-nodes.field-0 _ c.in_ok-nodes.ensures refl
-    c.in_ok-of.ensures
+hang_all-requires-clause-just c =
+    let count : c.len.result ≡ length c.args.code.now.forks = c.len.ensures
+    ∙ ap (λ (z : Parts). length z.forks) c.parts-parts.ensures.same in
+    hung_start c.args.code.now c.in_ok-nodes.field-0 _ c.in_ok-nodes.ensures refl (c.in_ok-of.ensures
+    ∙ ap (λ n. replicate n None) count)
 
 pub returns : goal.returns
 returns c =

@@ -21,7 +21,7 @@ returns-then-is_some c =
     let has = value_if_some c.node_at.result (sym c.is_some.ensures ∙ c.if-is_some.true) in
     steps_none (AreHung code c.args.of_blocks.now) g
     (IsHungBy code c.args.owners.now c.args.of_blocks.now c.args.q) c.requires.just
-    (hung_has code c.args.of_blocks.now c.args.owners.now c.args.q c.in-Some.t has.0 g (sym c.table_of.ensures
+    (hung_has code c.args.of_blocks.now c.args.owners.now c.args.q c.in-Some.t has.0 g (sym c.table_number.ensures
     ∙ c.in-Some.is) (sym c.node_at.ensures ∙ has.1))
 
 pub returns-in-None-get : goal.returns-in-None-get
@@ -32,7 +32,7 @@ returns-in-None-get c =
     (sym c.parts.ensures.same) ∙ sym c.in-None-get.ensures in
     steps_none (AreHung code c.args.of_blocks.now) g
     (IsHungBy code c.args.owners.now c.args.of_blocks.now c.args.q) c.requires.just
-    (hung_past code c.args.of_blocks.now c.args.owners.now c.args.q c.in-Some.t g (sym c.table_of.ensures
+    (hung_past code c.args.of_blocks.now c.args.owners.now c.args.q c.in-Some.t g (sym c.table_number.ensures
     ∙ c.in-Some.is) past)
 
 pub give_nodes-requires : goal.give_nodes-requires
@@ -53,7 +53,7 @@ returns c =
     let tb = c.in-Some-get.table.now in
     let there : slice_get code.forks t ≡ Some tb = ap (λ (z : Parts). slice_get z.forks t) (sym c.parts.ensures.same)
     ∙ sym c.in-Some-get.ensures in
-    let names : table_named (instr_at code c.args.q) ≡ Some t = sym c.table_of.ensures ∙ c.in-Some.is in
+    let names : table_named (instr_at code c.args.q) ≡ Some t = sym c.table_number.ensures ∙ c.in-Some.is in
     let node : node_of code (length g.nodes) c.args.of_blocks.now g.of c.owner_in-owner.result ≡ Some
     c.in-Some-node_of.around = sym c.node_of.ensures ∙ c.in-Some-node_of.is in
     let none : node_at g.of t ≡ None = sym c.node_at.ensures

@@ -1,5 +1,7 @@
-use Rattle.std.proofs.Common.{◌≡◌, sym, subst}
+use Rattle.std.proofs.Common.{◌≡◌, List, sym, subst}
+use Rattle.sp_code.specs.declared.code.Layout.{Layout}
 use Rattle.sp_areas.specs.Alone.{BreaksAlone}
+use Rattle.sp_areas.specs.Blocks.{IsNumbered}
 use Rattle.sp_areas.specs.Least.{IsLeast, least}
 use Rattle.sp_areas.proofs.Alone.{passed}
 use Rattle.sp_areas.proofs.parts.first_wrong_alone.Goals as goal
@@ -11,9 +13,12 @@ returns c =
     let b = c.place_if-program.result in
     let d = c.first_layout-layout.result in
     let e = c.first_in-child.result in
+    let first = c.args.blocks.now.first in
+    let same : c.items-layouts.result.now ≡ code.layouts = cc in
+    let numbered = subst (λ (ls : List Layout). IsNumbered first ls) (sym same) c.requires in
     let whole : c.least-3.result ≡ least (least a b) (least d e) = cc in
     subst (IsLeast (BreaksAlone code)) (sym whole)
-    (passed code c.in_ok-blocks.blocks.first c.in_ok-forked.forked c.in_ok-foralled.foralled a b d e
+    (passed code first c.in_ok-forked.forked c.in_ok-foralled.foralled a b d e
     c.items-instrs.result.now c.items-layouts.result.now c.items-tables.result.now c.has.result
-    (cc) (cc) (cc) c.has.ensures c.in_ok-blocks.ensures c.in_ok-forked.ensures c.in_ok-foralled.ensures
+    (cc) same (cc) c.has.ensures numbered c.in_ok-forked.ensures c.in_ok-foralled.ensures
     c.first_misnaming-named.ensures c.place_if-program.ensures c.first_layout-layout.ensures c.first_in-child.ensures)

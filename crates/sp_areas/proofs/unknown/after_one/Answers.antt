@@ -11,7 +11,7 @@ use Rattle.sp_areas.proofs.unknown.after_one.Goals as goal
 pub returns-in-None : goal.returns-in-None
 returns-in-None c =
     let code = c.args.code.now in
-    after_none code c.args.q c.args.before (λ p. never_named code c.args.q p (sym c.table_of.ensures
+    after_none code c.args.q c.args.before (λ p. never_named code c.args.q p (sym c.table_number.ensures
     ∙ c.in-None.is)) c.requires.before
 
 pub returns-in-None-get : goal.returns-in-None-get
@@ -20,7 +20,7 @@ returns-in-None-get c =
     let t = c.in-Some.t in
     let past : slice_get code.forks t ≡ None = ap (λ (z : Parts). slice_get z.forks t) (sym c.parts.ensures.same)
     ∙ sym c.in-None-get.ensures in
-    after_none code c.args.q c.args.before (λ p. never_there code c.args.q p t (sym c.table_of.ensures
+    after_none code c.args.q c.args.before (λ p. never_there code c.args.q p t (sym c.table_number.ensures
     ∙ c.in-Some.is) past) c.requires.before
 
 pub returns : goal.returns
@@ -31,7 +31,7 @@ returns c =
     let one = c.requires.one in
     let there : slice_get code.forks t ≡ Some tb = ap (λ (z : Parts). slice_get z.forks t) (sym c.parts.ensures.same)
     ∙ sym c.in-Some-get.ensures in
-    let names : table_named (instr_at code c.args.q) ≡ Some t = sym c.table_of.ensures ∙ c.in-Some.is in
+    let names : table_named (instr_at code c.args.q) ≡ Some t = sym c.table_number.ensures ∙ c.in-Some.is in
     after_table code c.args.q t tb one.0 c.after_children.result names one.1 there
     (subst (λ (ts : List ChildTable). IsLeast (λ p. Upto (UnknownBy code) c.args.q p
     ⊎ Upto (ChildUnknown code.layouts (homes code one.0) ts) (length ts) p) c.after_children.result) c.items.ensures

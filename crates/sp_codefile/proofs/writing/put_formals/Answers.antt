@@ -1,5 +1,6 @@
 use Rattle.std.proofs.Common.{arith}
 use Rattle.std.proofs.lemmas.List.Elements.{All-more}
+use Rattle.std.proofs.lemmas.Grind.{common_steps}
 use Rattle.sp_codefile.specs.CodeText.{formal_text}
 use Rattle.sp_codefile.specs.CodeText.{FormalFits}
 use Rattle.sp_codefile.proofs.Printing.{text_more}
@@ -12,3 +13,9 @@ loop-formal-preserved c = record {
   fits = All-more FormalFits c.args.formals.now c.loop-formal.formal-index _
       (omega arith) c.loop-formal.invariant.fits c.in_ok-put_formal.ensures.fits;
 }
+
+pub returns-clause-text : goal.returns-clause-text
+returns-clause-text c = grind (arith, common_steps)
+
+pub returns-clause-fits : goal.returns-clause-fits
+returns-clause-fits c = grind (arith, common_steps)

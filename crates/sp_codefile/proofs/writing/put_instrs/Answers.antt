@@ -2,6 +2,7 @@ use Rattle.std.proofs.Common.{List, ℕ, ◌++◌, arith, ap, ◌∙◌}
 use Rattle.std.proofs.lemmas.List.Elements.{All-more}
 use Rattle.sp_code.specs.Listing.{instr_line}
 use Rattle.sp_code.proofs.Numbered.{numbered_next}
+use Rattle.std.proofs.lemmas.Grind.{common_steps}
 use Rattle.sp_codefile.specs.CodeText.{InstrFits}
 use Rattle.sp_codefile.proofs.Printing.{numbered_line, instr_is_line}
 use Rattle.sp_codefile.proofs.writing.put_instrs.Goals as goal
@@ -16,3 +17,9 @@ loop-number-preserved c = record {
   fits = All-more InstrFits c.args.instrs.now c.loop-number.number _
       (omega arith) c.loop-number.invariant.fits c.in_ok-put_instr.ensures.fits;
 }
+
+pub returns-clause-text : goal.returns-clause-text
+returns-clause-text c = grind (arith, common_steps)
+
+pub returns-clause-fits : goal.returns-clause-fits
+returns-clause-fits c = grind (arith, common_steps)

@@ -1,6 +1,7 @@
 use Rattle.std.proofs.Common.{arith}
 use Rattle.std.proofs.lemmas.List.Elements.{All-more}
 use Rattle.sp_code.specs.Listing.{number_text}
+use Rattle.std.proofs.lemmas.Grind.{common_steps}
 use Rattle.sp_codefile.specs.CodeText.{IsNumber}
 use Rattle.sp_codefile.proofs.Printing.{text_more}
 use Rattle.sp_codefile.proofs.writing.put_numbers.Goals as goal
@@ -12,3 +13,9 @@ loop-number-preserved c = record {
   fits = All-more IsNumber c.args.numbers.now c.loop-number.number-index _
       (omega arith) c.loop-number.invariant.fits c.put_number.ensures.fits;
 }
+
+pub returns-clause-text : goal.returns-clause-text
+returns-clause-text c = grind (arith, common_steps)
+
+pub returns-clause-fits : goal.returns-clause-fits
+returns-clause-fits c = grind (arith, common_steps)

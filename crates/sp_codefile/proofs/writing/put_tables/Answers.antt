@@ -2,6 +2,7 @@ use Rattle.std.proofs.Common.{List, ◌++◌, ◌<◌, ◌^◌, length, All, ari
 use Rattle.sp_code.specs.declared.code.ChildTable.{ChildTable}
 use Rattle.sp_code.specs.Listing.{numbered}
 use Rattle.sp_code.proofs.Numbered.{numbered_step}
+use Rattle.std.proofs.lemmas.Grind.{common_steps}
 use Rattle.sp_codefile.specs.CodeText.{child_of, table_text, ChildFits, TableFits}
 use Rattle.sp_codefile.proofs.Printing.{fits_more}
 use Rattle.sp_codefile.proofs.writing.put_tables.Goals as goal
@@ -21,3 +22,9 @@ loop-number-preserved c =
             children = subst (All ChildFits) c.items.ensures c.in_ok-put_table.ensures.fits;
           });
     }
+
+pub returns-clause-text : goal.returns-clause-text
+returns-clause-text c = grind (arith, common_steps)
+
+pub returns-clause-fits : goal.returns-clause-fits
+returns-clause-fits c = grind (arith, common_steps)

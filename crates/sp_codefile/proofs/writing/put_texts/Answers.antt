@@ -1,4 +1,5 @@
 use Rattle.std.proofs.Common.{All, arith}
+use Rattle.std.proofs.lemmas.Grind.{common_steps}
 use Rattle.sp_codefile.specs.CodeText.{text_text, IsByte}
 use Rattle.sp_codefile.proofs.Printing.{line_more, fits_more}
 use Rattle.sp_codefile.proofs.writing.put_texts.Goals as goal
@@ -11,3 +12,9 @@ loop-text-preserved c = record {
   fits = fits_more (All IsByte) c.args.texts.now c.loop-text.text-index c.text-item.result
       (omega arith) c.text-item.is c.loop-text.invariant.fits c.in_ok-put_text.ensures.fits;
 }
+
+pub returns-clause-text : goal.returns-clause-text
+returns-clause-text c = grind (arith, common_steps)
+
+pub returns-clause-fits : goal.returns-clause-fits
+returns-clause-fits c = grind (arith, common_steps)

@@ -4,5 +4,5 @@ use Rattle.sp_effects.proofs.calls.meets_outer.Given as goal
 
 -- none of those so far is
 abbrev pub invariant-loop-x : goal.invariant-loop-x
-invariant-loop-x l = meets_outer l.effects l.own.keys l.place l.entry
-    (drop l.x-index l.xs) ≡ meets_outer l.effects l.own.keys l.place l.entry l.xs
+invariant-loop-x l = meets_outer l.effects l.entry
+    (drop l.x-index l.xs) ≡ meets_outer l.effects l.entry l.xs

@@ -6,18 +6,18 @@ use Rattle.sp_effects.proofs.edges.edges_of.Goals as goal
 
 pub loop-p-init : goal.loop-p-init
 loop-p-init c =
-    let code = c.args.code.now in
+    let code = c.args.g.now.code.now in
     let m : c.len-count.result ≡ length code.instrs = c.len-count.ensures
     ∙ ap (λ (z : Parts). length z.instrs) c.parts.ensures.same in
     no_edges code c.in_ok-rows.rows (c.in_ok-rows.ensures.0 ∙ m) c.in_ok-rows.ensures.1
 
 pub loop-p-preserved : goal.loop-p-preserved
-loop-p-preserved c = more_edges c.args.code.now c.loop-p.rows c.link_at.new.rows c.loop-p.p c.loop-p.invariant
+loop-p-preserved c = more_edges c.args.g.now.code.now c.loop-p.rows c.link_at.new.rows c.loop-p.p c.loop-p.invariant
     c.in_ok-link_at.ensures
 
 pub returns : goal.returns
 returns c =
-    let code = c.args.code.now in
+    let code = c.args.g.now.code.now in
     let m : c.len-count.result ≡ length code.instrs = c.len-count.ensures
     ∙ ap (λ (z : Parts). length z.instrs) c.parts.ensures.same in
     let e : c.loop-p.p ≡ c.len-count.result = omega arith in

@@ -3,4 +3,4 @@ use Rattle.sp_effects.proofs.edges.edges_of.Given as goal
 
 -- the edges of the instructions so far are put
 abbrev pub invariant-loop-p : goal.invariant-loop-p
-invariant-loop-p l = HasEdges l.code l.p l.rows
+invariant-loop-p l = HasEdges l.g.code.now l.p l.rows

@@ -5,20 +5,20 @@ use Rattle.sp_effects.proofs.Linking.{nothing_at, layout_within, child_within, l
 use Rattle.sp_effects.proofs.edges.link_at.Goals as goal
 
 pub returns-in-None : goal.returns-in-None
-returns-in-None c = nothing_at c.args.code.now c.args.p c.args.rows.now c.in-None.ensures
+returns-in-None c = nothing_at c.args.g.now.code.now c.args.p c.args.rows.now c.in-None.ensures
 
 pub link_called-requires-clause-there : goal.link_called-requires-clause-there
 link_called-requires-clause-there c = λ b l e. subst (λ n. l.entry < n) (sym c.requires.size)
-    (layout_within c.args.code.now c.requires.kept b l e)
+    (layout_within c.args.g.now.code.now c.requires.known.kept b l e)
 
 pub link_started-requires-clause-within : goal.link_started-requires-clause-within
 link_started-requires-clause-within c = λ k t e.
     subst (λ n. t.entry < n) (sym (c.in_ok-link_called.ensures.size
-    ∙ c.requires.size)) (child_within c.args.code.now c.requires.kept c.args.p k t e)
+    ∙ c.requires.size)) (child_within c.args.g.now.code.now c.requires.known.kept c.args.p k t e)
 
 pub returns : goal.returns
 returns c =
-    let code = c.args.code.now in
+    let code = c.args.g.now.code.now in
     let p = c.args.p in
     let a = c.args.rows.now in
     let b = c.link_called.new.rows in

@@ -1,20 +1,21 @@
-use Rattle.std.proofs.Common.{ap, sym, ◌∙◌, subst}
+use Rattle.std.proofs.Common.{sym, ◌∙◌, subst}
 use Rattle.std.specs.Prelude.{◌≡◌, Some}
 use Rattle.sp_code.specs.declared.code.Parts.{Parts}
 use Rattle.sp_code.specs.Machine.{layout_of}
 use Rattle.sp_shapes.specs.Stacks.{list_of}
-use Rattle.sp_effects.specs.Edges.{Links, IsCall, CalledAt, called_block}
+use Rattle.sp_effects.specs.Edges.{Links, IsCall, CalledAt}
 use Rattle.sp_effects.proofs.Owns.{ok_on}
 use Rattle.sp_effects.proofs.Linking.{no_stack, call_at}
 use Rattle.sp_effects.proofs.edges.link_called.Goals as goal
 
 pub returns-in-None : goal.returns-in-None
-returns-in-None c = no_stack c.args.code.now c.args.p c.args.shapes.now c.requires.shapes c.args.rows.now
-    (sym c.stack_at.ensures ∙ c.in-None.is)
+returns-in-None c = no_stack c.args.g.now.code.now c.args.p c.args.g.now.shapes.now c.requires.known.shapes
+    c.args.rows.now
+    (sym c.reached.ensures ∙ c.in-None.is)
 
 pub returns-in-Some-find : goal.returns-in-Some-find
 returns-in-Some-find c =
-    let code = c.args.code.now in
+    let code = c.args.g.now.code.now in
     let p = c.args.p in
     let n = c.args.to in
     let x = c.args.rows.now in
@@ -25,8 +26,8 @@ returns-in-Some-find c =
     let lies = c.requires.lies in
     let e : layout_of code.layouts f ≡ Some l = subst
     (λ (z : Parts). layout_of z.layouts f ≡ Some l) c.parts.ensures.same (sym c.in-Some-find.ensures) in
-    ok_on c.link_call.result (Links x y (IsCall l n (list_of c.args.shapes.now.stacks s))) (Links x y (CalledAt code p))
-    (λ v. call_at code p lies.0 n lies.1 lies.2 x y c.args.shapes.now s f l c.requires.shapes (sym c.stack_at.ensures
-    ∙ c.in-Some.is)
-    (ap called_block (sym c.instr.ensures) ∙ sym c.called_block.ensures ∙ c.in-Some-called_block.is) e v)
+    let shapes = c.args.g.now.shapes.now in
+    ok_on c.link_call.result (Links x y (IsCall l n (list_of shapes.stacks s))) (Links x y (CalledAt code p))
+    (λ v. call_at code p lies.0 n lies.1 lies.2 x y shapes s f l c.requires.known.shapes (sym c.reached.ensures
+    ∙ c.in-Some.is) (sym c.called_block.ensures ∙ c.in-Some-called_block.is) e v)
     c.link_call.ensures

@@ -3,4 +3,4 @@ use Rattle.sp_effects.proofs.inside.called_inside.Given as goal
 
 -- of the instructions so far
 abbrev pub invariant-loop-p : goal.invariant-loop-p
-invariant-loop-p l = AreInside l.code l.blocks.first l.shapes l.p l.flags
+invariant-loop-p l = AreInside l.g.code.now l.g.blocks.now.first l.g.shapes.now l.p l.flags

@@ -1,15 +1,37 @@
-use Rattle.std.proofs.Common.{List, length, subst, ap, ◌∙◌}
+use Rattle.std.proofs.Common.{◌≡◌, ◌+◌, ◌∙◌, List, length, refl, Some, sym, subst, ap, arith}
+use Rattle.std.specs.Prelude.{slice_get}
+use Rattle.std.proofs.lemmas.Option.{slice_get_read}
 use Rattle.sp_code.specs.declared.code.Layout.{Layout}
 use Rattle.sp_code.specs.declared.code.Parts.{Parts}
 use Rattle.sp_areas.specs.Least.{IsLeast, Upto}
+use Rattle.sp_areas.proofs.Leasts.{more}
 use Rattle.sp_effects.specs.Loud.{LayoutLoud}
-use Rattle.sp_effects.proofs.Loudness.{v8_least}
+use Rattle.sp_effects.proofs.Loudness.{one_loud, v8_least}
 use Rattle.sp_effects.proofs.loud.first_loud.Goals as goal
+
+pub loop-l-preserved : goal.loop-l-preserved
+loop-l-preserved c =
+    let code = c.args.g.now.code.now in
+    let e = c.args.effects.now in
+    let R = LayoutLoud e code.layouts in
+    let items = c.items-l-items.result.now in
+    let j = c.loop-l.l-index in
+    let l = c.l-item.result in
+    let same : items ≡ code.layouts = c.items-l-items.ensures ∙ ap (λ (z : Parts). z.layouts) c.parts.ensures.same in
+    let is : slice_get code.layouts j ≡ Some l = ap (λ (xs : List Layout). slice_get xs j) (sym same)
+    ∙ slice_get_read items (length items) j l refl c.loop-l-test.true c.l-item.is in
+    let one = one_loud code c.requires.known.kept e.own.keys c.requires.effects.own j l is e c.is_loud.result
+    c.place_if.result c.is_loud.ensures c.place_if.ensures in
+    subst (IsLeast (Upto R (j + 1))) (sym c.least-first.ensures)
+    (more R j c.loop-l.first c.place_if.result c.loop-l.invariant one)
 
 pub returns : goal.returns
 returns c =
+    let code = c.args.g.now.code.now in
     let e = c.args.effects.now in
-    let same = c.items-layouts.ensures ∙ ap (λ (p : Parts). p.layouts) c.parts-parts.ensures.same in
-    v8_least c.args.code.now e c.requires.effects c.requires.kept c.first_in.result
-    (subst (λ (ls : List Layout). IsLeast
-    (Upto (LayoutLoud e ls) (length ls)) c.first_in.result) same c.first_in.ensures)
+    let same : c.items-l-items.result.now ≡ code.layouts = c.items-l-items.ensures
+    ∙ ap (λ (z : Parts). z.layouts) c.parts.ensures.same in
+    let size = ap length same in
+    let at : c.loop-l.l-index ≡ length code.layouts = omega (arith, size) in
+    v8_least code e c.requires.effects c.requires.known.kept c.loop-l.first
+    (subst (λ n. IsLeast (Upto (LayoutLoud e code.layouts) n) c.loop-l.first) at c.loop-l.invariant)

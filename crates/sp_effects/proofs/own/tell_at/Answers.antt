@@ -5,7 +5,7 @@ use Rattle.sp_effects.proofs.own.tell_at.Goals as goal
 
 pub returns : goal.returns
 returns c =
-    let code = c.args.code.now in
+    let code = c.args.g.now.code.now in
     let p = c.args.p in
     let n = c.in-Some.area in
     let f = c.args.facts.now in

@@ -4,4 +4,4 @@ use Rattle.sp_effects.proofs.variables.goes_out.Given as goal
 
 -- none of those so far is
 abbrev pub invariant-loop-x : goal.invariant-loop-x
-invariant-loop-x l = goes_out l.own.keys l.place l.from (drop l.x-index l.xs) ≡ goes_out l.own.keys l.place l.from l.xs
+invariant-loop-x l = goes_out l.own.keys l.entry l.from (drop l.x-index l.xs) ≡ goes_out l.own.keys l.entry l.from l.xs

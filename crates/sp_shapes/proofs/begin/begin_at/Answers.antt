@@ -8,9 +8,8 @@ use Rattle.sp_shapes.proofs.begin.begin_at.Goals as goal
 
 pub begin_children-requires : goal.begin_children-requires
 begin_children-requires c = λ k ch e.
-    of_child c.args.code.now c.args.p c.in-Some-table_named.t c.in-Some.instr c.in-Some-table.table.now
-    (sym c.in-Some.ensures) (sym c.in-Some-table_named.ensures) (sym c.in-Some-table.ensures) c.args.o c.requires
-    (sym c.if-is_nobody.ensures) k ch
+    of_child c.args.code.now c.args.p c.in-Some.t c.in-Some-table.table.now (sym c.in-Some.ensures)
+    (sym c.in-Some-table.ensures) c.args.o c.requires (sym c.if-is_same.ensures) k ch
     (subst (λ (ts : List ChildTable). slice_get ts k ≡ Some ch) c.items.ensures e)
 
 pub returns-in-Some-table : goal.returns-in-Some-table
@@ -24,6 +23,5 @@ returns-in-Some-table c =
     on_ok c.begin_children.result (Adds code (IsOfChildren ts (length ts)) xs ys) (Adds code (IsMadeAt code p) xs ys)
     (λ h. adds_as code (IsOfChildren ts (length ts)) (IsMadeAt code p) xs ys
     (λ q m. subst (λ (z : List ChildTable). IsOfChildren z (length z) q) (sym c.items.ensures)
-    (made_is code p c.in-Some-table_named.t c.in-Some.instr tb (sym c.in-Some.ensures)
-    (sym c.in-Some-table_named.ensures) (sym c.in-Some-table.ensures) q m)) h)
+    (made_is code p c.in-Some.t tb (sym c.in-Some.ensures) (sym c.in-Some-table.ensures) q m)) h)
     c.begin_children.ensures

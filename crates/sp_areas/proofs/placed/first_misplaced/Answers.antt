@@ -5,7 +5,7 @@ use Rattle.sp_code.specs.declared.code.Parts.{Parts}
 use Rattle.sp_rules.specs.Areas.{instr_at}
 use Rattle.sp_areas.specs.Placed.{IsMisplaced, fails_placed}
 use Rattle.sp_areas.proofs.Placing.{is_misplaced, misplaced_is}
-use Rattle.sp_areas.proofs.placed.first_by.Goals as goal
+use Rattle.sp_areas.proofs.placed.first_misplaced.Goals as goal
 
 pub returns-then-fails : goal.returns-then-fails
 returns-then-fails c =

@@ -1,7 +1,7 @@
 use Rattle.std.proofs.Common.{get_or}
 use Rattle.std.proofs.lemmas.Option.{slice_get-get_or}
 use Rattle.sp_effects.proofs.Spreading.{pair_more}
-use Rattle.sp_effects.proofs.closing.put_own.Goals as goal
+use Rattle.sp_effects.proofs.variables.put_own.Goals as goal
 
 pub loop-i-preserved : goal.loop-i-preserved
 loop-i-preserved c =

@@ -1,6 +1,6 @@
 use Rattle.std.proofs.Common.{◌<◌, ℕ}
 use Rattle.sp_areas.specs.Placed.{IsMisplaced}
-use Rattle.sp_areas.proofs.placed.first_by.Given as goal
+use Rattle.sp_areas.proofs.placed.first_misplaced.Given as goal
 
 -- none so far
 abbrev pub invariant-loop-p : goal.invariant-loop-p

@@ -1,5 +1,5 @@
 use Rattle.sp_effects.proofs.Spreading.{AreFirst}
-use Rattle.sp_effects.proofs.closing.own_of.Given as goal
+use Rattle.sp_effects.proofs.variables.own_of.Given as goal
 
 -- those of the layouts so far are put
 abbrev pub invariant-loop-j : goal.invariant-loop-j

@@ -1,6 +1,6 @@
 use Rattle.std.proofs.Common.{take}
-use Rattle.sp_effects.specs.Closing.{AddsPairs, IsOwnOf}
-use Rattle.sp_effects.proofs.closing.put_own.Given as goal
+use Rattle.sp_effects.specs.Variables.{AddsPairs, IsOwnOf}
+use Rattle.sp_effects.proofs.variables.put_own.Given as goal
 
 -- the variables so far are put
 abbrev pub invariant-loop-i : goal.invariant-loop-i

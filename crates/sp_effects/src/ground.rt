@@ -1,0 +1,19 @@
+//! What the passes go by: code, and what was found of it.
+
+use sp_areas::blocks::Blocks;
+use sp_areas::homes::Homes;
+use sp_areas::owners::Owner;
+use sp_base::List;
+use sp_code::Code;
+use sp_shapes::shapes::Shapes;
+
+/// Code, its layouts by their blocks, and of each instruction whose code it is, what is around it, and the shapes that
+/// it is reached with (`IsGround`).
+#[derive(Drop)]
+pub struct Ground<'a> {
+    pub code: &'a Code,
+    pub blocks: &'a Blocks,
+    pub owners: &'a List<Owner>,
+    pub homes: &'a Homes,
+    pub shapes: &'a Shapes,
+}
