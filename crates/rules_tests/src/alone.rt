@@ -1,6 +1,6 @@
 //! V1 of instructions, layouts and tables in themselves: what is wrong, beside the nearest code with which nothing is.
 
-use crate::made::{answer, code_of, plain, procedure, program, table};
+use crate::made::{answer, blocks_of, code_of, plain, procedure, program, table};
 use sp_areas::parts::first_wrong_alone;
 use sp_base::{List, Memory};
 use sp_code::{Instr, Parts};
@@ -10,7 +10,10 @@ use std::test::Fail;
 /// The least instruction at which the code is wrong in itself; 99 where it is too large.
 fn first(parts: Parts) -> Result<Option<u32>, Memory> {
     match code_of(parts) {
-        Some(code) => first_wrong_alone(&code),
+        Some(code) => {
+            let blocks = blocks_of(&code)?;
+            first_wrong_alone(&code, &blocks)
+        }
         None => Ok(Some(99)),
     }
 }

@@ -2,12 +2,16 @@
 
 ghost use Rattle.std.specs.Prelude.{IfOk};
 ghost use Rattle.sp_areas.specs.Blocks.{IsNumbered};
+ghost use Rattle.sp_areas.specs.Homes.{AreHomes};
+ghost use Rattle.sp_areas.specs.Owners.{AreOwners};
 
-use crate::made::{answer, code_of, plain, procedure, program};
+use crate::made::{answer, blocks_of, code_of, plain, procedure, program};
 use sp_areas::around::homes;
 use sp_areas::blocks::Blocks;
 use sp_areas::homeless::first_homeless;
-use sp_areas::owners::owners;
+use sp_areas::homes::Homes;
+use sp_areas::led::led;
+use sp_areas::owners::{Owner, owners};
 use sp_areas::ranges::first_out_of_range;
 use sp_areas::unknown::first_unknown;
 use sp_base::{List, Memory};
@@ -15,11 +19,14 @@ use sp_code::{ChildTable, Code, ForkTable, Instr, Parts};
 use std::alloc::Global;
 use std::test::Fail;
 
-fn blocks_of(code: &Code) -> Result<Blocks, Memory>
-    ensures { IfOk result (λ blocks. IsNumbered blocks.first code.now.layouts) }
+/// What is around the instructions of code.
+fn homes_of(code: &Code, blocks: &Blocks, owners: &List<Owner>) -> Result<Homes, Memory>
+    requires blocks { IsNumbered blocks.now.first code.now.layouts }
+    requires owners { AreOwners code.now owners.now }
+    ensures { IfOk result (λ homes. AreHomes code.now homes) }
 {
-    let parts = code.parts();
-    Blocks::of(parts.instrs.alloc(), parts.layouts.items())
+    let led = led(code, blocks)?;
+    homes(code, blocks, owners, led)
 }
 
 /// The least instruction that names what it may not; 99 where the code is too large.
@@ -29,8 +36,8 @@ fn misnamed(parts: Parts) -> Result<Option<u32>, Memory> {
         Some(code) => code,
     };
     let blocks = blocks_of(&code)?;
-    let owners = owners(&code)?;
-    let homes = homes(&code, &blocks, &owners)?;
+    let owners = owners(&code, &blocks)?;
+    let homes = homes_of(&code, &blocks, &owners)?;
     Ok(first_out_of_range(&code, &blocks, &owners, &homes))
 }
 
@@ -41,7 +48,8 @@ fn homeless(parts: Parts) -> Result<Option<u32>, Memory> {
         Some(code) => code,
     };
     let blocks = blocks_of(&code)?;
-    first_homeless(&code, &blocks)
+    let led = led(&code, &blocks)?;
+    first_homeless(&code, &blocks, &led)
 }
 
 /// The least entry of a child that gets what is unknown.
@@ -51,8 +59,8 @@ fn unknown(parts: Parts) -> Result<Option<u32>, Memory> {
         Some(code) => code,
     };
     let blocks = blocks_of(&code)?;
-    let owners = owners(&code)?;
-    let homes = homes(&code, &blocks, &owners)?;
+    let owners = owners(&code, &blocks)?;
+    let homes = homes_of(&code, &blocks, &owners)?;
     first_unknown(&code, &owners, &homes)
 }
 

@@ -1,6 +1,10 @@
 //! Small codes that the tests of the rules begin with.
 
-use sp_base::List;
+ghost use Rattle.std.specs.Prelude.{IfOk};
+ghost use Rattle.sp_areas.specs.Blocks.{IsNumbered};
+
+use sp_areas::blocks::Blocks;
+use sp_base::{List, Memory};
 use sp_code::{ChildTable, Code, ForkTable, Formal, Instr, Layout, Parts};
 use std::alloc::Global;
 use std::test::Fail;
@@ -12,6 +16,14 @@ pub(crate) fn code_of(parts: Parts) -> Option<Code> {
     } else {
         None
     }
+}
+
+/// The layouts of code by their blocks.
+pub(crate) fn blocks_of(code: &Code) -> Result<Blocks, Memory>
+    ensures { IfOk result (λ blocks. IsNumbered blocks.first code.now.layouts) }
+{
+    let parts = code.parts();
+    Blocks::of(parts.instrs.alloc(), parts.layouts.items())
 }
 
 /// The program's layout, with one variable of one cell.

@@ -1,6 +1,6 @@
 //! V1 of tables that not exactly one instruction of an area names.
 
-use crate::made::{code_of, plain, table};
+use crate::made::{blocks_of, code_of, plain, table};
 use sp_areas::naming::first_unnamed;
 use sp_areas::owners::owners;
 use sp_base::List;
@@ -17,7 +17,10 @@ fn first(alloc: Global, one: Instr, two: Instr) -> Result<Option<u32>, Fail> {
     parts.forks = List::of(vec![in alloc; only]?);
     match code_of(parts) {
         None => Ok(Some(99)),
-        Some(code) => Ok(first_unnamed(&code, &owners(&code)?)?),
+        Some(code) => {
+            let blocks = blocks_of(&code)?;
+            Ok(first_unnamed(&code, &owners(&code, &blocks)?)?)
+        }
     }
 }
 

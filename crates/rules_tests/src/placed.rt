@@ -1,6 +1,6 @@
 //! V1 of where instructions stand: whose code each one is, and what it may not end.
 
-use crate::made::{answer, code_of, plain, procedure, table};
+use crate::made::{answer, blocks_of, code_of, plain, procedure, table};
 use sp_areas::owners::{Owner, owners};
 use sp_areas::placed::first_misplaced;
 use sp_base::{List, Memory};
@@ -11,7 +11,11 @@ use std::test::Fail;
 /// The least misplaced instruction; 99 where the code is too large.
 fn first(parts: Parts) -> Result<Option<u32>, Memory> {
     match code_of(parts) {
-        Some(code) => first_misplaced(&code),
+        Some(code) => {
+            let blocks = blocks_of(&code)?;
+            let owners = owners(&code, &blocks)?;
+            Ok(first_misplaced(&code, &owners))
+        }
         None => Ok(Some(99)),
     }
 }
@@ -66,7 +70,10 @@ fn owner(alloc: Global, entry: u32, p: usize) -> Result<Option<Owner>, Fail> {
     parts.forks = List::of(vec![in alloc; only]?);
     match code_of(parts) {
         None => Ok(None),
-        Some(code) => Ok(owners(&code)?.get(p).copied()),
+        Some(code) => {
+            let blocks = blocks_of(&code)?;
+            Ok(owners(&code, &blocks)?.get(p).copied())
+        }
     }
 }
 

@@ -1,6 +1,6 @@
 //! V9: ways back with no tick and no call.
 
-use crate::made::{code_of, plain, procedure};
+use crate::made::{blocks_of, code_of, plain, procedure};
 use sp_areas::owners::owners;
 use sp_areas::rounds::first_round;
 use sp_base::{List, Memory};
@@ -12,7 +12,8 @@ use std::test::Fail;
 fn first(parts: Parts) -> Result<Option<u32>, Memory> {
     match code_of(parts) {
         Some(code) => {
-            let owners = owners(&code)?;
+            let blocks = blocks_of(&code)?;
+            let owners = owners(&code, &blocks)?;
             first_round(&code, &owners)
         }
         None => Ok(Some(99)),
