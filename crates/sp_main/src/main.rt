@@ -18,8 +18,8 @@ ghost use Rattle.std.specs.Prelude.{◌≡◌, map};
 ghost use Rattle.std.specs.String.{string_bytes};
 ghost use Rattle.sp_report.specs.Telling.{AreFresh, reports};
 ghost use Rattle.superpascal.specs.declared.outcome.Outcome.{Outcome};
-ghost use Rattle.superpascal.specs.Calls.{call, sink};
-ghost use Rattle.superpascal.specs.Causes.{files, stream};
+ghost use Rattle.superpascal.specs.Calls.{call, sink_of};
+ghost use Rattle.superpascal.specs.Causes.{files_of, stream_of};
 ghost use Rattle.superpascal.specs.Promise.{Promise};
 
 use sp_outside::{FileLibrary, Library, OpenGate, Sink, Source, StreamSink, StreamSource, put_all};
@@ -93,11 +93,11 @@ fn called<R: Threads + Wait + Sync, L: Library, I: Source, O: Sink, N: Sink>(
 ) -> u8
     requires fresh { AreFresh told watchers.items }
     ensures { (outcome : Outcome) × (outcome.status ≡ result) × Promise (call (map string_bytes words.now)
-        (files (L.held library.old) (L.faults library.old) (L.faults library.new))
-        (stream (I.left input.old) (I.left input.new) (I.faults input.old) (I.faults input.new))
+        (files_of L.held L.faults library.old library.new)
+        (stream_of I.left I.faults input.old input.new)
         (reports text title watchers.items)
-        (sink (O.written output.old) (O.written output.new) (O.faults output.old) (O.faults output.new))
-        (sink (N.written notes.old) (N.written notes.new) (N.faults notes.old) (N.faults notes.new)) outcome) }
+        (sink_of O.written O.faults output.old output.new)
+        (sink_of N.written N.faults notes.old notes.new) outcome) }
 {
     let outcome = superpascal(
         threads, alloc, words, library, input, output, notes, &OpenGate, watchers,

@@ -7,9 +7,12 @@ use Rattle.sp_base.specs.declared.limits.Limits.{Limits}
 use Rattle.sp_base.specs.declared.limits.Show.{Show}
 use Rattle.sp_words.specs.declared.command.Command.{Command}
 use Rattle.sp_words.specs.declared.command.Command.TheVariants as command
+use Rattle.superpascal.specs.declared.asked.Asked.{Asked}
+use Rattle.superpascal.specs.declared.asked.Executed.{Executed}
+use Rattle.superpascal.specs.declared.asked.Followed.{Followed}
 use Rattle.superpascal.specs.declared.telling.Telling.{Telling}
 use Rattle.superpascal.specs.declared.telling.Telling.TheVariants as told
-use Rattle.superpascal.specs.Texts.{Asked, Breaks, BreaksOne, CanRead, Executed, Followed, IsAbout, Keeps, KeepsAll}
+use Rattle.superpascal.specs.Texts.{Breaks, BreaksOne, CanRead, IsAbout, Keeps, KeepsAll}
 use Rattle.superpascal.specs.Texts.{Makes, asked, asks, asks_build, asks_for, asks_text, executes, follows, text_of}
 
 -- what holds of `run` and of `witness` holds of the command

@@ -26,6 +26,9 @@ use Rattle.sp_words.specs.Ranges.{default_limits}
 use Rattle.sp_words.specs.Words.{command_of}
 use Rattle.sp_words.specs.declared.command.Command.{Command}
 use Rattle.sp_words.specs.declared.command.Command.TheVariants as command
+use Rattle.superpascal.specs.declared.asked.Asked.{Asked}
+use Rattle.superpascal.specs.declared.asked.Executed.{Executed}
+use Rattle.superpascal.specs.declared.asked.Followed.{Followed}
 use Rattle.superpascal.specs.declared.ending.Ending.{Ending}
 use Rattle.superpascal.specs.declared.ending.Ending.TheVariants as e
 use Rattle.superpascal.specs.declared.ending.Answer.{Answer}
@@ -34,19 +37,19 @@ use Rattle.superpascal.specs.declared.telling.Telling.TheVariants as told
 use Rattle.superpascal.specs.Answering.{HasEndLines}
 use Rattle.superpascal.specs.Answers.{has_output, line_of, notes_by, notes_of, output_of, status_of}
 use Rattle.superpascal.specs.Calls.{All, Call, Exactly, Failed, IsAnswered, IsFinal, IsOutside, IsUnwritten, OfText}
-use Rattle.superpascal.specs.Calls.{Part}
+use Rattle.superpascal.specs.Calls.{Part, Says}
 use Rattle.superpascal.specs.Causes.{Cause, by_words, before_words, by_command, Files, HasGenerated, HasMade, HasRead}
 use Rattle.superpascal.specs.Causes.{HasReplayed, HasRun, IsBadCode, IsBadJournal, IsLongCode, IsLongFile}
 use Rattle.superpascal.specs.Causes.{IsLongJournal, IsNotLoaded, IsNotRead, IsRefusedFor, IsRejectedCode, IsTold}
 use Rattle.superpascal.specs.Causes.{IsTooLong, IsTooMuch, IsUnfit, IsUntouched, ReadsAfterRules, Stream, refused}
 use Rattle.superpascal.specs.Causes.{silent}
-use Rattle.superpascal.specs.Following.{Following, IsMeantAlong, IsNoJournal, PrintsReplay, SaysJournal}
-use Rattle.superpascal.specs.Headline.{Headline, IsMeant, Prints, SaysRefusal}
+use Rattle.superpascal.specs.Following.{Following, IsMeantAlong, IsNoJournal, PrintsReplay}
+use Rattle.superpascal.specs.Headline.{Headline, IsMeant, Prints}
 use Rattle.superpascal.specs.Replays.{IsJournalOf, IsUnfitFor, ending_of_replay, replay_notes}
 use Rattle.superpascal.specs.Runs.{IsRunOf, Reports, ending_of, generated_answer, generated_output, run_answer}
 use Rattle.superpascal.specs.Runs.{told_notes, told_output}
 use Rattle.superpascal.specs.Statuses.{InputIsTooLong, IsQuiet, IsRunOfWords, IsWell, ReadsFail, Statuses}
-use Rattle.superpascal.specs.Texts.{Asked, Breaks, CanRead, Executed, Followed, HasLongCode, IsDisjointText}
+use Rattle.superpascal.specs.Texts.{Breaks, CanRead, HasLongCode, IsDisjointText}
 use Rattle.superpascal.specs.Texts.{IsJournalText, IsSoundFile, Keeps, KeepsAll, Loads, Makes, asks, asks_build}
 use Rattle.superpascal.specs.Texts.{asks_execution, asks_replay, asks_run, asks_text, executes, follows, text_of}
 use Rattle.superpascal.specs.Witnessing.{IsShown}
@@ -56,8 +59,8 @@ use Rattle.superpascal.proofs.Laws.{made_keeps, made_once, one_break}
 use Rattle.superpascal.proofs.Asking.{asked_breaks, asked_keeps, asked_makes, asked_no_build, asked_no_text, asked_text}
 use Rattle.superpascal.proofs.Asking.{breaks_asked, keeps_asked, not_exec, not_gen, not_run, one_asked}
 use Rattle.superpascal.proofs.CodeFiles.{not_bad, not_long, not_rejected}
-use Rattle.superpascal.proofs.Parts.{when_told}
-use Rattle.superpascal.proofs.Replaying.{if_mapped, if_told, meant_along, not_followed, not_generated, not_unfit}
+use Rattle.superpascal.proofs.Parts.{if_mapped, when_told}
+use Rattle.superpascal.proofs.Replaying.{if_told, meant_along, not_followed, not_generated, not_unfit}
 use Rattle.superpascal.proofs.Replaying.{one_followed, replay_notes_stand, same_entry, told_of, tree_keeps}
 use Rattle.superpascal.proofs.Tellable.{ends_of, replay_ends}
 use Rattle.superpascal.proofs.Why.{HasEnded, HasExecutedFor, HasRanFor, HasReplayedFor, IsRanBy, ran_of, same_ran, why}
@@ -71,6 +74,10 @@ one_command o c d h k = cc
 
 one_size : (m n x y : ℕ) → command.Gen m x ≡ command.Gen n y → m ≡ n
 one_size m n x y h = cc
+
+-- input that was read is not too long
+pub not_too_long : (x y : List ℕ) → x ≡ y → length x ≤ 16777216 → IsTooLong y → ⊥
+not_too_long x y e h k = let i : length x ≡ length y = ap length e in omega arith
 
 -- the ending of a run
 pub final : (x : End) → HasLines x → IsFinal (status_of (ending_of x)) × (has_output (ending_of x) ≡ true)
@@ -158,8 +165,9 @@ module _ (f : Files) (s : Stream) (reports : Reports) (w : Option Command) (a : 
   abbrev Due_status : Ending → ℕ → Type 0
   Due_status x n = (status_of x ≡ n) ⊎ IsOutside (status_of x)
 
-  abbrev Due_line : Ending → List ℕ → Type 0
-  Due_line x line = ((status_of x ≡ 1) × (notes_by x a.notes ≡ line)) ⊎ IsOutside (status_of x)
+  -- the status and the line of an ending that are due
+  abbrev Due_line : Ending → Ending → Type 0
+  Due_line x y = ((status_of x ≡ status_of y) × (notes_by x a.notes ≡ line_of y)) ⊎ IsOutside (status_of x)
 
   words_only : (x : Ending) → Why x → status_of x ≡ 2 → w ≡ None
   words_only e.BadWords k h = k
@@ -283,7 +291,7 @@ module _ (f : Files) (s : Stream) (reports : Reports) (w : Option Command) (a : 
         (of_text (λ x. Breaks c x h.refusal) c u h.breaks)
 
     refusal_due : Laws → (r : Refusal) → Breaks d text r → (x : Ending) → x ≡ a.ending → Why x
-        → Due_line x (refusal_text r)
+        → Due_line x (e.Refused r)
     refusal_due l r b e.Done i k = absurd (keeps_or l text d r (ended_keeps k) b)
     refusal_due l r b e.Deadlock i k = absurd (keeps_or l text d r (ended_keeps k) b)
     refusal_due l r b e.Fault i k = absurd (keeps_or l text d r (ended_keeps k) b)
@@ -411,10 +419,7 @@ module _ (f : Files) (s : Stream) (reports : Reports) (w : Option Command) (a : 
       long_well c u h =
           let i = fits (subst (λ (x : Command). CanRead f.held x) (one_command w d c v u) h.reads) in
           let k : IsTooLong i.0 = if_told IsTooLong s.left i.0 i.1 h.long in
-          short i.0 i.2 k
-        where
-          short : (input : List ℕ) → length input ≤ 16777216 → 16777216 < length input → ⊥
-          short input h k = omega arith
+          not_too_long i.0 i.0 refl i.2 k
 
       -- a code file of which a sound code comes is not at fault
       file_kept : (b : Executed) → w ≡ Some (executes b) → IsSoundFile text
@@ -485,10 +490,7 @@ module _ (f : Files) (s : Stream) (reports : Reports) (w : Option Command) (a : 
     fits_not : (d : Command) → w ≡ Some d → IsRanBy f s reports w a d → ⊥
     fits_not d u (inl (asked, p, h)) =
         let same : h.input ≡ input = told_of s.left h.input input left h.read in
-        short h.input input same h.fits long
-      where
-        short : (x y : List ℕ) → x ≡ y → length x ≤ 16777216 → 16777216 < length y → ⊥
-        short x y e h k = let i : length x ≡ length y = ap length e in omega arith
+        not_too_long h.input input same h.fits long
     fits_not d u (inr (size, workers, p, h)) = not_gen b size workers (one_command w d (asks b) u v ∙ p)
 
     followed_not : (x : Followed) → w ≡ Some (follows x) → ⊥
@@ -658,19 +660,38 @@ module _ (c : Call) (k : IsAnswered c) (l : Laws) where
       go (inr i) = (omega arith, omega arith)
       go (inl i) = subst IsOutside (sym i) h
 
-  says : (line : List ℕ) → ((status_of ending ≡ 1) × (notes_of k.answer ≡ line)) ⊎ IsOutside (status_of ending)
-      → ((status ≡ 1) × All c.notes line) ⊎ IsOutside status
-  says line d = go k.written.status_is d
+  -- no ending has the status of a failed write
+  never_six : (x : Ending) → status_of x ≡ 6 → ⊥
+  never_six e.Done h = absurd (omega arith)
+  never_six _ h = absurd (omega arith)
+
+  pub says_due : (x : Ending) → ((status_of ending ≡ status_of x) × (notes_of k.answer ≡ line_of x))
+      ⊎ IsOutside (status_of ending) → Says c x
+  says_due x d = go k.written.status_is d
     where
-      go : (status ≡ status_of ending) ⊎ (status ≡ 6) → ((status_of ending ≡ 1) × (notes_of k.answer ≡ line))
-          ⊎ IsOutside (status_of ending) → ((status ≡ 1) × All c.notes line) ⊎ IsOutside status
+      go : (status ≡ status_of ending) ⊎ (status ≡ 6)
+          → ((status_of ending ≡ status_of x) × (notes_of k.answer ≡ line_of x)) ⊎ IsOutside (status_of ending)
+          → Says c x
       go (inr i) h = inr (omega arith, omega arith)
       go (inl i) (inl h) = inl (
-        i
-            ∙ h.0,
-        subst (All c.notes) h.1 (k.written.all_written (not_six 1 (λ p. absurd (omega arith)) (i ∙ h.0))).1,
+        i ∙ h.0,
+        subst (All c.notes) h.1 (k.written.all_written (not_six (status_of x) (never_six x) (i ∙ h.0))).1,
       )
       go (inl i) (inr h) = inr (subst IsOutside (sym i) h)
+
+  -- the line of an answer that is its ending's
+  pub says : (x : Ending) → notes_of k.answer ≡ line_of x → ending ≡ x → Says c x
+  says x line i = says_due x (inl (ap status_of i, line))
+
+  pub outside_says : (x : Ending) → IsOutside (status_of ending) → Says c x
+  outside_says x o = says_due x (inr o)
+
+  pub final_or : IsFinal (status_of ending) → IsFinal status ⊎ IsOutside status
+  final_or f = go k.written.status_is
+    where
+      go : (status ≡ status_of ending) ⊎ (status ≡ 6) → IsFinal status ⊎ IsOutside status
+      go (inr i) = inr (omega arith, omega arith)
+      go (inl i) = inl (subst IsFinal (sym i) f)
 
   pub final_status : IsFinal status → IsFinal (status_of ending)
   final_status (inl h) = inl (undisplaced 0 (λ p. absurd (omega arith)) h)
@@ -836,8 +857,8 @@ module _ (c : Call) (k : IsAnswered c) (l : Laws) where
 
   -- ---- the clauses
 
-  refuses : OfText c (λ d text. (r : Refusal) → Breaks d text r → SaysRefusal c r)
-  refuses d text v t r b = says (refusal_text r)
+  refuses : OfText c (λ d text. (r : Refusal) → Breaks d text r → Says c (e.Refused r))
+  refuses d text v t r b = says_due (e.Refused r)
       (refusal_due c.files c.source c.reports (command_of c.words) k.answer d text v t l r b ending refl due_why)
 
   refuses_only : OfText c (λ d text. status ≡ 1 → (r : Refusal) × Breaks d text r)
@@ -939,10 +960,8 @@ module _ (c : Call) (k : IsAnswered c) (l : Laws) where
     too_short x y = omega arith
 
     input_fits : (input : List ℕ) → c.source.left ≡ Some input → (h : HasRead c.files c.source b) → IsTooLong input → ⊥
-    input_fits input left h long = short h.input input (told_of c.source.left h.input input left h.read) h.fits long
-      where
-        short : (x y : List ℕ) → x ≡ y → length x ≤ 16777216 → 16777216 < length y → ⊥
-        short x y e h k = let i : length x ≡ length y = ap length e in omega arith
+    input_fits input left h long =
+        not_too_long h.input input (told_of c.source.left h.input input left h.read) h.fits long
 
     followed_long : KeepsAll text → IsJournalText bytes → (input : List ℕ) → c.source.left ≡ Some input
         → IsTooLong input → IsOutside (status_of ending)
@@ -955,48 +974,28 @@ module _ (c : Call) (k : IsAnswered c) (l : Laws) where
         go (came_long h) = absurd (too_short is.1 (if_told _ (c.files.held b.journal) bytes u h.long))
         go (came_outside o) = o
 
-    -- the line of what is wrong with the journal
-    says_journal : (x : Ending) → status_of x ≡ 9 → (notes_of k.answer ≡ line_of x) → ending ≡ x → SaysJournal c x
-    says_journal x nine line e = go k.written.status_is
-      where
-        go : (status ≡ status_of ending) ⊎ (status ≡ 6) → SaysJournal c x
-        go (inr i) = inr (omega arith, omega arith)
-        go (inl i) =
-            let n : status ≡ 9 = i ∙ ap status_of e ∙ nine in
-            inl (n, subst (All c.notes) line (k.written.all_written (not_six 9 (λ p. absurd (omega arith)) n)).1)
-
-    outside_journal : (x : Ending) → IsOutside (status_of ending) → SaysJournal c x
-    outside_journal x o = inr (outside o)
-
-    final_or : IsFinal (status_of ending) → IsFinal status ⊎ IsOutside status
-    final_or f = go k.written.status_is
-      where
-        go : (status ≡ status_of ending) ⊎ (status ≡ 6) → IsFinal status ⊎ IsOutside status
-        go (inr i) = inr (omega arith, omega arith)
-        go (inl i) = inl (subst IsFinal (sym i) f)
-
-    says_long : KeepsAll text → 67108864 < length bytes → SaysJournal c e.LongJournal
+    says_long : KeepsAll text → 67108864 < length bytes → Says c e.LongJournal
     says_long kept long = go (came_here kept)
       where
-        go : Came_here → SaysJournal c e.LongJournal
+        go : Came_here → Says c e.LongJournal
         go (came_followed h) = absurd (too_short (is_short h.has_read) long)
         go (came_unfit n h) = absurd (too_short (is_short h.has_read) long)
         go (came_bad n h) = absurd (too_short (if_told _ (c.files.held b.journal) bytes u h.short) long)
-        go (came_long h) = says_journal e.LongJournal refl (ap notes_of h.answer)
+        go (came_long h) = says e.LongJournal (ap notes_of h.answer)
             (ap (λ (z : Answer). z.ending) h.answer)
-        go (came_outside o) = outside_journal e.LongJournal o
+        go (came_outside o) = outside_says e.LongJournal o
 
     says_bad : KeepsAll text → length bytes ≤ 67108864 → (IsText bytes → ⊥)
-        → ((n : ℕ) × IsFirstBad n bytes × SaysJournal c (e.BadJournal n)) ⊎ IsOutside status
+        → ((n : ℕ) × IsFirstBad n bytes × Says c (e.BadJournal n)) ⊎ IsOutside status
     says_bad kept short none = go (came_here kept)
       where
-        go : Came_here → ((n : ℕ) × IsFirstBad n bytes × SaysJournal c (e.BadJournal n)) ⊎ IsOutside status
+        go : Came_here → ((n : ℕ) × IsFirstBad n bytes × Says c (e.BadJournal n)) ⊎ IsOutside status
         go (came_followed h) = let j = read_is h.has_read in absurd (none (j.version, h.has_read.journal, j.text))
         go (came_unfit n h) = let j = read_is h.has_read in absurd (none (j.version, h.has_read.journal, j.text))
         go (came_bad n h) = inl (
           n,
           if_told _ (c.files.held b.journal) bytes u h.bad,
-          says_journal (e.BadJournal n) refl
+          says (e.BadJournal n)
               (ap notes_of h.answer) (ap (λ (z : Answer). z.ending) h.answer),
         )
         go (came_long h) = absurd (too_short short (if_told _ (c.files.held b.journal) bytes u h.long))
@@ -1048,19 +1047,19 @@ module _ (c : Call) (k : IsAnswered c) (l : Laws) where
             go (came_long h) = absurd (too_short of.short (if_told _ (c.files.held b.journal) bytes u h.long))
             go (came_outside o) = inr (outside o)
 
-        is_unfit : (n : ℕ) → IsUnfitAt (setting p input b.limits) j.entries n → SaysJournal c (e.Unfit n)
+        is_unfit : (n : ℕ) → IsUnfitAt (setting p input b.limits) j.entries n → Says c (e.Unfit n)
         is_unfit n d = go (came_here kept)
           where
-            go : Came_here → SaysJournal c (e.Unfit n)
+            go : Came_here → Says c (e.Unfit n)
             go (came_followed h) = absurd (not_followed c.files c.source b l h.has_read text bytes input t u left p is j
                 of n h.replayed h.is_replay d)
             go (came_unfit m h) =
-                subst (λ x. SaysJournal c (e.Unfit x))
+                subst (λ x. Says c (e.Unfit x))
                 (same_entry c.files c.source b l h.has_read text bytes input t u left p is j of m n h.is_unfit d)
-                (says_journal (e.Unfit m) refl (ap notes_of h.answer) (ap (λ (z : Answer). z.ending) h.answer))
+                (says (e.Unfit m) (ap notes_of h.answer) (ap (λ (z : Answer). z.ending) h.answer))
             go (came_bad m h) = absurd (if_told _ (c.files.held b.journal) bytes u h.no_text (of.version, j, of.text))
             go (came_long h) = absurd (too_short of.short (if_told _ (c.files.held b.journal) bytes u h.long))
-            go (came_outside o) = outside_journal (e.Unfit n) o
+            go (came_outside o) = outside_says (e.Unfit n) o
 
   pub following : Following c
   following = record {

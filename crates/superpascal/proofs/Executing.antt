@@ -13,21 +13,23 @@ use Rattle.sp_tree.specs.Bare.{bare}
 use Rattle.sp_words.specs.Words.{command_of}
 use Rattle.sp_words.specs.declared.command.Command.{Command}
 use Rattle.sp_words.specs.declared.command.Command.TheVariants as command
+use Rattle.superpascal.specs.declared.asked.Executed.{Executed}
+use Rattle.superpascal.specs.declared.asked.Followed.{Followed}
 use Rattle.superpascal.specs.declared.ending.Ending.{Ending}
 use Rattle.superpascal.specs.declared.ending.Ending.TheVariants as e
 use Rattle.superpascal.specs.declared.ending.Answer.{Answer}
 use Rattle.superpascal.specs.Answers.{line_of, notes_of, output_of, status_of}
-use Rattle.superpascal.specs.Calls.{All, Call, IsAnswered, IsFinal, IsOutside, Part}
+use Rattle.superpascal.specs.Calls.{All, Call, IsAnswered, IsFinal, IsOutside, Part, Says}
 use Rattle.superpascal.specs.Causes.{Files, HasExecuted, IsBadCode, IsLongFile, IsRefusedFor, IsRejectedCode, IsTold}
 use Rattle.superpascal.specs.Causes.{IsTooLong, Stream}
-use Rattle.superpascal.specs.Executing.{Executing, IsExecutionOfWords, IsFaultyFile, IsMeantHere, SaysCode}
+use Rattle.superpascal.specs.Executing.{Executing, IsExecutionOfWords, IsFaultyFile, IsMeantHere}
 use Rattle.superpascal.specs.Executions.{IsExecutionOf, execution_answer}
 use Rattle.superpascal.specs.Runs.{Reports, ending_of}
-use Rattle.superpascal.specs.Texts.{Executed, Followed, IsCodeFile, IsSoundFile, Makes, asks_build, executes, follows}
+use Rattle.superpascal.specs.Texts.{IsCodeFile, IsSoundFile, Makes, asks_build, executes, follows}
 use Rattle.superpascal.specs.Writing.{AreWritten}
 use Rattle.superpascal.proofs.Asking.{not_exec}
-use Rattle.superpascal.proofs.Calling.{due_why, ending, final, no_command, not_six, one_command, outside}
-use Rattle.superpascal.proofs.Calling.{run_notes_stand, undisplaced}
+use Rattle.superpascal.proofs.Calling.{due_why, ending, final, final_or, no_command, not_too_long, one_command}
+use Rattle.superpascal.proofs.Calling.{outside, outside_says, run_notes_stand, says, undisplaced}
 use Rattle.superpascal.proofs.CodeFiles.{not_bad, not_long, not_rejected, one_place, one_rule}
 use Rattle.superpascal.proofs.Laws.{Laws}
 use Rattle.superpascal.proofs.Parts.{when_told}
@@ -264,50 +266,30 @@ module _ (c : Call) (k : IsAnswered c) (l : Laws) where
     is_sound : HasExecuted c.files c.source b k.answer → IsSoundFile bytes
     is_sound h = subst IsSoundFile (this_file h.bytes h.loaded) (h.is_execution.code, h.is_execution.file)
 
-    -- the line of what is wrong with the file
-    says_code : (x : Ending) → status_of x ≡ 10 → (notes_of k.answer ≡ line_of x) → ending c k l ≡ x → SaysCode c x
-    says_code x ten line i = go k.written.status_is
-      where
-        go : (is_status ≡ status_of (ending c k l)) ⊎ (is_status ≡ 6) → SaysCode c x
-        go (inr j) = inr (omega arith, omega arith)
-        go (inl j) =
-            let n : is_status ≡ 10 = j ∙ ap status_of i ∙ ten in
-            inl (n, subst (All c.notes) line (k.written.all_written (not_six c k l 10 (λ p. absurd (omega arith)) n)).1)
-
-    outside_code : (x : Ending) → IsOutside (status_of (ending c k l)) → SaysCode c x
-    outside_code x o = inr (outside c k l o)
-
-    final_or : IsFinal (status_of (ending c k l)) → IsFinal is_status ⊎ IsOutside is_status
-    final_or i = go k.written.status_is
-      where
-        go : (is_status ≡ status_of (ending c k l)) ⊎ (is_status ≡ 6) → IsFinal is_status ⊎ IsOutside is_status
-        go (inr j) = inr (omega arith, omega arith)
-        go (inl j) = inl (subst IsFinal (sym j) i)
-
-    says_long : 67108864 < length bytes → SaysCode c e.LongFile
+    says_long : 67108864 < length bytes → Says c e.LongFile
     says_long long = go came_here
       where
-        go : Came_here → SaysCode c e.LongFile
+        go : Came_here → Says c e.LongFile
         go (came_run h) = absurd (not_long bytes (is_sound h) long)
-        go (came_long h) = says_code e.LongFile refl (ap notes_of h.answer) (ap (λ (z : Answer). z.ending) h.answer)
+        go (came_long h) = says c k l e.LongFile (ap notes_of h.answer) (ap (λ (z : Answer). z.ending) h.answer)
         go (came_bad n h) = absurd (too_short
             (subst (λ (x : List ℕ). length x ≤ 67108864) (this_file h.bytes h.loaded) h.short) long)
         go (came_rejected r n h) = absurd
             (too_short (subst (λ (x : List ℕ). length x ≤ 67108864) (this_file h.bytes h.loaded) h.short) long)
         go (came_refused i h) = absurd (not_refused h)
-        go (came_outside o) = outside_code e.LongFile o
+        go (came_outside o) = outside_says c k l e.LongFile o
 
-    says_bad : length bytes ≤ 67108864 → (IsText bytes → ⊥) → ((n : ℕ) × IsFirstBad n bytes × SaysCode c (e.BadCode n))
+    says_bad : length bytes ≤ 67108864 → (IsText bytes → ⊥) → ((n : ℕ) × IsFirstBad n bytes × Says c (e.BadCode n))
         ⊎ IsOutside is_status
     says_bad short none = go came_here
       where
-        go : Came_here → ((n : ℕ) × IsFirstBad n bytes × SaysCode c (e.BadCode n)) ⊎ IsOutside is_status
+        go : Came_here → ((n : ℕ) × IsFirstBad n bytes × Says c (e.BadCode n)) ⊎ IsOutside is_status
         go (came_run h) = let x = is_sound h in absurd (none (x.0, x.1.text))
         go (came_long h) = absurd (too_short short (is_long h))
         go (came_bad n h) = inl (
           n,
           is_bad n h,
-          says_code (e.BadCode n) refl (ap notes_of h.answer)
+          says c k l (e.BadCode n) (ap notes_of h.answer)
               (ap (λ (z : Answer). z.ending) h.answer),
         )
         go (came_rejected r n h) = absurd (none (h.code, is_text r n h))
@@ -315,7 +297,7 @@ module _ (c : Call) (k : IsAnswered c) (l : Laws) where
         go (came_outside o) = inr (outside c k l o)
 
     says_rejected : length bytes ≤ 67108864 → (code : Parts) → IsTextOf code bytes → (r : VRule) (i : ℕ)
-        → IsRejected code (rule_of r) i → SaysCode c (e.Rejected r i)
+        → IsRejected code (rule_of r) i → Says c (e.Rejected r i)
     says_rejected short code text r i rejected = go came_here
       where
         same_line : (x : VRule) (j : ℕ) (h : IsRejectedCode c.files b x j k.answer)
@@ -333,19 +315,19 @@ module _ (c : Call) (k : IsAnswered c) (l : Laws) where
                 → line_of (e.Rejected x j) ≡ line_of (e.Rejected y i)
             lines x y j i h m = ap (λ (n : ℕ). line n j) h ∙ ap (line (number (rule_of y))) m
 
-        said : (x : VRule) (j : ℕ) → IsRejectedCode c.files b x j k.answer → SaysCode c (e.Rejected x j)
-            → SaysCode c (e.Rejected r i)
+        said : (x : VRule) (j : ℕ) → IsRejectedCode c.files b x j k.answer → Says c (e.Rejected x j)
+            → Says c (e.Rejected r i)
         said x j h (inl m) = inl (m.0, subst (All c.notes) (same_line x j h) m.1)
         said x j h (inr m) = inr m
 
-        go : Came_here → SaysCode c (e.Rejected r i)
+        go : Came_here → Says c (e.Rejected r i)
         go (came_run h) = absurd (not_rejected l code bytes (is_sound h) text (rule_of r) i rejected)
         go (came_long h) = absurd (too_short short (is_long h))
         go (came_bad n h) = absurd ((is_bad n h).whole (code, text))
         go (came_rejected x j h) = said x j h
-            (says_code (e.Rejected x j) refl (ap notes_of h.answer) (ap (λ (z : Answer). z.ending) h.answer))
+            (says c k l (e.Rejected x j) (ap notes_of h.answer) (ap (λ (z : Answer). z.ending) h.answer))
         go (came_refused m h) = absurd (not_refused h)
-        go (came_outside o) = outside_code (e.Rejected r i) o
+        go (came_outside o) = outside_says c k l (e.Rejected r i) o
 
     never_refused : is_status ≡ 1 → ⊥
     never_refused n = go came_here
@@ -386,7 +368,7 @@ module _ (c : Call) (k : IsAnswered c) (l : Laws) where
         where
           go : Came_here → IsFinal is_status ⊎ IsOutside is_status
           go (came_run h) =
-              final_or (subst IsFinal (sym (ap (λ (z : Answer). status_of z.ending) h.answer))
+              final_or c k l (subst IsFinal (sym (ap (λ (z : Answer). status_of z.ending) h.answer))
               (final h.run.end (execution_ends _ _ _ _ h.run h.is_execution)).0)
           go (came_long h) = absurd (not_long bytes sound (is_long h))
           go (came_bad n h) = absurd (not_bad bytes n sound (is_bad n h))
@@ -397,11 +379,9 @@ module _ (c : Call) (k : IsAnswered c) (l : Laws) where
       long_input : IsTooLong input → IsOutside is_status
       long_input long = go came_here
         where
-          short : (x y : List ℕ) → x ≡ y → length x ≤ 16777216 → 16777216 < length y → ⊥
-          short x y i h m = let j : length x ≡ length y = ap length i in omega arith
-
           go : Came_here → IsOutside is_status
-          go (came_run h) = absurd (short h.input input (told_of c.source.left h.input input left h.read) h.fits long)
+          go (came_run h) = absurd
+              (not_too_long h.input input (told_of c.source.left h.input input left h.read) h.fits long)
           go (came_long h) = absurd (not_long bytes sound (is_long h))
           go (came_bad n h) = absurd (not_bad bytes n sound (is_bad n h))
           go (came_rejected r n h) = absurd (not_rejected l h.code bytes sound (is_text r n h) (rule_of r) n h.rejected)

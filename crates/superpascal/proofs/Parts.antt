@@ -1,40 +1,40 @@
--- From what the parts of a call answer to the cause of its answer.
-use Rattle.std.proofs.Common.{◌≡◌, ◌≢◌, inl, inr, ℕ, ◌<◌, ◌≤◌, List, [], length, Option, Some, None, Result, Ok, Err}
+-- From what the steps of a command give to the cause of its answer: of the commands that answer from the text alone, of
+-- `run` and `witness`, and of `gen`.
+use Rattle.std.proofs.Common.{◌≡◌, inl, inr, ℕ, ◌<◌, ◌≤◌, List, [], length, Option, Some, None, Result, Ok, Err}
 use Rattle.std.proofs.Common.{refl, sym, ◌∙◌, ap, subst}
-use Rattle.std.specs.Prelude.{IfSome, ◌↔◌, codes}
+use Rattle.std.specs.Prelude.{IfSome, ◌↔◌}
 use Rattle.sp_base.specs.declared.halt.Halt.{Halt}
 use Rattle.sp_base.specs.declared.halt.Halt.TheVariants as halt
 use Rattle.sp_base.specs.declared.halt.Refusal.{Refusal}
 use Rattle.sp_base.specs.declared.limits.Limits.{Limits}
-use Rattle.sp_code.specs.Listing.{listing_text}
-use Rattle.sp_codefile.specs.CodeText.{IsTextOf}
 use Rattle.sp_code.specs.declared.code.Parts.{Parts}
-use Rattle.sp_compile.specs.Codes.{Codes, IsCompiled}
+use Rattle.sp_codefile.specs.CodeText.{IsTextOf}
+use Rattle.sp_compile.specs.Codes.{IsCompiled}
 use Rattle.sp_compile.specs.declared.phases.CompiledText.{CompiledText}
 use Rattle.sp_execute.specs.declared.execution.Ran.{Ran}
+use Rattle.sp_format.specs.Formats.{Formats}
 use Rattle.sp_gen.specs.Generated.{generated_text}
 use Rattle.sp_outside.specs.Counts.{Rose}
-use Rattle.sp_outside.specs.Told.{IsAtEnd}
-use Rattle.sp_outside.specs.declared.failed.LoadError.{LoadError}
-use Rattle.sp_outside.specs.declared.failed.LoadError.TheVariants as load
 use Rattle.sp_tree.specs.CheckedOf.{program_of}
 use Rattle.sp_tree.specs.PlainChecked as c
 use Rattle.sp_words.specs.Ranges.{default_limits}
 use Rattle.sp_words.specs.declared.command.Command.{Command}
 use Rattle.sp_words.specs.declared.command.Command.TheVariants as command
+use Rattle.superpascal.specs.declared.asked.Asked.{Asked}
 use Rattle.superpascal.specs.declared.ending.Answer.{Answer}
+use Rattle.superpascal.specs.declared.ending.Ending.{Ending}
 use Rattle.superpascal.specs.declared.ending.Ending.TheVariants as e
 use Rattle.superpascal.specs.declared.telling.Telling.{Telling}
-use Rattle.superpascal.specs.Answering.{CodeAnswer, CommandCause, GeneratedAnswer, GeneratedCause, HasCode, InputAnswer}
-use Rattle.superpascal.specs.Answering.{IsMade, JournalAnswer, AnswersRefusal, RanAnswer, ReplayAnswer, RunAnswer}
-use Rattle.superpascal.specs.Answering.{TextCause, halted, too_long, unloaded}
-use Rattle.superpascal.specs.Causes.{Cause, by_command, Due, by_run, by_generated, by_text, by_code, by_rule}
-use Rattle.superpascal.specs.Causes.{by_library, by_source, by_length, by_memory, Files, IsTold, IsUntouched}
-use Rattle.superpascal.specs.Causes.{ReadsAfterRules, Stream, accepted, silent}
+use Rattle.superpascal.specs.Answering.{AnswersEnding, HasCode, ended, ending_of_halt}
+use Rattle.superpascal.specs.Causes.{Cause, by_words, before_words, by_command, Due, by_run, by_generated, by_text}
+use Rattle.superpascal.specs.Causes.{by_code, by_rule, by_library, by_source, by_length, by_memory, Files, IsTold}
+use Rattle.superpascal.specs.Causes.{IsUntouched, ReadsAfterRules, Stream, accepted, silent}
 use Rattle.superpascal.specs.Runs.{IsRunOf, Reports}
-use Rattle.superpascal.specs.Texts.{Asked, Breaks, BreaksOne, CanRead, HasCodeText, IsAbout, KeepsAll, asked, asks}
-use Rattle.superpascal.specs.Texts.{asks_for, text_of}
-use Rattle.superpascal.proofs.Asking.{asked_breaks, asked_reads, asked_text}
+use Rattle.superpascal.specs.Steps.{Answers, AnswersText, AnswersWords, CommandCause, CompilesTo, GivesCode, GivesInput}
+use Rattle.superpascal.specs.Steps.{HasInput, IsKeptBack, IsSaidOf, IsUnready, ReadsCommand, TellsGenerated, TellsRun}
+use Rattle.superpascal.specs.Steps.{TellsSets, TextCause, too_long}
+use Rattle.superpascal.specs.Texts.{Breaks, BreaksOne, CanRead, HasCodeText, IsAbout, KeepsAll, Makes, asks, text_of}
+use Rattle.superpascal.proofs.Asking.{asked_about, asked_breaks, asked_reads}
 use Rattle.superpascal.proofs.Laws.{long_breaks}
 
 -- ---- what is told
@@ -44,17 +44,61 @@ pub when_told : (P : List ℕ → Type 0) (o : Option (List ℕ)) (text : List �
 when_told P None text h k = tt
 when_told P (Some all) text h k = subst P h k
 
--- a text for which the library says so is longer than its limit
-is_long : (o : Option (List ℕ)) (P Q : Type 0) → IfSome o (λ all. P ↔ ((1048576 < length all) × Q)) → P
-    → IfSome o (λ all. 1048576 < length all)
-is_long None P Q h p = tt
-is_long (Some all) P Q h p = (h.0 p).0
+pub if_mapped : (P Q : List ℕ → Type 0) (o : Option (List ℕ)) → ((x : List ℕ) → P x → Q x) → IfSome o P → IfSome o Q
+if_mapped P Q None g h = tt
+if_mapped P Q (Some x) g h = g x h
+
+-- bytes for which the library says so are more than its limit
+pub is_longer : (o : Option (List ℕ)) (limit : ℕ) (P Q : Type 0) → IfSome o (λ all. P ↔ ((limit < length all) × Q)) → P
+    → IfSome o (λ all. limit < length all)
+is_longer None limit P Q h p = tt
+is_longer (Some all) limit P Q h p = (h.0 p).0
 
 long_broken : (d : Command) (name : List ℕ) (o : Option (List ℕ)) → IsAbout d name
-    → IfSome o (λ all. 1048576 < length all)
-    → IfSome o (λ text. Breaks d text too_long)
-long_broken d name None about h = tt
-long_broken d name (Some all) about h = long_breaks d name all about h
+    → IfSome o (λ all. 1048576 < length all) → IfSome o (λ text. Breaks d text too_long)
+long_broken d name o about h = if_mapped _ (λ text. Breaks d text too_long) o (λ all. long_breaks d name all about) h
+
+-- at the exit of a step that has ended the command
+pub at_exit : {T : Type 0} (F : Result T Ending → Type 0) (r : Result T Ending) (x : Ending)
+    → ((y : Ending) × (r ≡ Err y) × (y ≡ x)) → F (Err x) → F r
+at_exit F r x (y, h, k) m = subst F (sym (h ∙ ap Err k)) m
+
+-- of an answer that is said so, another is said
+pub said : (P Q : Answer → Type 0) → ((a : Answer) → P a → Q a) → (r : Result Answer Ending) → IsSaidOf P r
+    → IsSaidOf Q r
+said P Q g (Ok a) h = g a h
+said P Q g (Err x) h = g (ended x) h
+
+-- ---- the code of a text
+
+-- the code of a text
+has_code : (text : List ℕ) (r : CompiledText) → IsCompiled text r → HasCode text (program_of r.accepted.checked) r.code
+has_code text r h = record { has = record { accepted = h.accepted; short = h.short }; code = h.code }
+
+-- the code that was taken out of it
+pub compiled_code : (text : List ℕ) (r : CompiledText) (code : Parts) → code ≡ r.code → IsCompiled text r
+    → (t : c.Program) × HasCode text t code
+compiled_code text r code i k = (
+  program_of r.accepted.checked,
+  subst (λ (x : Parts). HasCode text (program_of r.accepted.checked) x) (sym i) (has_code text r k),
+)
+
+pub unready : (f : Files) (name : List ℕ) (x : Ending) → IsKeptBack f name 1048576 (e.Refused too_long) x
+    → IsUnready f name x
+unready f name x (inl h) = inl (too_long, h.0, long_broken (command.Check name) name (f.held name) refl h.1)
+unready f name x (inr h) = inr h
+
+pub given_code : (f : Files) (name text : List ℕ) → IsTold (f.held name) text → (r : Result Parts Ending)
+    → CompilesTo text r → GivesCode f name r
+given_code f name text t (Ok code) (tree, h) = (text, t, tree, h)
+given_code f name text t (Err x) (inl (r, h, b)) = inl
+    (r, h, when_told (λ y. BreaksOne y r) (f.held name) text t b)
+given_code f name text t (Err x) (inr h) = inr (inr h)
+
+pub keeps_code : (text : List ℕ) (tree : c.Program) (code : Parts) → HasCode text tree code → KeepsAll text
+keeps_code text tree code h = (tree, h.has.accepted, h.has.short)
+
+-- ---- commands that answer from the text alone
 
 -- the text of a command is the one under the name that it is about
 held_of : (f : Files) (d : Command) (name : List ℕ) → IsAbout d name → text_of f.held d ≡ f.held name
@@ -69,35 +113,73 @@ held_of f (command.Replay file journal limits) name h = ap f.held h
 held_of f (command.Build file) name h = ap f.held h
 held_of f (command.Exec file workers limits) name h = absurd h
 
--- ---- commands that answer from the text alone
-
-module _ (f : Files) (d : Command) (name : List ℕ) (about : IsAbout d name) (a : Answer) where
+module _ (f : Files) (d : Command) (name : List ℕ) (about : IsAbout d name) where
   to_text : (P : Option (List ℕ) → Type 0) → P (f.held name) → P (text_of f.held d)
   to_text P h = subst P (sym (held_of f d name about)) h
 
-  refuses : (r : Refusal) → IfSome (text_of f.held d) (λ text. Breaks d text r) → AnswersRefusal r a → TextCause f d a
-  refuses r b (inl h) = inr (inr (inl (record { refusal = r; breaks = b; answer = h })))
-  refuses r b (inr h) = inr (inr (inr (inr h)))
+  refuses : (r : Refusal) (x : Ending) → x ≡ e.Refused r → IfSome (f.held name) (λ text. Breaks d text r)
+      → TextCause f d (ended x)
+  refuses r x h b = inr (inr (inl (record {
+    refusal = r;
+    breaks = to_text (λ o. IfSome o (λ y. Breaks d y r)) b;
+    answer = ap ended h;
+  })))
 
-  -- a text that the library does not give
-  pub text_unloaded : (X : Type 0) (error : LoadError)
-      → IfSome (f.held name) (λ all. (◌≡◌ {A = Result X LoadError} (Err error) (Err load.TooLong)) ↔
-      ((1048576 < length all) × (◌≢◌ {A = Result X LoadError} (Err error) (Err load.Failed))))
-      → (◌≡◌ {A = Result X LoadError} (Err error) (Err load.Failed) → Rose (f.before name) (f.after name))
-      → unloaded error a → TextCause f d a
-  text_unloaded X load.TooLong t r h = refuses too_long
-      (to_text (λ o. IfSome o (λ x. Breaks d x too_long))
-      (long_broken d name (f.held name) about (is_long (f.held name) _ _ t refl))) h
-  text_unloaded X load.Failed t r h = inr
-      (inr (inr (inl (record { name = name; loads = inl about; rose = r refl; answer = h }))))
-  text_unloaded X load.Memory t r h = inr (inr (inr (inr h)))
+  fails : (x : Ending) → x ≡ e.ReadFault → Rose (f.before name) (f.after name) → TextCause f d (ended x)
+  fails x h r = inr (inr (inr (inl (record { name = name; loads = inl about; rose = r; answer = ap ended h }))))
 
-  -- a text of which nothing is made
-  pub text_halted : (text : List ℕ) → IsTold (f.held name) text → (h : Halt) → IsMade d text (Err h) → halted h a
-      → TextCause f d a
-  text_halted text t (halt.Refused r) b k =
-      refuses r (to_text (λ o. IfSome o (λ x. Breaks d x r)) (when_told (λ x. Breaks d x r) (f.held name) text t b)) k
-  text_halted text t halt.Memory b k = inr (inr (inr (inr k)))
+  -- a text that is not loaded
+  pub text_kept_back : (x : Ending) → IsKeptBack f name 1048576 (e.Refused too_long) x → TextCause f d (ended x)
+  text_kept_back x (inl h) = refuses too_long x h.0 (long_broken d name (f.held name) about h.1)
+  text_kept_back x (inr (inl h)) = fails x h.0 h.1
+  text_kept_back x (inr (inr h)) = inr (inr (inr (inr (ap ended h))))
+
+  -- a text of which no code comes, of a command that goes through all rules
+  pub text_unready : ((text : List ℕ) (r : Refusal) → BreaksOne text r → Breaks d text r) → (x : Ending)
+      → IsUnready f name x → TextCause f d (ended x)
+  text_unready all x (inl (r, h, b)) = refuses r x h
+      (if_mapped (λ y. BreaksOne y r) (λ y. Breaks d y r) (f.held name) (λ y. all y r) b)
+  text_unready all x (inr (inl h)) = fails x h.0 h.1
+  text_unready all x (inr (inr h)) = inr (inr (inr (inr (ap ended h))))
+
+  -- one that breaks a rule of the command
+  pub text_refused : (text : List ℕ) → IsTold (f.held name) text → (r : Refusal) → Breaks d text r
+      → TextCause f d (ended (e.Refused r))
+  text_refused text t r b = refuses r (e.Refused r) refl (when_told (λ y. Breaks d y r) (f.held name) text t b)
+
+  -- what is made of it
+  pub text_made : (text : List ℕ) → IsTold (f.held name) text → (out line : List ℕ) → Makes d text out line
+      → (a : Answer) → a ≡ accepted out line → TextCause f d a
+  text_made text t out line m a h = inl (record {
+    text = text;
+    loaded = to_text (λ o. IsTold o text) t;
+    output = out;
+    line = line;
+    makes = m;
+    answer = h;
+  })
+
+-- a text of which no sets, or no layout, are made
+pub sets_halted : (f : Files) (file text : List ℕ) → IsTold (f.held file) text → (h : Halt) → TellsSets text (Err h)
+    → TextCause f (command.Sets file) (ended (ending_of_halt h))
+sets_halted f file text t (halt.Refused r) b = text_refused f (command.Sets file) file refl text t r b
+sets_halted f file text t halt.Memory b = inr (inr (inr (inr refl)))
+
+pub layout_halted : (f : Files) (file text : List ℕ) → IsTold (f.held file) text → (h : Halt) → Formats text (Err h)
+    → TextCause f (command.Format file) (ended (ending_of_halt h))
+layout_halted f file text t (halt.Refused r) b = text_refused f (command.Format file) file refl text t r b
+layout_halted f file text t halt.Memory b = inr (inr (inr (inr refl)))
+
+-- the text of the code of a text
+pub has_code_text : (text : List ℕ) (tree : c.Program) (code : Parts) (out : List ℕ) → HasCode text tree code
+    → IsTextOf code out → HasCodeText text out
+has_code_text text tree code out h o = (tree, h.has.accepted, h.has.short, code, h.code, o)
+
+-- the code of the text is too long for a file
+pub code_long : (f : Files) (file text : List ℕ) → IsTold (f.held file) text → (out : List ℕ) → HasCodeText text out
+    → 67108864 < length out → TextCause f (command.Build file) (ended e.LongCode)
+code_long f file text t out h long = inr
+    (inl (record { builds = tt; text = text; loaded = t; long = (out, h, long); answer = refl }))
 
 due_of_text : (f : Files) (s : Stream) (reports : Reports) (d : Command) (a : Answer) → TextCause f d a
     → Due f s reports d a
@@ -107,213 +189,124 @@ due_of_text f s reports d a (inr (inr (inl h))) = by_rule h
 due_of_text f s reports d a (inr (inr (inr (inl h)))) = by_library h
 due_of_text f s reports d a (inr (inr (inr (inr h)))) = by_memory h
 
-pub command_of_text : (f : Files) (s : Stream) (reports : Reports) (d : Command) (a : Answer) → IsUntouched s
+pub cause_of_text : (f : Files) (s : Stream) (reports : Reports) (d : Command) → IsUntouched s → (a : Answer)
     → TextCause f d a → CommandCause f s reports d a
-command_of_text f s reports d a u h = (due_of_text f s reports d a h, inl u)
+cause_of_text f s reports d u a h = (due_of_text f s reports d a h, inl u)
 
 -- of a command that is known
-pub made_by : (d x : Command) (text : List ℕ) (r : Result Answer Halt) → d ≡ x → IsMade x text r → IsMade d text r
-made_by d x text r h k = subst (λ (y : Command). IsMade y text r) (sym h) k
+pub command_by : (f : Files) (s : Stream) (reports : Reports) (d x : Command) (r : Result Answer Ending) → d ≡ x
+    → Answers f s reports x r → Answers f s reports d r
+command_by f s reports d x r h k = subst (λ (y : Command). Answers f s reports y r) (sym h) k
 
-pub command_by : (f : Files) (s : Stream) (reports : Reports) (d x : Command) (a : Answer) → d ≡ x
-    → CommandCause f s reports x a → CommandCause f s reports d a
-command_by f s reports d x a h k = subst (λ (y : Command). CommandCause f s reports y a) (sym h) k
+pub text_command_by : (f : Files) (s : Stream) (reports : Reports) (d x : Command) (r : Result Answer Ending) → d ≡ x
+    → IsUntouched s → AnswersText f x r → Answers f s reports d r
+text_command_by f s reports d x r h u k = command_by f s reports d x r h
+    (said (TextCause f x) (CommandCause f s reports x) (cause_of_text f s reports x u) r k)
 
-pub run_by : (d : Command) (file name : List ℕ) (workers : ℕ) (limits : Limits) (t : Telling)
-    → d ≡ asks_for t file workers limits → name ≡ file
-    → d ≡ asks (asked name workers limits t)
-run_by d file name workers limits t h i = h ∙ ap (λ (n : List ℕ). asks_for t n workers limits) (sym i)
+-- ---- `run` and `witness`
 
--- ---- `run`
+module _ (f : Files) (s : Stream) (reports : Reports) (b : Asked) where
+  abbrev Due_run : Answer → Type 0
+  Due_run a = CommandCause f s reports (asks b) a
 
--- the code of a text
-has_code : (text : List ℕ) (r : CompiledText) → IsCompiled text r → HasCode text (program_of r.accepted.checked) r.code
-has_code text r h = record { has = record { accepted = h.accepted; short = h.short }; code = h.code }
+  -- no code comes of the text
+  pub run_unready : IsUntouched s → (x : Ending) → IsUnready f b.file x → Due_run (ended x)
+  run_unready u x h = cause_of_text f s reports (asks b) u (ended x)
+      (text_unready f (asks b) b.file (asked_about b) (asked_breaks b) x h)
 
-keeps_compiled : (text : List ℕ) (r : CompiledText) → IsCompiled text r → KeepsAll text
-keeps_compiled text r h = (program_of r.accepted.checked, h.accepted, h.short)
+  module _ (text : List ℕ) (t : IsTold (f.held b.file) text) (tree : c.Program) (code : Parts)
+      (has : HasCode text tree code) where
+    can_read : CanRead f.held (asks b)
+    can_read = asked_reads f.held b (when_told KeepsAll (f.held b.file) text t (keeps_code text tree code has))
 
-of_code : (text program : List ℕ) (t : c.Program) (x code : Parts) → text ≡ program → code ≡ x → HasCode text t x
-    → HasCode program t code
-of_code text program t x code h i k = subst (λ (z : List ℕ × Parts). HasCode z.0 t z.1) (λ j. (h j, sym i j)) k
+    reads : ReadsAfterRules f s (asks b)
+    reads = inr can_read
 
--- the code that was taken out of it
-pub compiled_code : (text program : List ℕ) (r : CompiledText) (code : Parts) → text ≡ program → code ≡ r.code
-    → IsCompiled text r → (t : c.Program) × HasCode program t code
-compiled_code text program r code h i k = (
-  program_of r.accepted.checked,
-  of_code text program (program_of r.accepted.checked) r.code code h i
-      (has_code text r k),
-)
+    -- memory was wanting for the run, or for what is told of it
+    pub run_wanting : (x : Ending) → x ≡ e.OutOfMemory → Due_run (ended x)
+    run_wanting x h = (by_memory (ap ended h), reads)
 
-pub compiled_some : (text : List ℕ) (r : CompiledText) (code : Parts) → code ≡ r.code → IsCompiled text r
-    → (program : List ℕ) × (t : c.Program) × HasCode program t code
-compiled_some text r code i k = let h = compiled_code text text r code refl i k in (text, h.0, h.1)
+    -- the input is not read
+    pub run_unread : (x : Ending) → GivesInput s (Err x) → Due_run (ended x)
+    run_unread x (inl h) = (by_source (record { reads = can_read; rose = h.1; answer = ap ended h.0 }), reads)
+    run_unread x (inr (inl h)) = (by_length (record { reads = can_read; long = h.1; answer = ap ended h.0 }), reads)
+    run_unread x (inr (inr h)) = run_wanting x h
 
--- a text is accepted
-pub check_made : (text : List ℕ) (r : CompiledText) (out line : List ℕ) (a : Answer) → IsCompiled text r → out ≡ []
-    → line ≡ codes "accepted\n"
-    → a ≡ accepted out line → (file : List ℕ) → IsMade (command.Check file) text (Ok a)
-check_made text r out line a k o n h file = inl (out, line, (keeps_compiled text r k, o, n), h)
-
--- the listing of the code of a text
-pub list_made : (text : List ℕ) (r : CompiledText) (code : Parts) (out line : List ℕ) (a : Answer) → IsCompiled text r
-    → code ≡ r.code → out ≡ listing_text code → line ≡ [] → a ≡ accepted out line → (file : List ℕ)
-    → IsMade (command.Code file) text (Ok a)
-list_made text r code out line a k i o n h file = inl
-    (out, line, ((program_of r.accepted.checked, k.accepted, k.short, r.code, k.code, o ∙ ap listing_text i), n), h)
-
--- the text of the code of a text
-has_code_text : (text : List ℕ) (r : CompiledText) (code : Parts) (out : List ℕ) → IsCompiled text r → code ≡ r.code
-    → IsTextOf code out → HasCodeText text out
-has_code_text text r code out k i o =
-    (program_of r.accepted.checked, k.accepted, k.short, r.code, k.code, subst (λ (x : Parts). IsTextOf x out) i o)
-
-pub code_made : (text : List ℕ) (r : CompiledText) (code : Parts) (out line : List ℕ) (a : Answer) → IsCompiled text r
-    → code ≡ r.code
-    → IsTextOf code out → length out ≤ 67108864 → line ≡ [] → a ≡ accepted out line → (file : List ℕ)
-    → IsMade (command.Build file) text (Ok a)
-code_made text r code out line a k i o small n h file = inl
-    (out, line, ((has_code_text text r code out k i o, small), n), h)
-
-pub code_long : (text : List ℕ) (r : CompiledText) (code : Parts) (out : List ℕ) (a : Answer) → IsCompiled text r
-    → code ≡ r.code
-    → IsTextOf code out → 67108864 < length out → a ≡ silent e.LongCode → (file : List ℕ)
-    → IsMade (command.Build file) text (Ok a)
-code_long text r code out a k i o large h file = inr (tt, (out, has_code_text text r code out k i o, large), h)
-
-pub replay_compiled : (held : Option (List ℕ)) (before after : ℕ) (s : Stream) (limits : Limits) (text : List ℕ)
-    (a : Answer) (r : CompiledText) (code : Parts) → code ≡ r.code → IsCompiled text r
-    → ((program : List ℕ) (t : c.Program) → HasCode program t code → JournalAnswer held before after s program limits a)
-    → ReplayAnswer held before after s limits text a
-replay_compiled held before after s limits text a r code i k h =
-    inl (
-      record { kept = keeps_compiled text r k },
-      h text (program_of r.accepted.checked)
-          (of_code text text (program_of r.accepted.checked) r.code code refl i (has_code text r k)),
-    )
-
-module _ (s : Stream) (reports : Reports) (telling : Telling) (workers : ℕ) (limits : Limits) (text : List ℕ)
-    (a : Answer) where
-  pub input_ran : (input : List ℕ) → IsTold s.left input → length input ≤ 16777216 → IsAtEnd s.left'
-      → CodeAnswer reports telling workers limits text input a → InputAnswer s reports telling workers limits text a
-  input_ran input t n e (inl (r, h, inl k)) = inl
-      (record { input = input; ran = r; read = t; fits = n; at_end = e; is_run = h; answer = k })
-  input_ran input t n e (inl (r, h, inr k)) = inr (inr (inr k))
-  input_ran input t n e (inr k) = inr (inr (inr k))
-
-  pub run_compiled : (r : CompiledText) (code : Parts) → code ≡ r.code → IsCompiled text r
-      → ((program : List ℕ) (t : c.Program) → HasCode program t code
-      → InputAnswer s reports telling workers limits program a) → RunAnswer s reports telling workers limits text a
-  run_compiled r code i k h = inl (
-    record { kept = keeps_compiled text r k },
-    h text (program_of r.accepted.checked)
-        (of_code text text (program_of r.accepted.checked) r.code code refl i (has_code text r k)),
-  )
-
-  pub run_halted : (h : Halt) → IsUntouched s → Codes text (Err h) → halted h a
-      → RunAnswer s reports telling workers limits text a
-  run_halted (halt.Refused r) u b h = inr (u, inl (record { refusal = r; breaks = b; answer = h }))
-  run_halted halt.Memory u b h = inr (u, inr h)
-
--- the answer to a telling that is known
-pub told_by : (reports : Reports) (t u : Telling) (r : Ran) (a : Answer) → t ≡ u
-    → ((made : Reports) → RanAnswer made u r a) → RanAnswer reports t r a
-told_by reports t u r a h k = subst (λ (x : Telling). RanAnswer reports x r a) (sym h) (k reports)
-
--- of a command whose text breaks a rule first
-pub command_refused : (f : Files) (s : Stream) (reports : Reports) (d : Command) (a : Answer) (r : Refusal)
-    → IsUntouched s → IfSome (text_of f.held d) (λ x. Breaks d x r) → AnswersRefusal r a → CommandCause f s reports d a
-command_refused f s reports d a r u t (inl h) = (by_rule (record { refusal = r; breaks = t; answer = h }), inl u)
-command_refused f s reports d a r u t (inr h) = (by_memory h, inl u)
-
--- of one whose text the library does not give
-pub command_unloaded : (f : Files) (s : Stream) (reports : Reports) (d : Command) (name : List ℕ)
-    (about : IsAbout d name) (a : Answer) (X : Type 0) (error : LoadError) → IsUntouched s
-    → IfSome (f.held name) (λ all. (◌≡◌ {A = Result X LoadError} (Err error) (Err load.TooLong)) ↔
-    ((1048576 < length all) × (◌≢◌ {A = Result X LoadError} (Err error) (Err load.Failed))))
-    → (◌≡◌ {A = Result X LoadError} (Err error) (Err load.Failed) → Rose (f.before name) (f.after name))
-    → unloaded error a → CommandCause f s reports d a
-command_unloaded f s reports d name about a X error u t r h = command_of_text f s reports d a u
-    (text_unloaded f d name about a X error t r h)
-
-module _ (f : Files) (s : Stream) (reports : Reports) (b : Asked) (a : Answer) where
-  abbrev Due_run : Type 0
-  Due_run = CommandCause f s reports (asks b) a
-
-  module _ (text : List ℕ) (t : IsTold (f.held b.file) text) where
-    kept_is : KeepsAll text → IfSome (f.held b.file) KeepsAll
-    kept_is k = when_told KeepsAll (f.held b.file) text t k
-
-    can_read : KeepsAll text → CanRead f.held (asks b)
-    can_read k = asked_reads f.held b (kept_is k)
-
-    reads : KeepsAll text → ReadsAfterRules f s (asks b)
-    reads k = inr (can_read k)
-
-    -- the first rule that the text breaks is that for which the command refuses it
-    refused_for : (r : Refusal) → BreaksOne text r → IfSome (text_of f.held (asks b)) (λ x. Breaks (asks b) x r)
-    refused_for r h =
-        subst (λ (o : Option (List ℕ)). IfSome o (λ x. Breaks (asks b) x r)) (sym (asked_text f.held b))
-        (when_told (λ x. Breaks (asks b) x r) (f.held b.file) text t (asked_breaks b text r h))
-
-    pub run_loaded : RunAnswer s reports b.telling b.workers b.limits text a → Due_run
-    run_loaded (inl (k, inl h)) = (
+    pub run_told : (input : List ℕ) → HasInput s input → (ran : Ran) → IsRunOf text input b.workers b.limits ran
+        → (r : Result Answer Ending) → TellsRun reports b.telling ran r → Answers f s reports (asks b) r
+    run_told input i ran is (Ok a) k = (
       by_run b refl (record {
         text = text;
-        input = h.input;
-        ran = h.ran;
+        input = input;
+        ran = ran;
         loaded = t;
-        read = h.read;
-        fits = h.fits;
-        at_end = h.at_end;
-        is_run = h.is_run;
-        answer = h.answer;
+        read = i.read;
+        fits = i.fits;
+        at_end = i.at_end;
+        is_run = is;
+        answer = k;
       }),
-      reads k.kept,
+      reads,
     )
-    run_loaded (inl (k, inr (inl h))) =
-        (by_source (record { reads = can_read k.kept; rose = h.0; answer = h.1 }), reads k.kept)
-    run_loaded (inl (k, inr (inr (inl h)))) =
-        (by_length (record { reads = can_read k.kept; long = h.0; answer = h.1 }), reads k.kept)
-    run_loaded (inl (k, inr (inr (inr h)))) = (by_memory h, reads k.kept)
-    run_loaded (inr (u, inl m)) = command_refused f s reports (asks b) a m.refusal u
-        (refused_for m.refusal m.breaks) m.answer
-    run_loaded (inr (u, inr h)) = (by_memory h, inl u)
+    run_told input i ran is (Err x) k = run_wanting x k
+
+-- the answer to a telling that is known
+pub told_by : (reports : Reports) (t u : Telling) (ran : Ran) (r : Result Answer Ending) → t ≡ u
+    → ((made : Reports) → TellsRun made u ran r) → TellsRun reports t ran r
+told_by reports t u ran r h k = subst (λ (x : Telling). TellsRun reports x ran r) (sym h) (k reports)
 
 -- ---- `gen`
 
-generated_ran : (size workers : ℕ) (r : Ran) (a : Answer) → IsRunOf (generated_text size) [] workers default_limits r
-    → GeneratedAnswer size r a → GeneratedCause size workers a
-generated_ran size workers r a h (inl k) = inl (record { ran = r; is_run = h; answer = k })
-generated_ran size workers r a h (inr k) = inr (inr k)
+module _ (f : Files) (s : Stream) (reports : Reports) (size workers : ℕ) (u : IsUntouched s) where
+  abbrev Due_generated : Answer → Type 0
+  Due_generated a = CommandCause f s reports (command.Gen size workers) a
 
--- on an input that is empty, with the limits where no option is given
-pub generated_told : (size workers : ℕ) (input : List ℕ) (lim : Limits) (r : Ran) (a : Answer) → input ≡ []
-    → lim ≡ default_limits → IsRunOf (generated_text size) input workers lim r → GeneratedAnswer size r a
-    → GeneratedCause size workers a
-generated_told size workers input lim r a h i k m =
-    generated_ran size workers r a (subst (λ (z : List ℕ
-    × Limits). IsRunOf (generated_text size) z.0 workers z.1 r) (λ j. (h j, i j)) k) m
+  pub generated_wanting : (x : Ending) → x ≡ e.OutOfMemory → Due_generated (ended x)
+  generated_wanting x h = (by_memory (ap ended h), inl u)
 
-pub generated_halted : (size workers : ℕ) (text : List ℕ) (h : Halt) (a : Answer) → text ≡ generated_text size
-    → Codes text (Err h) → halted h a → GeneratedCause size workers a
-generated_halted size workers text (halt.Refused r) a i b k = inr
-    (inl (record { refusal = r; breaks = subst (λ (x : List ℕ). BreaksOne x r) i b; answer = k }))
-generated_halted size workers text halt.Memory a i b k = inr (inr k)
+  -- no code comes of the text
+  pub generated_unready : (text : List ℕ) → text ≡ generated_text size → (x : Ending) → CompilesTo text (Err x)
+      → Due_generated (ended x)
+  generated_unready text i x (inl (r, h, b)) = (
+    by_rule (record { refusal = r; breaks = subst (λ y. BreaksOne y r) i b; answer = ap ended h }),
+    inl u,
+  )
+  generated_unready text i x (inr h) = generated_wanting x h
 
-pub command_of_generated : (f : Files) (s : Stream) (reports : Reports) (size workers : ℕ) (a : Answer) → IsUntouched s
-    → GeneratedCause size workers a → CommandCause f s reports (command.Gen size workers) a
-command_of_generated f s reports size workers a u (inl h) = (by_generated size workers refl h, inl u)
-command_of_generated f s reports size workers a u (inr (inl m)) = go m.answer
-  where
-    go : AnswersRefusal m.refusal a → CommandCause f s reports (command.Gen size workers) a
-    go (inl h) = (by_rule (record { refusal = m.refusal; breaks = m.breaks; answer = h }), inl u)
-    go (inr h) = (by_memory h, inl u)
-command_of_generated f s reports size workers a u (inr (inr h)) = (by_memory h, inl u)
+  -- a run on an input that is empty, with the limits where no option is given
+  pub generated_told : (text input : List ℕ) (lim : Limits) (ran : Ran) → text ≡ generated_text size → input ≡ []
+      → lim ≡ default_limits → IsRunOf text input workers lim ran → (r : Result Answer Ending)
+      → TellsGenerated size ran r → Answers f s reports (command.Gen size workers) r
+  generated_told text input lim ran t h i is (Ok a) k = (
+    by_generated size workers refl (record {
+      ran = ran;
+      is_run = subst (λ (z : List ℕ × List ℕ × Limits). IsRunOf z.0 z.1 workers z.2 ran)
+          (λ j. (t j, h j, i j)) is;
+      answer = k;
+    }),
+    inl u,
+  )
+  generated_told text input lim ran t h i is (Err x) k = generated_wanting x k
 
 -- ---- words
 
-pub cause_of_command : (f : Files) (s : Stream) (reports : Reports) (w : Option Command) (d : Command) (a : Answer)
-    → w ≡ Some d → CommandCause f s reports d a → Cause f s reports w a
-cause_of_command f s reports w d a h k = by_command d h k.0 k.1
+module _ (f : Files) (s : Stream) (reports : Reports) (w : Option Command) where
+  -- they ask for no command, or memory was wanting
+  pub no_command_read : IsUntouched s → (x : Ending) → ReadsCommand w (Err x) → Cause f s reports w (ended x)
+  no_command_read u x (inl h) = by_words h.1 (ap ended h.0) u
+  no_command_read u x (inr h) = before_words (ap ended h) u
+
+  pub words_answered : (d : Command) → w ≡ Some d → (r : Result Answer Ending) → Answers f s reports d r
+      → AnswersWords f s reports w r
+  words_answered d v r h = said (CommandCause f s reports d) (Cause f s reports w) (λ a k. by_command d v k.0 k.1) r h
+
+  -- memory was wanting for the line of an ending
+  wanting : (a : Answer) → Cause f s reports w a → Cause f s reports w (silent e.OutOfMemory)
+  wanting a (by_words n h u) = before_words refl u
+  wanting a (before_words h u) = before_words refl u
+  wanting a (by_command d v due reads) = by_command d v (by_memory refl) reads
+
+  pub ending_answered : (x : Ending) → Cause f s reports w (ended x) → (a : Answer) → AnswersEnding x a
+      → Cause f s reports w a
+  ending_answered x h a (inl k) = subst (Cause f s reports w) (sym k) h
+  ending_answered x h a (inr k) = subst (Cause f s reports w) (sym k) (wanting (ended x) h)

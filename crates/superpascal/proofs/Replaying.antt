@@ -1,8 +1,10 @@
--- Why the answer of a replay is due, by what was told of its text, its journal and its input.
-use Rattle.std.proofs.Common.{◌≡◌, inl, inr, ℕ, ◌≤◌, List, length, Option, Some, None, Ok, Err, refl, sym, ◌∙◌, ap}
-use Rattle.std.proofs.Common.{subst, arith}
+-- From what the steps of a replay give to the cause of its answer; and what follows of its text, its journal and its
+-- input, as they are told.
+use Rattle.std.proofs.Common.{◌≡◌, inl, inr, ℕ, ◌<◌, ◌≤◌, List, length, Option, Some, None, Result, Ok, Err, refl}
+use Rattle.std.proofs.Common.{sym, ◌∙◌, ap, subst, arith}
 use Rattle.std.specs.Prelude.{IfSome}
 use Rattle.sp_base.specs.declared.limits.Limits.{Limits}
+use Rattle.sp_code.specs.declared.code.Parts.{Parts}
 use Rattle.sp_execute.specs.Follows.{IsMeant as IsDefined, IsUnfitAt}
 use Rattle.sp_execute.specs.Runs.{setting}
 use Rattle.sp_front.specs.Checks.{IsProgramOf}
@@ -13,25 +15,27 @@ use Rattle.sp_journal.specs.Reading.{IsText}
 use Rattle.sp_journal.specs.Texts.{IsFirstBad}
 use Rattle.sp_outside.specs.Counts.{Rose}
 use Rattle.sp_replay.specs.declared.replayer.Replayed.{Replayed}
-use Rattle.sp_replay.specs.declared.replayer.ReplayError.TheVariants as error
 use Rattle.sp_tree.specs.Bare.{bare}
 use Rattle.sp_tree.specs.Plain.{Program}
 use Rattle.sp_tree.specs.PlainChecked as c
 use Rattle.sp_words.specs.declared.command.Command.{Command}
 use Rattle.sp_words.specs.declared.command.Command.TheVariants as command
+use Rattle.superpascal.specs.declared.asked.Followed.{Followed}
+use Rattle.superpascal.specs.declared.ending.Ending.{Ending}
 use Rattle.superpascal.specs.declared.ending.Ending.TheVariants as e
 use Rattle.superpascal.specs.declared.ending.Answer.{Answer}
-use Rattle.superpascal.specs.Answering.{AnswersNumber, BytesAnswer, CommandCause, HasEndLines, JournalAnswer}
-use Rattle.superpascal.specs.Answering.{ReplayAnswer, SourceAnswer}
+use Rattle.superpascal.specs.Answering.{HasCode, HasEndLines, ended}
 use Rattle.superpascal.specs.Answers.{notes_by}
 use Rattle.superpascal.specs.Causes.{by_library, by_source, by_length, by_memory, by_replay, by_entry, by_line, by_size}
-use Rattle.superpascal.specs.Causes.{Files, HasRead, IsTold, Stream}
+use Rattle.superpascal.specs.Causes.{Files, HasRead, IsTold, IsUntouched, Stream}
 use Rattle.superpascal.specs.Following.{IsMeantAlong}
 use Rattle.superpascal.specs.Replays.{IsJournalOf, IsReplayOf, IsUnfitFor, ending_of_replay}
 use Rattle.superpascal.specs.Runs.{HasTree, Reports}
-use Rattle.superpascal.specs.Texts.{BreaksOne, CanRead, Followed, IsJournalText, KeepsAll, followed, follows}
+use Rattle.superpascal.specs.Steps.{Answers, CommandCause, Follows, GivesInput, GivesJournal, HasInput, IsUnready}
+use Rattle.superpascal.specs.Steps.{ReadsJournal, TellsReplay}
+use Rattle.superpascal.specs.Texts.{CanRead, IsJournalText, KeepsAll, follows}
 use Rattle.superpascal.proofs.Laws.{Laws}
-use Rattle.superpascal.proofs.Parts.{command_refused, when_told}
+use Rattle.superpascal.proofs.Parts.{cause_of_text, keeps_code, text_unready, when_told}
 
 -- ---- words
 
@@ -60,121 +64,107 @@ rose_before before middle after l (inr r) = inr r
 pub tree_keeps : (text : List ℕ) (tree : c.Program) → HasTree text tree → KeepsAll text
 tree_keeps text tree h = (tree, h.accepted, h.short)
 
-module _ (f : Files) (s : Stream) (reports : Reports) (b : Followed) (a : Answer) (text : List ℕ)
-    (t : IsTold (f.held b.file) text)
-    (before after : ℕ) (rises : Rose before after → Rose (f.before b.journal) (f.after b.journal)) where
-  abbrev Due_replay : Type 0
-  Due_replay = CommandCause f s reports (follows b) a
+-- the journal of the bytes under a name
+pub given_journal : (f : Files) (name bytes : List ℕ) → IsTold (f.held name) bytes → length bytes ≤ 67108864
+    → (r : Result Journal Ending) → ReadsJournal bytes r → GivesJournal f name r
+given_journal f name bytes t short (Ok j) (v, is) =
+    (bytes, t, record { version = v; text = is; short = short })
+given_journal f name bytes t short (Err x) (inl (n, h, bad)) = inr (bytes, n, t, short, h, bad)
+given_journal f name bytes t short (Err x) (inr h) = inl (inr (inr h))
 
-  module _ (kept : KeepsAll text) where
+-- of the library that was asked once before for the text
+pub journal_under : (f g : Files) (name : List ℕ) → g.held name ≡ f.held name → f.before name ≤ g.before name
+    → g.after name ≡ f.after name → (r : Result Journal Ending) → GivesJournal g name r → GivesJournal f name r
+journal_under f g name held l i (Ok j) (bytes, t, is) = (bytes, subst (λ o. IsTold o bytes) held t, is)
+journal_under f g name held l i (Err x) (inl (inl h)) = inl
+    (inl (h.0, subst (λ o. IfSome o (λ all. 67108864 < length all)) held h.1))
+journal_under f g name held l i (Err x) (inl (inr (inl h))) = inl
+    (inr (inl (h.0, rose_before (f.before name) (g.before name) (f.after name) l (subst (Rose (g.before name)) i h.1))))
+journal_under f g name held l i (Err x) (inl (inr (inr h))) = inl (inr (inr h))
+journal_under f g name held l i (Err x) (inr (bytes, n, t, short, h, bad)) = inr
+    (bytes, n, subst (λ o. IsTold o bytes) held t, short, h, bad)
+
+module _ (f : Files) (s : Stream) (reports : Reports) (b : Followed) where
+  abbrev Due_replay : Answer → Type 0
+  Due_replay a = CommandCause f s reports (follows b) a
+
+  -- no code comes of the text
+  pub replay_unready : IsUntouched s → (x : Ending) → IsUnready f b.file x → Due_replay (ended x)
+  replay_unready u x h = cause_of_text f s reports (follows b) u (ended x)
+      (text_unready f (follows b) b.file refl (λ text r k. k) x h)
+
+  module _ (text : List ℕ) (t : IsTold (f.held b.file) text) (tree : c.Program) (code : Parts)
+      (has : HasCode text tree code) where
     kept_is : IfSome (f.held b.file) KeepsAll
-    kept_is = when_told KeepsAll (f.held b.file) text t kept
+    kept_is = when_told KeepsAll (f.held b.file) text t (keeps_code text tree code has)
 
-    module _ (bytes : List ℕ) (told : IsTold (f.held b.journal) bytes) where
-      module _ (j : Journal) (is : IsJournalOf bytes j) where
-        may_read : CanRead f.held (follows b)
-        may_read = (kept_is, when_told IsJournalText (f.held b.journal) bytes told ((is.version, j, is.text), is.short))
-
-        of_source : SourceAnswer s text b.limits j a → Due_replay
-        of_source (inl (input, h, (Ok r, m, inl k))) = (
-          by_replay b refl (record {
-            has_read = record {
-              text = text;
-              bytes = bytes;
-              journal = j;
-              input = input;
-              loaded = t;
-              told = told;
-              is_journal = is;
-              read = h.read;
-              fits = h.fits;
-              at_end = h.at_end;
-            };
-            replayed = r;
-            is_replay = m;
-            answer = k;
-          }),
-          inr may_read,
-        )
-        of_source (inl (input, h, (Ok r, m, inr k))) = (by_memory k, inr may_read)
-        of_source (inl (input, h, (Err (error.Unfit n), m, inl k))) = (
-          by_entry b n refl (record {
-            has_read = record {
-              text = text;
-              bytes = bytes;
-              journal = j;
-              input = input;
-              loaded = t;
-              told = told;
-              is_journal = is;
-              read = h.read;
-              fits = h.fits;
-              at_end = h.at_end;
-            };
-            is_unfit = m;
-            answer = k;
-          }),
-          inr may_read,
-        )
-        of_source (inl (input, h, (Err (error.Unfit n), m, inr k))) = (by_memory k, inr may_read)
-        of_source (inl (input, h, (Err error.Memory, m, k))) = (by_memory k, inr may_read)
-        of_source (inr (inl h)) = (by_source (record { reads = may_read; rose = h.0; answer = h.1 }), inr may_read)
-        of_source (inr (inr (inl h))) =
-            (by_length (record { reads = may_read; long = h.0; answer = h.1 }), inr may_read)
-        of_source (inr (inr (inr h))) = (by_memory h, inr may_read)
-
-      of_bytes : length bytes ≤ 67108864 → BytesAnswer s text b.limits bytes a → Due_replay
-      of_bytes short (inl (j, is, h)) = of_source j is h
-      of_bytes short (inr (u, inl h)) = go h.answer
-        where
-          go : AnswersNumber (e.BadJournal h.line) a → Due_replay
-          go (inl k) = (
-            by_line b h.line refl
-                (record {
-                  kept = kept_is;
-                  short = when_told (λ x. length x ≤ 67108864)
-                      (f.held b.journal) bytes told short;
-                  bad = when_told (IsFirstBad h.line)
-                      (f.held b.journal) bytes told h.bad;
-                  no_text = when_told (λ x. IsText x
-                      → ⊥) (f.held b.journal) bytes told h.no_text;
-                  answer = k;
-                }),
-            inl u,
-          )
-          go (inr k) = (by_memory k, inl u)
-      of_bytes short (inr (u, inr h)) = (by_memory h, inl u)
-
-    of_journal : JournalAnswer (f.held b.journal) before after s text b.limits a → Due_replay
-    of_journal (inl (bytes, told, short, h)) = of_bytes bytes told short h
-    of_journal (inr (u, inl h)) = (by_size b refl (record { kept = kept_is; long = h.0; answer = h.1 }), inl u)
-    of_journal (inr (u, inr (inl h))) = (
-      by_library (record { name = b.journal; loads = inr (inl (refl, kept_is)); rose = rises h.0; answer = h.1 }),
+    -- no journal is read
+    pub replay_unread : IsUntouched s → (x : Ending) → GivesJournal f b.journal (Err x) → Due_replay (ended x)
+    replay_unread u x (inl (inl h)) = (
+      by_size b refl (record { kept = kept_is; long = h.1; answer = ap ended h.0 }),
       inl u,
     )
-    of_journal (inr (u, inr (inr h))) = (by_memory h, inl u)
+    replay_unread u x (inl (inr (inl h))) = (
+      by_library
+          (record { name = b.journal; loads = inr (inl (refl, kept_is)); rose = h.1; answer = ap ended h.0 }),
+      inl u,
+    )
+    replay_unread u x (inl (inr (inr h))) = (by_memory (ap ended h), inl u)
+    replay_unread u x (inr (bytes, n, told, short, h, bad)) = (
+      by_line b n refl (record {
+        kept = kept_is;
+        short = when_told (λ y. length y ≤ 67108864) (f.held b.journal) bytes told short;
+        bad = when_told (IsFirstBad n) (f.held b.journal) bytes told bad.0;
+        no_text = when_told (λ y. IsText y → ⊥) (f.held b.journal) bytes told bad.1;
+        answer = ap ended h;
+      }),
+      inl u,
+    )
 
-  pub of_replay : ReplayAnswer (f.held b.journal) before after s b.limits text a → Due_replay
-  of_replay (inl (kept, h)) = of_journal kept.kept h
-  of_replay (inr (u, inl h)) = command_refused f s reports (follows b) a h.refusal u
-      (when_told (λ x. BreaksOne x h.refusal) (f.held b.file) text t h.breaks) h.answer
-  of_replay (inr (u, inr h)) = (by_memory h, inl u)
+    module _ (bytes : List ℕ) (told : IsTold (f.held b.journal) bytes) (j : Journal) (is : IsJournalOf bytes j) where
+      may_read : CanRead f.held (follows b)
+      may_read = (kept_is, when_told IsJournalText (f.held b.journal) bytes told ((is.version, j, is.text), is.short))
 
--- of a library that was asked once before
-pub replay_loaded : (f : Files) (s : Stream) (reports : Reports) (b : Followed) (a : Answer) (text : List ℕ)
-    → IsTold (f.held b.file) text → (held : Option (List ℕ)) (middle : ℕ) → held ≡ f.held b.journal
-    → f.before b.journal ≤ middle
-    → ReplayAnswer held middle (f.after b.journal) s b.limits text a → CommandCause f s reports (follows b) a
-replay_loaded f s reports b a text t held middle e l h =
-    of_replay f s reports b a text t middle (f.after b.journal)
-    (rose_before (f.before b.journal) middle (f.after b.journal) l)
-    (subst (λ (o : Option (List ℕ)). ReplayAnswer o middle (f.after b.journal) s b.limits text a) e h)
+      -- memory was wanting for the run, or for what is told of it
+      pub replay_wanting : (x : Ending) → x ≡ e.OutOfMemory → Due_replay (ended x)
+      replay_wanting x h = (by_memory (ap ended h), inr may_read)
 
-pub follow_by : (d : Command) (file journal name other : List ℕ) (limits : Limits)
-    → d ≡ command.Replay file journal limits → name ≡ file → other ≡ journal → d ≡ follows (followed name other limits)
-follow_by d file journal name other limits h i j = h
-    ∙ (ap (λ (n : List ℕ). command.Replay n journal limits) (sym i)
-    ∙ ap (λ (n : List ℕ). command.Replay name n limits) (sym j))
+      -- the input is not read
+      pub replay_no_input : (x : Ending) → GivesInput s (Err x) → Due_replay (ended x)
+      replay_no_input x (inl h) =
+          (by_source (record { reads = may_read; rose = h.1; answer = ap ended h.0 }), inr may_read)
+      replay_no_input x (inr (inl h)) =
+          (by_length (record { reads = may_read; long = h.1; answer = ap ended h.0 }), inr may_read)
+      replay_no_input x (inr (inr h)) = replay_wanting x h
+
+      module _ (input : List ℕ) (i : HasInput s input) where
+        abbrev has_read : HasRead f s b
+        has_read = record {
+          text = text;
+          bytes = bytes;
+          journal = j;
+          input = input;
+          loaded = t;
+          told = told;
+          is_journal = is;
+          read = i.read;
+          fits = i.fits;
+          at_end = i.at_end;
+        }
+
+        -- an entry does not fit
+        pub replay_unfit : (x : Ending) → Follows text input b.limits j (Err x) → Due_replay (ended x)
+        replay_unfit x (inl (n, h, m)) =
+            (by_entry b n refl (record { has_read = has_read; is_unfit = m; answer = ap ended h }), inr may_read)
+        replay_unfit x (inr h) = replay_wanting x h
+
+        pub replay_told : (replayed : Replayed) → IsReplayOf text input b.limits j replayed
+            → (r : Result Answer Ending) → TellsReplay replayed r → Answers f s reports (follows b) r
+        replay_told replayed m (Ok a) k = (
+          by_replay b refl (record { has_read = has_read; replayed = replayed; is_replay = m; answer = k }),
+          inr may_read,
+        )
+        replay_told replayed m (Err x) k = replay_wanting x k
 
 -- ---- what stands for what
 
@@ -183,10 +173,6 @@ told_of o all text h t = subst (λ x. IsTold x all) h t
 
 pub if_told : (P : List ℕ → Type 0) (o : Option (List ℕ)) (text : List ℕ) → o ≡ Some text → IfSome o P → P text
 if_told P o text h k = subst (λ x. IfSome x P) h k
-
-pub if_mapped : (P Q : List ℕ → Type 0) (o : Option (List ℕ)) → ((x : List ℕ) → P x → Q x) → IfSome o P → IfSome o Q
-if_mapped P Q None g h = tt
-if_mapped P Q (Some x) g h = g x h
 
 -- the notes of a replay stand as they are
 pub replay_notes_stand : (o : Option End) (notes : List ℕ) → HasEndLines o → notes_by (ending_of_replay o) notes ≡ notes

@@ -1,6 +1,6 @@
 -- The run of the code of a text is one of its program, and so is what follows a journal. It leads from `execute` and
 -- `follow`, and the laws of ready programs and of races, to the text's program.
-use Rattle.std.proofs.Common.{◌≡◌, ℕ, ◌≤◌, List, Result, Ok, Err, sym, subst, arith}
+use Rattle.std.proofs.Common.{◌≡◌, inl, inr, ℕ, ◌≤◌, List, Result, Ok, Err, refl, sym, subst, arith}
 use Rattle.std.specs.Prelude.{IfOk}
 use Rattle.sp_base.specs.declared.halt.Memory.{Memory}
 use Rattle.sp_base.specs.declared.limits.Limits.{Limits}
@@ -22,8 +22,11 @@ use Rattle.sp_tree.specs.Bare.{bare}
 use Rattle.sp_tree.specs.Plain.{Program, Stmt}
 use Rattle.sp_tree.specs.PlainChecked as c
 use Rattle.sp_words.specs.Ranges.{IsInRange}
-use Rattle.superpascal.specs.Answering.{Follows, HasCode}
+use Rattle.superpascal.specs.declared.ending.Ending.{Ending}
+use Rattle.superpascal.specs.declared.ending.Ending.TheVariants as ending
+use Rattle.superpascal.specs.Answering.{HasCode}
 use Rattle.superpascal.specs.Runs.{IsRunOf}
+use Rattle.superpascal.specs.Steps.{Follows}
 
 -- options in their ranges are within their types
 below : (m n k : ℕ) → m ≤ n → n ≤ k → m ≤ k
@@ -50,6 +53,12 @@ ReadyLaw = (text : List ℕ) (t : c.Program) → IsAccepted text t → (moves sh
 abbrev pub RaceLaw : Type 0
 RaceLaw = (g : Setting) (moves shares : Stmt → List ℕ) (workers : ℕ) (r : Ran) → IsReady g moves shares
     → Executes g workers r → ShowsRace g r
+
+-- how following a journal ends a replay
+abbrev pub ending_at : Result Replayed ReplayError → Result Replayed Ending
+ending_at (Ok r) = Ok r
+ending_at (Err (error.Unfit n)) = Err (ending.Unfit n)
+ending_at (Err error.Memory) = Err ending.OutOfMemory
 
 module _ (law : ReadyLaw) (code : Parts) (input : List ℕ) (workers : ℕ) (lim : Limits)
     (range : IsInRange workers lim) where
@@ -108,11 +117,12 @@ module _ (law : ReadyLaw) (code : Parts) (input : List ℕ) (workers : ℕ) (lim
           → FollowsProgram (setting p z.0 lim) j r) (λ k. (i k, h k)) says
           (bare t) has.code.0.moves has.code.0.shares (ready_code text t has)
 
-      pub follows_text : (text : List ℕ) (t : c.Program) → HasCode text t code → Follows text input lim j r
+      pub follows_text : (text : List ℕ) (t : c.Program) → HasCode text t code
+          → Follows text input lim j (ending_at r)
       follows_text text t has = go r (said text t has)
         where
           go : (x : Result Replayed ReplayError) → FollowsProgram (setting (bare t) input lim) j x
-              → Follows text input lim j x
+              → Follows text input lim j (ending_at x)
           go (Ok y) m = record { tree = t; has = has.has; meant = m }
-          go (Err (error.Unfit n)) m = record { tree = t; has = has.has; unfit = m }
-          go (Err error.Memory) m = tt
+          go (Err (error.Unfit n)) m = inl (n, refl, record { tree = t; has = has.has; unfit = m })
+          go (Err error.Memory) m = inr refl

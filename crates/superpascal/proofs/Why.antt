@@ -7,6 +7,9 @@ use Rattle.sp_journal.specs.declared.outcome.End.TheVariants as ends
 use Rattle.sp_kernel.specs.declared.closed.Closed.{Closed}
 use Rattle.sp_words.specs.declared.command.Command.{Command}
 use Rattle.sp_words.specs.declared.command.Command.TheVariants as command
+use Rattle.superpascal.specs.declared.asked.Asked.{Asked}
+use Rattle.superpascal.specs.declared.asked.Executed.{Executed}
+use Rattle.superpascal.specs.declared.asked.Followed.{Followed}
 use Rattle.superpascal.specs.declared.ending.Ending.{Ending}
 use Rattle.superpascal.specs.declared.ending.Ending.TheVariants as e
 use Rattle.superpascal.specs.declared.ending.Answer.{Answer}
@@ -20,7 +23,7 @@ use Rattle.superpascal.specs.Causes.{IsRejectedCode, IsTooMuch, IsUnfit, Stream,
 use Rattle.superpascal.specs.Executions.{execution_answer}
 use Rattle.superpascal.specs.Replays.{ending_of_replay, replay_answer}
 use Rattle.superpascal.specs.Runs.{Reports, ending_of, generated_answer, run_answer}
-use Rattle.superpascal.specs.Texts.{Asked, Executed, Followed, asks, executes, follows}
+use Rattle.superpascal.specs.Texts.{asks, executes, follows}
 use Rattle.superpascal.proofs.Tellable.{Ends, ends_of, execution_ends, replay_ends}
 
 module _ (f : Files) (s : Stream) (reports : Reports) (w : Option Command) (a : Answer) where

@@ -6,12 +6,16 @@ use Rattle.sp_outside.specs.Counts.{Rose}
 use Rattle.sp_outside.specs.Told.{Grows}
 use Rattle.sp_words.specs.Words.{command_of}
 use Rattle.sp_words.specs.declared.command.Command.{Command}
+use Rattle.superpascal.specs.declared.asked.Asked.{Asked}
+use Rattle.superpascal.specs.declared.asked.Executed.{Executed}
+use Rattle.superpascal.specs.declared.asked.Followed.{Followed}
 use Rattle.superpascal.specs.declared.ending.Answer.{Answer}
+use Rattle.superpascal.specs.declared.ending.Ending.{Ending}
 use Rattle.superpascal.specs.declared.outcome.Outcome.{Outcome}
-use Rattle.superpascal.specs.Answers.{status_of, notes_of, output_of, has_output}
+use Rattle.superpascal.specs.Answers.{has_output, line_of, notes_of, output_of, status_of}
 use Rattle.superpascal.specs.Causes.{Cause, Files, Stream}
 use Rattle.superpascal.specs.Runs.{Reports}
-use Rattle.superpascal.specs.Texts.{Asked, Executed, Followed, asks, executes, follows, text_of}
+use Rattle.superpascal.specs.Texts.{asks, executes, follows, text_of}
 
 -- what a sink has got, where it tells it, before and after the call, and its counts of faults
 pub record Sink : Type 0 where
@@ -20,9 +24,10 @@ pub record Sink : Type 0 where
   pub before : ℕ
   pub after : ℕ
 
--- a sink by its parts
-abbrev pub sink : Option (List ℕ) → Option (List ℕ) → ℕ → ℕ → Sink
-sink written written' before after = record { written = written; written' = written'; before = before; after = after }
+-- a sink of the type A before and after, by what was written and its counts
+abbrev pub sink_of : {A : Type 0} → (A → Option (List ℕ)) → (A → ℕ) → A → A → Sink
+sink_of written faults before after =
+    record { written = written before; written' = written after; before = faults before; after = faults after }
 
 -- nothing was put
 abbrev pub IsUnwritten : Sink → Type 0
@@ -96,6 +101,10 @@ OfText c P = (d : Command) (text : List ℕ) → command_of c.words ≡ Some d �
 -- a fault outside, too long an input or want of memory came in place of the status that was due
 abbrev pub IsOutside : ℕ → Type 0
 IsOutside status = (5 ≤ status) × (status ≤ 8)
+
+-- the status and the line of this ending, unless the outside came in their place
+abbrev pub Says : Call → Ending → Type 0
+Says c x = ((c.outcome.status ≡ status_of x) × All c.notes (line_of x)) ⊎ IsOutside c.outcome.status
 
 -- the status of an end, or that of a text from which something is made
 abbrev pub IsFinal : ℕ → Type 0

@@ -21,13 +21,16 @@ use Rattle.sp_rules.specs.Verdict.{IsRejected}
 use Rattle.sp_words.specs.Ranges.{default_limits}
 use Rattle.sp_words.specs.declared.command.Command.{Command}
 use Rattle.sp_words.specs.declared.command.Command.TheVariants as command
+use Rattle.superpascal.specs.declared.asked.Asked.{Asked}
+use Rattle.superpascal.specs.declared.asked.Executed.{Executed}
+use Rattle.superpascal.specs.declared.asked.Followed.{Followed}
 use Rattle.superpascal.specs.declared.ending.Ending.{Ending}
 use Rattle.superpascal.specs.declared.ending.Ending.TheVariants as e
 use Rattle.superpascal.specs.declared.ending.Answer.{Answer}
 use Rattle.superpascal.specs.Executions.{IsExecutionOf, execution_answer}
 use Rattle.superpascal.specs.Replays.{IsJournalOf, IsReplayOf, IsUnfitFor, numbered, replay_answer}
 use Rattle.superpascal.specs.Runs.{IsRunOf, Reports, generated_answer, run_answer}
-use Rattle.superpascal.specs.Texts.{Asked, Breaks, CanRead, Executed, Followed, HasLongCode, KeepsAll, Loads, Makes}
+use Rattle.superpascal.specs.Texts.{Breaks, CanRead, HasLongCode, KeepsAll, Loads, Makes}
 use Rattle.superpascal.specs.Texts.{asks, asks_build, executes, follows, text_of}
 
 -- ---- the outside
@@ -38,9 +41,10 @@ pub record Files : Type 0 where
   pub before : List ℕ → ℕ
   pub after : List ℕ → ℕ
 
--- a library by its parts
-abbrev pub files : (List ℕ → Option (List ℕ)) → (List ℕ → ℕ) → (List ℕ → ℕ) → Files
-files held before after = record { held = held; before = before; after = after }
+-- a library of the type A before and after, by what it holds and counts
+abbrev pub files_of : {A : Type 0} → (A → List ℕ → Option (List ℕ)) → (A → List ℕ → ℕ) → A → A → Files
+files_of held faults before after =
+    record { held = held before; before = faults before; after = faults after }
 
 -- what a source has left, where it tells it, before and after the call, and its counts of faults
 pub record Stream : Type 0 where
@@ -49,9 +53,10 @@ pub record Stream : Type 0 where
   pub before : ℕ
   pub after : ℕ
 
--- a source by its parts
-abbrev pub stream : Option (List ℕ) → Option (List ℕ) → ℕ → ℕ → Stream
-stream left left' before after = record { left = left; left' = left'; before = before; after = after }
+-- a source of the type A before and after, by what it has left and counts
+abbrev pub stream_of : {A : Type 0} → (A → Option (List ℕ)) → (A → ℕ) → A → A → Stream
+stream_of left faults before after =
+    record { left = left before; left' = left after; before = faults before; after = faults after }
 
 -- nothing was read
 abbrev pub IsUntouched : Stream → Type 0

@@ -16,19 +16,15 @@ use Rattle.sp_print.specs.Lines.{end_text}
 use Rattle.sp_rules.specs.Verdict.{IsRejected}
 use Rattle.sp_tree.specs.Plain.{Program}
 use Rattle.sp_words.specs.Words.{command_of}
-use Rattle.superpascal.specs.declared.ending.Ending.{Ending}
+use Rattle.superpascal.specs.declared.asked.Executed.{Executed}
 use Rattle.superpascal.specs.declared.ending.Ending.TheVariants as e
-use Rattle.superpascal.specs.Answers.{line_of, status_of}
-use Rattle.superpascal.specs.Calls.{All, Call, IsAnswered, IsFinal, IsOutside, OfExecution, OfExecutionInput}
+use Rattle.superpascal.specs.Answers.{status_of}
+use Rattle.superpascal.specs.Calls.{Call, IsAnswered, IsFinal, IsOutside, OfExecution, OfExecutionInput, Says}
 use Rattle.superpascal.specs.Causes.{IsTold, IsTooLong}
 use Rattle.superpascal.specs.Executions.{IsExecutionOf}
 use Rattle.superpascal.specs.Runs.{ending_of}
-use Rattle.superpascal.specs.Texts.{Executed, IsCodeFile, IsSoundFile, executes}
+use Rattle.superpascal.specs.Texts.{IsCodeFile, IsSoundFile, executes}
 use Rattle.superpascal.specs.Writing.{AreWritten}
-
--- status 10 and the line of what is wrong with the code file, unless the outside came in their place
-abbrev pub SaysCode : Call → Ending → Type 0
-SaysCode c x = ((c.outcome.status ≡ 10) × All c.notes (line_of x)) ⊎ IsOutside c.outcome.status
 
 -- the bytes are more than are loaded, or the text of no code, or that of code which breaks a rule
 abbrev pub IsFaultyFile : List ℕ → Type 0
@@ -72,12 +68,12 @@ pub record Executing (c : Call) : Type 0 where
       → IsFinal c.outcome.status ⊎ IsOutside c.outcome.status)
   -- of one whose code breaks a rule, the first broken rule is named, and the least instruction at which it is broken
   pub rejected : OfExecution c (λ b bytes. length bytes ≤ 67108864 → (code : Parts) → IsTextOf code bytes
-      → (v : VRule) (i : ℕ) → IsRejected code (rule_of v) i → SaysCode c (e.Rejected v i))
+      → (v : VRule) (i : ℕ) → IsRejected code (rule_of v) i → Says c (e.Rejected v i))
   -- of bytes that are the text of no code, the first line is named with which the lines begin no code's text
   pub bad : OfExecution c (λ b bytes. length bytes ≤ 67108864 → (IsText bytes → ⊥)
-      → ((n : ℕ) × IsFirstBad n bytes × SaysCode c (e.BadCode n)) ⊎ IsOutside c.outcome.status)
+      → ((n : ℕ) × IsFirstBad n bytes × Says c (e.BadCode n)) ⊎ IsOutside c.outcome.status)
   -- a file that is too long is not read
-  pub long : OfExecution c (λ b bytes. 67108864 < length bytes → SaysCode c e.LongFile)
+  pub long : OfExecution c (λ b bytes. 67108864 < length bytes → Says c e.LongFile)
   -- 10: the file is at fault
   pub only : (b : Executed) → command_of c.words ≡ Some (executes b) → c.outcome.status ≡ 10
       → IfSome (c.files.held b.file) IsFaultyFile

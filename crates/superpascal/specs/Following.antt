@@ -13,17 +13,13 @@ use Rattle.sp_outside.specs.Told.{IsAtEnd}
 use Rattle.sp_replay.specs.declared.replayer.Replayed.{Replayed}
 use Rattle.sp_tree.specs.Plain.{Program}
 use Rattle.sp_words.specs.Words.{command_of}
-use Rattle.superpascal.specs.declared.ending.Ending.{Ending}
+use Rattle.superpascal.specs.declared.asked.Followed.{Followed}
 use Rattle.superpascal.specs.declared.ending.Ending.TheVariants as e
-use Rattle.superpascal.specs.Answers.{line_of, status_of}
-use Rattle.superpascal.specs.Calls.{All, Call, IsFinal, IsOutside, OfReplay, OfReplayInput}
+use Rattle.superpascal.specs.Answers.{status_of}
+use Rattle.superpascal.specs.Calls.{All, Call, IsFinal, IsOutside, OfReplay, OfReplayInput, Says}
 use Rattle.superpascal.specs.Causes.{HasRead}
 use Rattle.superpascal.specs.Replays.{IsJournalOf, IsUnfitFor, ending_of_replay, replay_notes}
-use Rattle.superpascal.specs.Texts.{Followed, KeepsAll, follows}
-
--- status 9 and the line of what is wrong with the journal, unless the outside came in their place
-abbrev pub SaysJournal : Call → Ending → Type 0
-SaysJournal c x = ((c.outcome.status ≡ 9) × All c.notes (line_of x)) ⊎ IsOutside c.outcome.status
+use Rattle.superpascal.specs.Texts.{KeepsAll, follows}
 
 -- the status tells the end, the output and the notes of the replay were written, and nothing is left of the input
 pub record PrintsReplay (c : Call) (r : Replayed) : Type 0 where
@@ -57,12 +53,12 @@ pub record Following (c : Call) : Type 0 where
   pub unfit : OfReplayInput c (λ b text bytes input. KeepsAll text → length input ≤ 16777216 → (p : Program)
       → IsProgramOf text p → (j : Journal) → IsJournalOf bytes j → (n : ℕ)
       → IsUnfitAt (setting p input b.limits) j.entries n
-      → SaysJournal c (e.Unfit n))
+      → Says c (e.Unfit n))
   -- of bytes that are the text of no journal, the first line is named that is not the text of a next entry
   pub bad : OfReplay c (λ b text bytes. KeepsAll text → length bytes ≤ 67108864 → (IsText bytes → ⊥)
-      → ((n : ℕ) × IsFirstBad n bytes × SaysJournal c (e.BadJournal n)) ⊎ IsOutside c.outcome.status)
+      → ((n : ℕ) × IsFirstBad n bytes × Says c (e.BadJournal n)) ⊎ IsOutside c.outcome.status)
   -- a journal that is too long is not read
-  pub long : OfReplay c (λ b text bytes. KeepsAll text → 67108864 < length bytes → SaysJournal c e.LongJournal)
+  pub long : OfReplay c (λ b text bytes. KeepsAll text → 67108864 < length bytes → Says c e.LongJournal)
   -- 9: the text breaks no rule, and no journal is read, or all was read and an entry does not fit
   pub only : c.outcome.status ≡ 9 → (b : Followed) × (command_of c.words ≡ Some (follows b))
       × IfSome (c.files.held b.file) KeepsAll

@@ -13,17 +13,14 @@ use Rattle.sp_base.specs.declared.halt.Refusal.{Refusal}
 use Rattle.sp_execute.specs.declared.execution.Ran.{Ran}
 use Rattle.sp_execute.specs.Runs.{Executes, setting}
 use Rattle.sp_front.specs.Checks.{IsProgramOf}
-use Rattle.sp_print.specs.Lines.{refusal_text}
 use Rattle.sp_tree.specs.Plain.{Program}
+use Rattle.superpascal.specs.declared.asked.Asked.{Asked}
+use Rattle.superpascal.specs.declared.ending.Ending.TheVariants as e
 use Rattle.superpascal.specs.Answers.{status_of}
-use Rattle.superpascal.specs.Calls.{All, Call, IsOutside, OfInput, OfRun, Part}
+use Rattle.superpascal.specs.Calls.{All, Call, OfInput, OfRun, Part, Says}
 use Rattle.superpascal.specs.Runs.{ending_of, told_output}
-use Rattle.superpascal.specs.Texts.{Asked, BreaksOne, IsDisjointText}
+use Rattle.superpascal.specs.Texts.{BreaksOne, IsDisjointText}
 use Rattle.superpascal.specs.declared.telling.Telling.{Telling}
-
--- status 1 and the line of the rule, unless the outside came in their place
-abbrev pub SaysRefusal : Call → Refusal → Type 0
-SaysRefusal c r = ((c.outcome.status ≡ 1) × All c.notes (refusal_text r)) ⊎ IsOutside c.outcome.status
 
 -- the status tells the end of the run, and its output, or its witness, was written; with status 6 a first part of it
 pub record Prints (c : Call) (telling : Telling) (r : Ran) : Type 0 where
@@ -39,7 +36,7 @@ IsMeant a text input r = (p : Program) × IsProgramOf text p × Executes (settin
 
 pub record Headline (c : Call) : Type 0 where
   -- the text is refused exactly where a written rule is broken
-  pub refused : OfRun c (λ a text. (r : Refusal) → BreaksOne text r → SaysRefusal c r)
+  pub refused : OfRun c (λ a text. (r : Refusal) → BreaksOne text r → Says c (e.Refused r))
   pub no_other_refused : OfRun c (λ a text. c.outcome.status ≡ 1 → (r : Refusal) × BreaksOne text r)
   -- in no schedule does a process write what a parallel one uses
   pub disjoint : OfRun c (λ a text. (r : Ran) → c.outcome.ran ≡ Some r → IsDisjointText text)

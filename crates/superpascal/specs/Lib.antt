@@ -10,6 +10,7 @@ pub mod Promise
 pub mod Replays
 pub mod Runs
 pub mod Statuses
+pub mod Steps
 pub mod Texts
 pub mod Witnessing
 pub mod Writing

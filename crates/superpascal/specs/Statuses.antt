@@ -11,12 +11,14 @@ use Rattle.sp_words.specs.Ranges.{default_limits}
 use Rattle.sp_words.specs.Words.{command_of}
 use Rattle.sp_words.specs.declared.command.Command.{Command}
 use Rattle.sp_words.specs.declared.command.Command.TheVariants as command
+use Rattle.superpascal.specs.declared.asked.Asked.{Asked}
+use Rattle.superpascal.specs.declared.ending.Ending.TheVariants as e
 use Rattle.superpascal.specs.Answers.{status_of}
 use Rattle.superpascal.specs.Calls.{Call, Exactly, Failed, IsFinal, IsOutside, IsUnwritten, OfReplay, OfRun, OfText}
+use Rattle.superpascal.specs.Calls.{Says}
 use Rattle.superpascal.specs.Causes.{IsTold, IsTooLong, IsUntouched}
-use Rattle.superpascal.specs.Headline.{SaysRefusal}
 use Rattle.superpascal.specs.Runs.{IsRunOf, ending_of}
-use Rattle.superpascal.specs.Texts.{Asked, Breaks, CanRead, HasLongCode, IsDisjointText, IsJournalText, Keeps, KeepsAll}
+use Rattle.superpascal.specs.Texts.{Breaks, CanRead, HasLongCode, IsDisjointText, IsJournalText, Keeps, KeepsAll}
 use Rattle.superpascal.specs.Texts.{Loads, Makes, asks, asks_all, asks_build, asks_execution, asks_replay, asks_run}
 use Rattle.superpascal.specs.Texts.{asks_text, text_of}
 
@@ -57,7 +59,7 @@ pub record Statuses (c : Call) : Type 0 where
   -- 2: the words are refused
   pub bad_words : Exactly c.outcome.status 2 (command_of c.words ≡ None)
   -- 1: the text breaks a rule of the command
-  pub refused : OfText c (λ d text. (r : Refusal) → Breaks d text r → SaysRefusal c r)
+  pub refused : OfText c (λ d text. (r : Refusal) → Breaks d text r → Says c (e.Refused r))
   pub no_other_refused : OfText c (λ d text. c.outcome.status ≡ 1 → (r : Refusal) × Breaks d text r)
   -- 0 of a command that answers from the text alone: something is made of it
   pub made : OfText c (λ d text. asks_text d → Exactly c.outcome.status 0 ((out line : List ℕ) × Makes d text out line))

@@ -26,6 +26,9 @@ use Rattle.sp_varsets.specs.AreSets.{AreSets}
 use Rattle.sp_varsets.specs.declared.sets.Sets.{Sets}
 use Rattle.sp_words.specs.declared.command.Command.{Command}
 use Rattle.sp_words.specs.declared.command.Command.TheVariants as command
+use Rattle.superpascal.specs.declared.asked.Asked.{Asked}
+use Rattle.superpascal.specs.declared.asked.Executed.{Executed}
+use Rattle.superpascal.specs.declared.asked.Followed.{Followed}
 use Rattle.superpascal.specs.declared.telling.Telling.{Telling}
 use Rattle.superpascal.specs.declared.telling.Telling.TheVariants as told
 
@@ -74,13 +77,7 @@ IsSoundFile bytes = (code : Parts) × IsFileOf code bytes
 abbrev pub IsDisjointText : List ℕ → Type 0
 IsDisjointText text = (p : m.Program) → IsProgramOf text p → (g : Setting) → g.program ≡ p → IsDisjointRun g
 
--- the run that words ask for, and how it is told
-pub record Asked : Type 0 where
-  pub file : List ℕ
-  pub workers : ℕ
-  pub limits : Limits
-  pub telling : Telling
-
+-- the run that words ask for, and how it is told, by its parts
 abbrev pub asked : List ℕ → ℕ → Limits → Telling → Asked
 asked file workers limits telling =
     record { file = file; workers = workers; limits = limits; telling = telling }
@@ -93,24 +90,14 @@ asks_for told.Witness file workers limits = command.Witness file workers limits
 abbrev pub asks : Asked → Command
 asks a = asks_for a.telling a.file a.workers a.limits
 
--- the replay that words ask for
-pub record Followed : Type 0 where
-  pub file : List ℕ
-  pub journal : List ℕ
-  pub limits : Limits
-
+-- the replay that words ask for, by its parts
 abbrev pub followed : List ℕ → List ℕ → Limits → Followed
 followed file journal limits = record { file = file; journal = journal; limits = limits }
 
 abbrev pub follows : Followed → Command
 follows b = command.Replay b.file b.journal b.limits
 
--- the execution of a code file that words ask for
-pub record Executed : Type 0 where
-  pub file : List ℕ
-  pub workers : ℕ
-  pub limits : Limits
-
+-- the execution of a code file that words ask for, by its parts
 abbrev pub executed : List ℕ → ℕ → Limits → Executed
 executed file workers limits = record { file = file; workers = workers; limits = limits }
 

@@ -7,8 +7,8 @@ use Rattle.sp_execute.specs.Runs.{setting}
 use Rattle.sp_execute.specs.Witnesses.{ShowsRace}
 use Rattle.sp_front.specs.Checks.{IsProgramOf}
 use Rattle.sp_tree.specs.Plain.{Program}
+use Rattle.superpascal.specs.declared.asked.Asked.{Asked}
 use Rattle.superpascal.specs.Calls.{Call, OfInput}
-use Rattle.superpascal.specs.Texts.{Asked}
 
 -- the witness of the run's race, if it has one, shows it: along the witness the meaning of the program of the text is
 -- defined, and its last entry is the fault F6 of the verdict's later offer, which meets the earlier one

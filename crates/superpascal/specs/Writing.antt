@@ -5,11 +5,12 @@ use Rattle.std.specs.Prelude.{◌≡◌, ◌≢◌, ℕ, List, [], Some, false}
 use Rattle.sp_execute.specs.declared.execution.Ran.{Ran}
 use Rattle.sp_words.specs.Words.{command_of}
 use Rattle.sp_words.specs.declared.command.Command.TheVariants as command
+use Rattle.superpascal.specs.declared.asked.Asked.{Asked}
 use Rattle.superpascal.specs.declared.ending.Ending.{Ending}
 use Rattle.superpascal.specs.Answers.{has_output, line_of, status_of}
 use Rattle.superpascal.specs.Calls.{All, Call, IsUnwritten, OfText, Part}
 use Rattle.superpascal.specs.Runs.{generated_output, told_notes, told_output}
-use Rattle.superpascal.specs.Texts.{Asked, Makes, asks}
+use Rattle.superpascal.specs.Texts.{Makes, asks}
 
 -- the output and the notes were written whole; with status 6 a first part of each
 pub record AreWritten (c : Call) (output notes : List ℕ) : Type 0 where

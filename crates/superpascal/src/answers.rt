@@ -1,22 +1,21 @@
 //! The answers of calls that end without a run, with their lines.
 
-ghost use Rattle.std.specs.Prelude.{◌≡◌, ◌⊎◌, ◌++◌, None, IfOk, codes, decimal};
+ghost use Rattle.std.specs.Prelude.{◌≡◌, ◌++◌, IfOk, codes, decimal};
 ghost use Rattle.sp_codefile.specs.Verifying.{rule_of};
 ghost use Rattle.sp_rules.specs.Verdict.{number};
-ghost use Rattle.superpascal.specs.Answering.{AnswersNumber, AnswersRefusal, halted, unloaded};
+ghost use Rattle.superpascal.specs.Answering.{AnswersEnding, own_line};
 ghost use Rattle.superpascal.specs.Answers.{line_of};
 ghost use Rattle.superpascal.specs.Causes.{accepted, silent};
 ghost use Rattle.superpascal.specs.declared.ending.Ending.TheVariants as variants;
 
 use crate::ending::{Answer, Ending};
-use sp_base::{Halt, Memory, Place, Refusal, Rule, Text, put_decimal};
+use sp_base::{Memory, Text, put_decimal};
 use sp_codefile::VRule;
-use sp_outside::LoadError;
 use sp_print::refusal_line;
 use std::alloc::Global;
 
-/// An answer without an output.
-pub(crate) fn silent(alloc: Global, ending: Ending) -> Answer
+// An answer without an output.
+fn silent(alloc: Global, ending: Ending) -> Answer
     ensures { result ≡ silent ending }
 {
     Answer {
@@ -41,49 +40,6 @@ pub(crate) fn accepted(output: Vec<u8>, notes: Vec<u8>) -> Answer
     }
 }
 
-/// The answer to a text that breaks this rule first, or want of memory.
-pub(crate) fn refused(alloc: Global, refusal: Refusal) -> Answer
-    ensures { AnswersRefusal refusal result }
-{
-    match refusal_line(alloc, refusal) {
-        Ok(line) => Answer {
-            ending: Ending::Refused(refusal),
-            ran: None,
-            executed: None,
-            output: None,
-            notes: Text::of(line),
-        },
-        Err(_) => silent(alloc, Ending::OutOfMemory),
-    }
-}
-
-/// The answer to a text of which no code comes.
-pub(crate) fn halted(alloc: Global, halt: Halt) -> Answer
-    ensures { halted halt result }
-{
-    match halt {
-        Halt::Refused(refusal) => refused(alloc, refusal),
-        Halt::Memory => silent(alloc, Ending::OutOfMemory),
-    }
-}
-
-/// What a text breaks that is longer than a text may be.
-const TOO_LONG: Refusal = Refusal {
-    rule: Rule::L1,
-    at: Place { line: 1, column: 1 },
-};
-
-/// The answer to a text that the library does not give.
-pub(crate) fn unloaded(alloc: Global, error: LoadError) -> Answer
-    ensures { unloaded error result }
-{
-    match error {
-        LoadError::TooLong => refused(alloc, TOO_LONG),
-        LoadError::Failed => silent(alloc, Ending::ReadFault),
-        LoadError::Memory => silent(alloc, Ending::OutOfMemory),
-    }
-}
-
 // Words and a number on a line.
 fn number_line(alloc: Global, words: &[u8], number: u64) -> Result<Vec<u8>, Memory>
     ensures { IfOk result (λ line. line.items ≡ words.now ++ decimal number ++ codes "\n") }
@@ -92,50 +48,6 @@ fn number_line(alloc: Global, words: &[u8], number: u64) -> Result<Vec<u8>, Memo
     put_decimal(&mut line, number)?;
     line.extend_from_slice(b"\n")?;
     Ok(line)
-}
-
-// The answer whose notes are such a line, or want of memory.
-fn numbered(alloc: Global, ending: Ending, words: &[u8], number: u64) -> Answer
-    ensures { (result ≡ record {
-      ending = ending;
-      ran = None;
-      executed = None;
-      output = None;
-      notes = words.now
-          ++ decimal number ++ codes "\n";
-    }) ⊎ (result ≡ silent variants.OutOfMemory) }
-{
-    match number_line(alloc, words, number) {
-        Ok(line) => Answer {
-            ending,
-            ran: None,
-            executed: None,
-            output: None,
-            notes: Text::of(line),
-        },
-        Err(_) => silent(alloc, Ending::OutOfMemory),
-    }
-}
-
-/// The answer to a journal of which this line is the first that is no text of a next entry.
-pub(crate) fn bad_journal(alloc: Global, line: u64) -> Answer
-    ensures { AnswersNumber (variants.BadJournal line) result }
-{
-    numbered(alloc, Ending::BadJournal(line), b"bad journal ", line)
-}
-
-/// The answer to a journal of which the entry with this index is the first that does not fit.
-pub(crate) fn unfit(alloc: Global, entry: u64) -> Answer
-    ensures { AnswersNumber (variants.Unfit entry) result }
-{
-    numbered(alloc, Ending::Unfit(entry), b"journal unfit ", entry)
-}
-
-/// The answer to a code file of which this line is the first with which its lines begin no code's text.
-pub(crate) fn bad_code(alloc: Global, line: u64) -> Answer
-    ensures { AnswersNumber (variants.BadCode line) result }
-{
-    numbered(alloc, Ending::BadCode(line), b"bad code ", line)
 }
 
 // The number of a rule of code files.
@@ -167,13 +79,38 @@ fn rejection_line(alloc: Global, rule: VRule, instruction: u32) -> Result<Vec<u8
     Ok(line)
 }
 
-/// The answer to a code file whose code breaks this rule first, where this instruction is the least at which it does.
-pub(crate) fn rejected(alloc: Global, rule: VRule, instruction: u32) -> Answer
-    ensures { AnswersNumber (variants.Rejected rule instruction) result }
+// The line of an ending that is not the same for every text; of another, nothing.
+fn own_line(alloc: Global, ending: Ending) -> Result<Vec<u8>, Memory>
+    ensures { IfOk result (λ line. line.items ≡ own_line ending) }
 {
-    match rejection_line(alloc, rule, instruction) {
+    match ending {
+        Ending::Refused(refusal) => refusal_line(alloc, refusal),
+        Ending::BadJournal(line) => number_line(alloc, b"bad journal ", line),
+        Ending::Unfit(entry) => number_line(alloc, b"journal unfit ", entry),
+        Ending::BadCode(line) => number_line(alloc, b"bad code ", line),
+        Ending::Rejected(rule, instruction) => rejection_line(alloc, rule, instruction),
+        Ending::Done
+        | Ending::Deadlock
+        | Ending::Fault
+        | Ending::NoEnd
+        | Ending::Accepted
+        | Ending::BadWords
+        | Ending::ReadFault
+        | Ending::TooLong
+        | Ending::OutOfMemory
+        | Ending::LongJournal
+        | Ending::LongCode
+        | Ending::LongFile => Ok(Vec::new(alloc)),
+    }
+}
+
+/// The answer to what ends so without an output, with the ending's line, or want of memory.
+pub(crate) fn ended(alloc: Global, ending: Ending) -> Answer
+    ensures { AnswersEnding ending result }
+{
+    match own_line(alloc, ending) {
         Ok(line) => Answer {
-            ending: Ending::Rejected(rule, instruction),
+            ending,
             ran: None,
             executed: None,
             output: None,

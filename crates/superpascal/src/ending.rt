@@ -1,12 +1,15 @@
 //! How a call ends (`Ending`), and what it has to write (`Answer`), with statuses and lines.
 
 ghost use Rattle.std.specs.Prelude.{◌≡◌};
+ghost use Rattle.superpascal.specs.Answering.{ending_of_halt};
 ghost use Rattle.superpascal.specs.Answers.{has_output, notes_by, output_of, status_of};
+ghost use Rattle.superpascal.specs.declared.ending.Ending.TheVariants as variants;
 
-use sp_base::{Refusal, Text};
+use sp_base::{Halt, Memory, Refusal, Text};
 use sp_codefile::VRule;
 use sp_execute::Ran;
 use sp_kernel::Closed;
+use std::alloc::{AllocError, AllocFailed};
 
 /// How a call ends.
 #[derive(Clone, Copy)]
@@ -87,6 +90,41 @@ impl Ending {
             self,
             Ending::Done | Ending::Deadlock | Ending::Fault | Ending::NoEnd | Ending::Accepted
         )
+    }
+}
+
+impl From<Halt> for Ending {
+    ghost from_gives = { λ halt e. e ≡ ending_of_halt halt };
+
+    fn from(halt: Halt) -> Ending {
+        match halt {
+            Halt::Refused(refusal) => Ending::Refused(refusal),
+            Halt::Memory => Ending::OutOfMemory,
+        }
+    }
+}
+
+impl From<Memory> for Ending {
+    ghost from_gives = { λ _ e. e ≡ variants.OutOfMemory };
+
+    fn from(_error: Memory) -> Ending {
+        Ending::OutOfMemory
+    }
+}
+
+impl From<AllocError> for Ending {
+    ghost from_gives = { λ _ e. e ≡ variants.OutOfMemory };
+
+    fn from(_error: AllocError) -> Ending {
+        Ending::OutOfMemory
+    }
+}
+
+impl<T: Drop> From<AllocFailed<T>> for Ending {
+    ghost from_gives = { λ _ e. e ≡ variants.OutOfMemory };
+
+    fn from(_error: AllocFailed<T>) -> Ending {
+        Ending::OutOfMemory
     }
 }
 

@@ -15,23 +15,26 @@
 //!   `sp_kernel`.
 //!
 //! To know:
-//! - `src/top.rt` is the call and its order of work by commands: words, load, rules of the text and its code, journal,
-//!   input, run, verdict, texts, write, status.
-//! - `src/texts.rt` has the commands that answer from the text alone, `src/runs.rt` those that run a program, told as
-//!   `src/telling.rt` says, `src/replays.rt` the one that follows a journal, `src/executions.rt` the one that runs a
-//!   code file. `src/notes.rt` is what is told of a run, `src/answers.rt` has the answers without a run.
+//! - `src/top.rt` is the call: the words, the command that they ask for (`src/asked.rt`), its answer, and the writing.
+//! - A command is a row of steps, each on a line of its own with `?`, as `run` there: load and compilation (`prepare`),
+//!   input, run with verdict, texts. A step gives what the next needs, or the `Ending` of the call. The steps that
+//!   commands share are `src/prepare.rt`.
+//! - `src/texts.rt` has the commands that answer from the text alone, `src/runs.rt` the run of a program, told as
+//!   `src/telling.rt` says, and `gen`, `src/replays.rt` the command that follows a journal, `src/executions.rt` the one
+//!   that runs a code file. `src/notes.rt` is what is told of a run, `src/answers.rt` makes the answer of an ending
+//!   without a run.
 //! - `src/ending.rt` is how a call ends (`Ending`) and what it has to write (`Answer`), `src/writing.rt` writes it,
-//!   `src/outcome.rt` is what is given back.
-//! - The contract speaks of a call as `specs/Calls.antt` describes it (`Call`). What each function inside answers
-//!   stands in `specs/Answering.antt`, why an answer is due in `specs/Causes.antt` (`Cause`), what it has to write in
-//!   `specs/Answers.antt`.
+//!   `src/outcome.rt` is what is given back. `src/host.rt` is what the steps take of the system (`Host`).
+//! - The contract speaks of a call as `specs/Calls.antt` describes it (`Call`). What each step answers stands in
+//!   `specs/Steps.antt`, what its answer is made of in `specs/Answering.antt`, why an answer is due in
+//!   `specs/Causes.antt` (`Cause`), what it has to write in `specs/Answers.antt`.
 //! - Of the proofs, `Running` and `RunningFiles` lead from `sp_execute` to a text's program and to a code file,
-//!   `Parts`, `Replaying` and `Executed` from the parts of a call to the cause of its answer, `Why` from an ending to
+//!   `Parts`, `Replaying` and `Executed` from the steps of a command to the cause of its answer, `Why` from an ending to
 //!   its cause, `Calling` and `Executing` from cause and writing to the contract; `Promising` puts the parts together.
 //! - The rules of the text come before its input, so `run`, `check` and `code` name the first broken rule of all;
 //!   `sets` looks up to types and `format` at characters and grammar. A text longer than the library's limit is never
 //!   seen whole; that it is longer is all that L1 says, so its refusal needs no bytes.
-//! - The thread that compiles has a copy of the text and gives back tree, sets and code; a run keeps the code alone.
+//! - The thread that compiles has a copy of the text and gives back tree, sets and code; `prepare` keeps the code alone.
 //! - "Exactly" yields to the outside and to want of memory: where the cause of a status holds, the status comes, or one
 //!   from 5 to 8. 5 and 6 come only where a count rose, and 7 only where the input, if it is told, is longer than the
 //!   limit.
@@ -44,9 +47,10 @@
 //!   its own that workers are in turns at once.
 //!
 //! To change:
-//! - A status or a line: `Ending` in `src/ending.rt`, `specs/Answers.antt`, its cause in `Due` of `specs/Causes.antt`,
-//!   its clause in `specs/Statuses.antt`, `proofs/Why.antt` and `proofs/Calling.antt`.
-//! - A command: its variant in `sp_words`; `text_of`, `IsAbout`, `FollowsUnder`, `ExecutesUnder`, `Breaks`, `Keeps`,
+//! - A status or a line: `Ending` in `src/ending.rt`, `specs/Answers.antt`, `own_line` of `specs/Answering.antt` and of
+//!   `src/answers.rt`, its cause in `Due` of `specs/Causes.antt`, the step that it ends in `specs/Steps.antt`, its clause
+//!   in `specs/Statuses.antt`, `proofs/Why.antt` and `proofs/Calling.antt`.
+//! - A command: its variant in `sp_words`; what it asks for in `src/asked.rt`; `text_of`, `IsAbout`, `FollowsUnder`, `ExecutesUnder`, `Breaks`, `Keeps`,
 //!   `asks_text`, `asks_run`, `asks_replay`, `asks_build`, `asks_execution`, `CanRead`, `Makes` and `asks_all` of
 //!   `specs/Texts.antt`; its function in `src/texts.rt`, `src/runs.rt`, `src/replays.rt` or `src/executions.rt`, its
 //!   arm in `src/top.rt`.
@@ -55,10 +59,13 @@
 #![tactic(auto)]
 
 mod answers;
+mod asked;
 mod ending;
 mod executions;
+mod host;
 mod notes;
 mod outcome;
+mod prepare;
 mod replays;
 mod runs;
 mod telling;

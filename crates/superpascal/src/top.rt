@@ -3,20 +3,25 @@
 ghost use Rattle.std.specs.Prelude.{◌≡◌, List, ℕ, Some, map};
 ghost use Rattle.std.specs.String.{string_bytes};
 ghost use Rattle.sp_report.specs.Telling.{AreFresh, reports};
+ghost use Rattle.sp_words.specs.Ranges.{IsInRange};
 ghost use Rattle.sp_words.specs.Words.{command_of};
-ghost use Rattle.superpascal.specs.Answering.{CommandCause};
-ghost use Rattle.superpascal.specs.Calls.{IsAnswered, call, sink};
-ghost use Rattle.superpascal.specs.Causes.{Cause, files, stream};
+ghost use Rattle.superpascal.specs.Calls.{call, sink_of};
+ghost use Rattle.superpascal.specs.Causes.{Cause, files_of, stream_of};
 ghost use Rattle.superpascal.specs.Promise.{Promise};
+ghost use Rattle.superpascal.specs.Steps.{Answers, AnswersWords, ReadsCommand};
+ghost use Rattle.superpascal.specs.Texts.{asks};
 
-use crate::answers::silent;
+use crate::answers::ended;
+use crate::asked::{Asked, Executed, Followed};
 use crate::ending::{Answer, Ending};
-use crate::executions::execution_answer;
+use crate::executions::execute;
+use crate::host::Host;
 use crate::outcome::Outcome;
-use crate::replays::replay_answer;
-use crate::runs::{generated_answer, run_answer};
+use crate::prepare::{prepare, read_input};
+use crate::replays::replay;
+use crate::runs::{run_code, run_generated, tell_run};
 use crate::telling::Telling;
-use crate::texts::{one_code_text, text_answer};
+use crate::texts::{build, check, lay_out, list, one_code_text, tell_sets};
 use crate::writing::write;
 use sp_codefile::laws::a_text_is_of_one_code;
 use sp_compile::one_listing;
@@ -32,143 +37,150 @@ use std::alloc::Global;
 use std::sync::Wait;
 use std::thread::Threads;
 
-// Does what the command asks.
-fn command_answer<R: Threads + Wait + Sync, L: Library, I: Source, G: Gate>(
-    rt: &R,
-    alloc: Global,
-    command: &Command,
+// The command that the words ask for.
+fn read_command(alloc: Global, words: &[String]) -> Result<Command, Ending>
+    ensures { ReadsCommand (command_of (map string_bytes words.now)) result }
+{
+    match read_words(alloc, words) {
+        Ok(command) => Ok(command),
+        Err(WordsError::Refused) => Err(Ending::BadWords),
+        Err(WordsError::Memory) => Err(Ending::OutOfMemory),
+    }
+}
+
+// Does what `run` or `witness` asks: the way of a text, as the table of docs/ARCHITECTURE.md has it.
+fn run<R: Threads + Wait + Sync, L: Library, I: Source, G: Gate>(
+    host: &Host<R, G>,
+    asked: &Asked,
     library: &mut L,
     input: &mut I,
-    gate: &G,
     watchers: Vec<Box<dyn Watcher>>,
-) -> Answer
+) -> Result<Answer, Ending>
     requires fresh { AreFresh told watchers.items }
-    requires asked { (words : List (List ℕ)) × (command_of words ≡ Some command.now) }
-    ensures { CommandCause (files (L.held library.old) (L.faults library.old) (L.faults library.new))
-        (stream (I.left input.old) (I.left input.new) (I.faults input.old) (I.faults input.new))
-        (reports text title watchers.items) command.now result }
+    requires range { IsInRange asked.now.workers asked.now.limits }
+    ensures { Answers (files_of L.held L.faults library.old library.new)
+        (stream_of I.left I.faults input.old input.new)
+        (reports text title watchers.items) (asks asked.now) result }
+{
+    let code = prepare(host.rt, host.alloc, library, &asked.file)?;
+    let input = read_input(host.alloc, input)?;
+    let ran = run_code(host, code, input, asked.workers, &asked.limits)?;
+    tell_run(host.alloc, watchers, asked.telling, ran)
+}
+
+// Does what the command asks.
+fn obey<R: Threads + Wait + Sync, L: Library, I: Source, G: Gate>(
+    host: &Host<R, G>,
+    command: Command,
+    library: &mut L,
+    input: &mut I,
+    watchers: Vec<Box<dyn Watcher>>,
+) -> Result<Answer, Ending>
+    requires fresh { AreFresh told watchers.items }
+    requires asked { (words : List (List ℕ)) × (command_of words ≡ Some command) }
+    ensures { Answers (files_of L.held L.faults library.old library.new)
+        (stream_of I.left I.faults input.old input.new)
+        (reports text title watchers.items) command result }
 {
     accepted_options_are_in_range();
     match command {
-        Command::Check(file)
-        | Command::Code(file)
-        | Command::Sets(file)
-        | Command::Format(file)
-        | Command::Build(file) => text_answer(rt, alloc, command, file.text(), library),
+        Command::Check(file) => check(host.rt, host.alloc, library, &file),
+        Command::Code(file) => list(host.rt, host.alloc, library, &file),
+        Command::Build(file) => build(host.rt, host.alloc, library, &file),
+        Command::Sets(file) => tell_sets(host.rt, host.alloc, library, &file),
+        Command::Format(file) => lay_out(host.alloc, library, &file),
         Command::Run {
             file,
             workers,
             limits,
             show,
-        } => run_answer(
-            rt,
-            alloc,
-            file.text(),
-            *workers,
-            limits,
-            Telling::Reports(*show),
-            library,
-            input,
-            gate,
-            watchers,
-        ),
+        } => {
+            let telling = Telling::Reports(show);
+            let asked = Asked {
+                file,
+                workers,
+                limits,
+                telling,
+            };
+            run(host, &asked, library, input, watchers)
+        }
         Command::Witness {
             file,
             workers,
             limits,
-        } => run_answer(
-            rt,
-            alloc,
-            file.text(),
-            *workers,
-            limits,
-            Telling::Witness,
-            library,
-            input,
-            gate,
-            watchers,
-        ),
-        Command::Gen { size, workers } => generated_answer(rt, alloc, *size, *workers, gate),
+        } => {
+            let telling = Telling::Witness;
+            let asked = Asked {
+                file,
+                workers,
+                limits,
+                telling,
+            };
+            run(host, &asked, library, input, watchers)
+        }
+        Command::Gen { size, workers } => run_generated(host, size, workers),
         Command::Replay {
             file,
             journal,
             limits,
-        } => replay_answer(
-            rt,
-            alloc,
-            file.text(),
-            journal.text(),
-            limits,
-            library,
-            input,
-        ),
+        } => {
+            let asked = Followed {
+                file,
+                journal,
+                limits,
+            };
+            replay(host.rt, host.alloc, &asked, library, input)
+        }
         Command::Exec {
             file,
             workers,
             limits,
-        } => execution_answer(
-            rt,
-            alloc,
-            file.text(),
-            *workers,
-            limits,
-            library,
-            input,
-            gate,
-        ),
+        } => {
+            let asked = Executed {
+                file,
+                workers,
+                limits,
+            };
+            execute(host, &asked, library, input)
+        }
     }
 }
 
 // Does what the words ask.
-fn answer<R: Threads + Wait + Sync, L: Library, I: Source, G: Gate>(
-    rt: &R,
-    alloc: Global,
+fn answer_words<R: Threads + Wait + Sync, L: Library, I: Source, G: Gate>(
+    host: &Host<R, G>,
     words: &[String],
     library: &mut L,
     input: &mut I,
-    gate: &G,
     watchers: Vec<Box<dyn Watcher>>,
-) -> Answer
+) -> Result<Answer, Ending>
     requires fresh { AreFresh told watchers.items }
-    ensures { Cause (files (L.held library.old) (L.faults library.old) (L.faults library.new))
-        (stream (I.left input.old) (I.left input.new) (I.faults input.old) (I.faults input.new))
+    ensures { AnswersWords (files_of L.held L.faults library.old library.new)
+        (stream_of I.left I.faults input.old input.new)
         (reports text title watchers.items)
         (command_of (map string_bytes words.now)) result }
 {
-    match read_words(alloc, words) {
-        Ok(command) => command_answer(rt, alloc, &command, library, input, gate, watchers),
-        Err(WordsError::Refused) => silent(alloc, Ending::BadWords),
-        Err(WordsError::Memory) => silent(alloc, Ending::OutOfMemory),
-    }
+    let command = read_command(host.alloc, words)?;
+    obey(host, command, library, input, watchers)
 }
 
-// Does the whole call.
-fn answer_and_write<R: Threads + Wait + Sync, L: Library, I: Source, O: Sink, N: Sink, G: Gate>(
-    rt: &R,
-    alloc: Global,
+// The answer to the words, whatever ended what they ask.
+fn answer<R: Threads + Wait + Sync, L: Library, I: Source, G: Gate>(
+    host: &Host<R, G>,
     words: &[String],
     library: &mut L,
     input: &mut I,
-    output: &mut O,
-    notes: &mut N,
-    gate: &G,
     watchers: Vec<Box<dyn Watcher>>,
-) -> Outcome
+) -> Answer
     requires fresh { AreFresh told watchers.items }
-    ensures { IsAnswered (call (map string_bytes words.now)
-        (files (L.held library.old) (L.faults library.old) (L.faults library.new))
-        (stream (I.left input.old) (I.left input.new) (I.faults input.old) (I.faults input.new))
+    ensures { Cause (files_of L.held L.faults library.old library.new)
+        (stream_of I.left I.faults input.old input.new)
         (reports text title watchers.items)
-        (sink (O.written output.old) (O.written output.new) (O.faults output.old) (O.faults output.new))
-        (sink (N.written notes.old) (N.written notes.new) (N.faults notes.old) (N.faults notes.new)) result) }
+        (command_of (map string_bytes words.now)) result }
 {
-    let answer = answer(rt, alloc, words, library, input, gate, watchers);
-    let status = write(&answer, output, notes);
-    let Answer { ran, executed, .. } = answer;
-    Outcome {
-        status,
-        ran,
-        executed,
+    match answer_words(host, words, library, input, watchers) {
+        Ok(answer) => answer,
+        Err(ending) => ended(host.alloc, ending),
     }
 }
 
@@ -215,11 +227,11 @@ pub fn superpascal<R: Threads + Wait + Sync, L: Library, I: Source, O: Sink, N: 
 ) -> Outcome
     requires fresh { AreFresh told watchers.items }
     ensures { Promise (call (map string_bytes words.now)
-        (files (L.held library.old) (L.faults library.old) (L.faults library.new))
-        (stream (I.left input.old) (I.left input.new) (I.faults input.old) (I.faults input.new))
+        (files_of L.held L.faults library.old library.new)
+        (stream_of I.left I.faults input.old input.new)
         (reports text title watchers.items)
-        (sink (O.written output.old) (O.written output.new) (O.faults output.old) (O.faults output.new))
-        (sink (N.written notes.old) (N.written notes.new) (N.faults notes.old) (N.faults notes.new)) result) }
+        (sink_of O.written O.faults output.old output.new)
+        (sink_of N.written N.faults notes.old notes.new) result) }
 {
     one_answer();
     one_compilation();
@@ -231,7 +243,7 @@ pub fn superpascal<R: Threads + Wait + Sync, L: Library, I: Source, O: Sink, N: 
     one_journal_of_a_text();
     one_unfit_entry();
     accepted_texts_are_disjoint();
-    answer_and_write(
-        rt, alloc, words, library, input, output, notes, gate, watchers,
-    )
+    let host = Host { rt, alloc, gate };
+    let answer = answer(&host, words, library, input, watchers);
+    write(answer, output, notes)
 }

@@ -4,17 +4,34 @@ ghost use Rattle.std.specs.Prelude.{◌≡◌, ◌≢◌, ◌⊎◌, ℕ, ◌≤
 ghost use Rattle.sp_outside.specs.Counts.{Rose};
 ghost use Rattle.sp_outside.specs.Told.{Grows};
 ghost use Rattle.superpascal.specs.Answers.{has_output, notes_of, output_of, status_of};
-ghost use Rattle.superpascal.specs.Calls.{Writes, sink};
+ghost use Rattle.superpascal.specs.Calls.{Writes, sink_of};
 
 use crate::ending::{Answer, notes_by};
+use crate::outcome::Outcome;
 use sp_outside::{Failed, Sink, put_all};
 
-/// Writes the output and then the notes, and gives the status.
-pub(crate) fn write<O: Sink, N: Sink>(answer: &Answer, output: &mut O, notes: &mut N) -> u8
+/// Writes the answer, and gives the status and the run.
+pub(crate) fn write<O: Sink, N: Sink>(answer: Answer, output: &mut O, notes: &mut N) -> Outcome
+    requires { has_output answer.ending ≡ false → output_of answer ≡ [] }
+    ensures written { Writes answer (sink_of O.written O.faults output.old output.new)
+        (sink_of N.written N.faults notes.old notes.new) result.status }
+    ensures ran { result.ran ≡ answer.ran }
+    ensures executed { result.executed ≡ answer.executed }
+{
+    let status = write_texts(&answer, output, notes);
+    let Answer { ran, executed, .. } = answer;
+    Outcome {
+        status,
+        ran,
+        executed,
+    }
+}
+
+// Writes the output and then the notes, and gives the status.
+fn write_texts<O: Sink, N: Sink>(answer: &Answer, output: &mut O, notes: &mut N) -> u8
     requires { has_output answer.now.ending ≡ false → output_of answer.now ≡ [] }
-    ensures { Writes answer.now (sink (O.written output.old) (O.written output.new) (O.faults output.old)
-        (O.faults output.new))
-        (sink (N.written notes.old) (N.written notes.new) (N.faults notes.old) (N.faults notes.new)) result }
+    ensures { Writes answer.now (sink_of O.written O.faults output.old output.new)
+        (sink_of N.written N.faults notes.old notes.new) result }
 {
     if answer.ending.has_output() {
         match put_all(output, answer.output()) {

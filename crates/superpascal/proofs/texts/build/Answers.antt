@@ -1,17 +1,30 @@
-use Rattle.std.proofs.Common.{arith}
-use Rattle.superpascal.proofs.Parts.{code_long, code_made}
+use Rattle.std.proofs.Common.{arith, refl}
+use Rattle.std.proofs.lemmas.Result.{err_from_is_err_and}
+use Rattle.sp_words.specs.declared.command.Command.TheVariants.{Build}
+use Rattle.superpascal.specs.Steps.{AnswersText}
+use Rattle.superpascal.proofs.Parts.{at_exit, code_long, has_code_text, text_made, text_unready}
 use Rattle.superpascal.proofs.texts.build.Goals as goal
+
+pub returns-in_err-code : goal.returns-in_err-code
+returns-in_err-code g c =
+    at_exit (AnswersText _ (Build c.args.file.now)) c.from_residual.result _
+    (err_from_is_err_and c.from_residual.result c.from_residual.ensures.1)
+    (text_unready _ (Build c.args.file.now) c.args.file.now refl (λ text r h. h) _ c.in_err-code.ensures.prepared)
 
 pub returns-then-len-gt-LONGEST_CODE : goal.returns-then-len-gt-LONGEST_CODE
 returns-then-len-gt-LONGEST_CODE g c =
-    code_long c.args.text.now c.in_ok-compiled.compiled c.code.result.now c.in_ok-file.file.items c.silent.result
-    c.in_ok-compiled.ensures
-    c.code.ensures c.in_ok-file.ensures (omega (arith, c.if-len-gt-LONGEST_CODE.true, c.len.ensures)) c.silent.ensures
+    let h = c.in_ok-code.ensures.prepared in
+    code_long _ c.args.file.now h.0 h.1 c.in_ok-bytes.bytes.items
+    (has_code_text h.0 h.2 c.in_ok-code.code c.in_ok-bytes.bytes.items h.3 c.in_ok-bytes.ensures)
+    (omega (arith, c.if-len-gt-LONGEST_CODE.true, c.len.ensures))
 
 pub returns : goal.returns
 returns g c =
-    code_made c.args.text.now c.in_ok-compiled.compiled c.code.result.now c.in_ok-file.file.items c.new.result.items
-    c.accepted.result
-    c.in_ok-compiled.ensures c.code.ensures c.in_ok-file.ensures
-    (omega (arith, c.if-len-gt-LONGEST_CODE.false, c.len.ensures))
-    c.new.ensures.items c.accepted.ensures
+    let h = c.in_ok-code.ensures.prepared in
+    text_made _ (Build c.args.file.now) c.args.file.now refl h.0 h.1 c.in_ok-bytes.bytes.items c.new.result.items (
+      (
+        has_code_text h.0 h.2 c.in_ok-code.code c.in_ok-bytes.bytes.items h.3 c.in_ok-bytes.ensures,
+        omega (arith, c.if-len-gt-LONGEST_CODE.false, c.len.ensures),
+      ),
+      c.new.ensures.items,
+    ) c.accepted.result c.accepted.ensures

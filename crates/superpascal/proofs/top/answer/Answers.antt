@@ -1,6 +1,5 @@
-use Rattle.superpascal.proofs.Parts.{cause_of_command}
+use Rattle.superpascal.proofs.Parts.{ending_answered}
 use Rattle.superpascal.proofs.top.answer.Goals as goal
 
-pub returns-in-Ok : goal.returns-in-Ok
-returns-in-Ok g c = cause_of_command _ _ _ _ c.in-Ok.command c.command_answer.result c.in-Ok.ensures.ok
-    c.command_answer.ensures
+pub returns-in-Err : goal.returns-in-Err
+returns-in-Err g c = ending_answered _ _ _ _ c.in-Err.ending c.in-Err.ensures c.ended.result c.ended.ensures

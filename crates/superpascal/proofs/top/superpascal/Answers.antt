@@ -3,7 +3,14 @@ use Rattle.superpascal.proofs.Promising.{promise}
 use Rattle.superpascal.proofs.top.superpascal.Goals as goal
 
 pub returns : goal.returns
-returns g c = promise _ c.answer_and_write.ensures
+returns g c =
+    promise _ (record {
+      answer = c.answer-answer.result;
+      cause = c.answer-answer.ensures;
+      written = c.write.ensures.written;
+      ran = c.write.ensures.ran;
+      executed = c.write.ensures.executed;
+    })
     (laws c.one_answer.ensures.tree c.one_answer.ensures.refusal c.one_answer.ensures.not_both
     c.one_compilation.ensures.refusal c.one_compilation.ensures.not_both c.accepted_texts_are_disjoint.ensures
     c.one_layout.ensures.layout c.one_layout.ensures.refusal c.one_layout.ensures.not_both c.one_sets_text.ensures

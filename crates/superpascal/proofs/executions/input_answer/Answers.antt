@@ -1,9 +1,0 @@
-use Rattle.std.proofs.Common.{inl}
-use Rattle.superpascal.proofs.executions.input_answer.Goals as goal
-
-pub returns-in-Ok : goal.returns-in-Ok
-returns-in-Ok g c = λ bytes file. inl (
-  c.in-Ok.bytes,
-  record { read = c.in-Ok.ensures.all; fits = c.in-Ok.ensures.fits; at_end = c.in-Ok.ensures.end },
-  c.code_answer.ensures bytes file,
-)

@@ -1,5 +1,0 @@
-use Rattle.superpascal.proofs.Parts.{told_by}
-use Rattle.superpascal.proofs.runs.ran_answer.Goals as goal
-
-pub returns-in-Witness : goal.returns-in-Witness
-returns-in-Witness g c = told_by _ c.args.telling _ c.args.ran c.witnessed.result c.in-Witness.is c.witnessed.ensures

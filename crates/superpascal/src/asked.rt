@@ -1,0 +1,36 @@
+//! What the words of a command ask for, as one value: a run (`Asked`), a replay (`Followed`), the run of a code file
+//! (`Executed`).
+
+use crate::telling::Telling;
+use sp_base::{Limits, Word};
+
+/// The run that words ask for, and how it is told.
+#[derive(Drop)]
+pub struct Asked {
+    /// The name of the program text.
+    pub file: Word,
+    /// How many workers run its processes, from 1 to 64.
+    pub workers: u32,
+    pub limits: Limits,
+    pub telling: Telling,
+}
+
+/// The replay that words ask for.
+#[derive(Drop)]
+pub struct Followed {
+    /// The name of the program text.
+    pub file: Word,
+    /// The name of the journal's text.
+    pub journal: Word,
+    pub limits: Limits,
+}
+
+/// The execution of a code file that words ask for.
+#[derive(Drop)]
+pub struct Executed {
+    /// The name of the code file.
+    pub file: Word,
+    /// How many workers run its processes, from 1 to 64.
+    pub workers: u32,
+    pub limits: Limits,
+}
