@@ -1,6 +1,5 @@
 -- From what the steps of the run of a code file give to the cause of its answer.
-use Rattle.std.proofs.Common.{◌≡◌, inl, inr, ◌≤◌, List, ℕ, length, Option, Result, Ok, Err, refl, sym, ◌∙◌, ap, subst}
-use Rattle.std.specs.Prelude.{IfSome}
+use Rattle.std.proofs.Common.{◌≡◌, inl, inr, ◌≤◌, List, ℕ, length, Result, Ok, Err, refl, sym, ap, subst}
 use Rattle.sp_code.specs.declared.code.Parts.{Parts}
 use Rattle.sp_codefile.specs.CodeText.{IsTextOf}
 use Rattle.sp_kernel.specs.declared.closed.Closed.{Closed}

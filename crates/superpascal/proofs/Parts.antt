@@ -1,6 +1,6 @@
 -- From what the steps of a command give to the cause of its answer: of the commands that answer from the text alone, of
 -- `run` and `witness`, and of `gen`.
-use Rattle.std.proofs.Common.{◌≡◌, inl, inr, ℕ, ◌<◌, ◌≤◌, List, [], length, Option, Some, None, Result, Ok, Err}
+use Rattle.std.proofs.Common.{◌≡◌, inl, inr, ℕ, ◌<◌, List, [], length, Option, Some, None, Result, Ok, Err}
 use Rattle.std.proofs.Common.{refl, sym, ◌∙◌, ap, subst}
 use Rattle.std.specs.Prelude.{IfSome, ◌↔◌}
 use Rattle.sp_base.specs.declared.halt.Halt.{Halt}

@@ -1,7 +1,7 @@
 -- From what the steps of a replay give to the cause of its answer; and what follows of its text, its journal and its
 -- input, as they are told.
 use Rattle.std.proofs.Common.{◌≡◌, inl, inr, ℕ, ◌<◌, ◌≤◌, List, length, Option, Some, None, Result, Ok, Err, refl}
-use Rattle.std.proofs.Common.{sym, ◌∙◌, ap, subst, arith}
+use Rattle.std.proofs.Common.{◌∙◌, ap, subst, arith}
 use Rattle.std.specs.Prelude.{IfSome}
 use Rattle.sp_base.specs.declared.limits.Limits.{Limits}
 use Rattle.sp_code.specs.declared.code.Parts.{Parts}
@@ -18,7 +18,6 @@ use Rattle.sp_replay.specs.declared.replayer.Replayed.{Replayed}
 use Rattle.sp_tree.specs.Bare.{bare}
 use Rattle.sp_tree.specs.Plain.{Program}
 use Rattle.sp_tree.specs.PlainChecked as c
-use Rattle.sp_words.specs.declared.command.Command.{Command}
 use Rattle.sp_words.specs.declared.command.Command.TheVariants as command
 use Rattle.superpascal.specs.declared.asked.Followed.{Followed}
 use Rattle.superpascal.specs.declared.ending.Ending.{Ending}
