@@ -1,6 +1,6 @@
-//! Tests of the calls of `sp_arithmetic`, each once.
+//! Tests of the calls of `sp_values`, each once.
 
-use sp_arithmetic::{
+use sp_values::{
     absolute_of, binary, in_range, modulus, next_of, odd, previous_of, product, quotient,
     square_of, truth_of, unary, within,
 };

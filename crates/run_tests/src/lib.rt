@@ -1,11 +1,11 @@
 //! Tests of the plain interpreter of the meaning (`sp_run`) and of the arithmetic that it stands on
-//! (`sp_arithmetic`). The programs are worked by hand, each with a schedule that leads to its end.
+//! (`sp_values`). The programs are worked by hand, each with a schedule that leads to its end.
 //!
 //! To know:
 //! - `src/values.rt`: one process, what it writes, and the faults of its expressions, widths and limits.
 //! - `src/channels.rt`: forks, joins, rendezvous, contention and a deadlock.
 //! - `src/depth.rt`: a function that calls itself without end, on a thread with a large stack.
-//! - `src/arithmetic.rt`: the calls of `sp_arithmetic`.
+//! - `src/arithmetic.rt`: the calls of `sp_values`.
 //! - `src/maker.rt`: makes the programs and schedules.
 #![tactic(auto)]
 

@@ -5,7 +5,7 @@ ghost use Rattle.sp_code.specs.Machine.{Stuck, on_two, on_one};
 ghost use Rattle.sp_code.specs.Memory.{memory};
 ghost use Rattle.sp_code.specs.PlainStore.{plain};
 ghost use Rattle.sp_code.specs.declared.instr.Instr.TheVariants as instr;
-ghost use Rattle.sp_arithmetic.specs.Worked.{worked};
+ghost use Rattle.sp_values.specs.Worked.{worked};
 ghost use Rattle.sp_machine.specs.Entries.{entries_of};
 ghost use Rattle.sp_machine.specs.Procs.{compared, does, CameBy, Stays, setting_of, memory_of};
 ghost use Rattle.sp_machine.specs.Conversions.{converted};
@@ -18,6 +18,9 @@ use sp_arithmetic::{
 use sp_base::{Fault, Limits, Memory};
 use sp_code::{Code, Instr};
 use sp_tree::{BinaryOp, UnaryOp};
+use sp_values::{
+    absolute_of, binary, next_of, odd, previous_of, square_of, truth_of, unary, within,
+};
 
 /// An operation on one ordinal.
 #[derive(Clone, Copy)]

@@ -9,21 +9,20 @@ ghost use Rattle.sp_code.specs.Machine.{Stuck, reads, writes, writes_wide};
 ghost use Rattle.sp_code.specs.Memory.{memory, is_held, left_after, position_in, position_at, or_zero, put_cell};
 ghost use Rattle.sp_code.specs.PlainStore.{plain};
 ghost use Rattle.sp_code.specs.declared.instr.Instr.TheVariants as instr;
-ghost use Rattle.sp_items.specs.Taking.{taken_of};
+ghost use Rattle.sp_values.specs.Taking.{taken_of};
 ghost use Rattle.sp_machine.specs.Entries.{entries_of};
 ghost use Rattle.sp_machine.specs.Procs.{does, CameBy, Stays, setting_of, memory_of};
 ghost use Rattle.sp_machine.specs.Texts.{item_in, text_of, is_cut, Emits};
 
 use crate::stack::Operand;
 use crate::state::{Interrupt, State};
-use sp_arithmetic::truth_of;
 use sp_base::{Fault, Limits, Memory, put_signed};
 use sp_cell::{Address, Cell, Spot};
 use sp_code::Code;
-use sp_items::{
-    Taken, byte_of, char_in, cut_to, is_at_line_end, line_length, number_in, truth_text,
-};
 use sp_store::Store;
+use sp_values::{
+    Taken, byte_of, char_in, cut_to, is_at_line_end, line_length, number_in, truth_of, truth_text,
+};
 
 /// What is read.
 #[derive(Clone, Copy)]
