@@ -2,7 +2,7 @@
 
 use crate::made::instructions;
 use sp_base::{Halt, Place, Refusal, Rule};
-use sp_compile::{CompiledText, compiled, compiled_apart};
+use sp_front::{CompiledText, compiled, compiled_apart};
 use std::alloc::Global;
 
 /// A text in which a part is repeated. Where no memory is left a part is missing.

@@ -1,6 +1,6 @@
 //! The length of each form of statement and expression, beside the table of lengths.
 
-use sp_compile::compiled;
+use sp_front::compiled;
 use sp_length::length;
 use std::alloc::Global;
 

@@ -3,7 +3,7 @@
 
 use sp_base::{Halt, Memory};
 use sp_code::listing;
-use sp_compile::{CompiledText, compiled};
+use sp_front::{CompiledText, compiled};
 use std::alloc::Global;
 
 /// Whether the bytes are there, and are these.

@@ -1,7 +1,7 @@
 //! Tests of clocks, and of the verdicts on journals written by hand.
 
 ghost use Rattle.sp_journal.specs.Births.{occurrences, IsNameable};
-ghost use Rattle.sp_past.specs.Prefixes.{IsQuiet};
+ghost use Rattle.sp_judge.specs.Prefixes.{IsQuiet};
 
 use sp_base::{ChanName, Fault, List, Memory, Pair, ProcName};
 use sp_journal::{End, Entry, Event, Journal, Verdict, Way};

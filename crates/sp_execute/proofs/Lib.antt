@@ -5,3 +5,4 @@ pub mod Executing
 pub mod Followed
 pub mod Judged
 pub mod Prefixes
+mod Readiness

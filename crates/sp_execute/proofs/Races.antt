@@ -20,7 +20,7 @@ use Rattle.sp_meaning.specs.Along.{IsAlong, IsClean}
 use Rattle.sp_meaning.specs.Ends.{EndIs, EndsSo}
 use Rattle.sp_meaning.specs.Own.{Setting}
 use Rattle.sp_meaning.specs.Runs.{StateOf}
-use Rattle.sp_past.specs.Prefixes.{IsQuiet}
+use Rattle.sp_judge.specs.Prefixes.{IsQuiet}
 use Rattle.sp_numbered.specs.Journals.{IsWitness}
 use Rattle.sp_witness.specs.Contention.{NeverContends}
 use Rattle.sp_witness.specs.Moved.{IsPlain}

@@ -1,6 +1,13 @@
-//! Laws of journals that are followed, and of races. These functions do nothing: what counts is their contracts.
+//! Laws of programs that are accepted, of journals that are followed, and of races. These functions do nothing: what
+//! counts is their contracts.
 
 ghost use Rattle.std.specs.Prelude.{◌≡◌, ℕ, List};
+ghost use Rattle.sp_base.specs.declared.limits.Limits.{Limits};
+ghost use Rattle.sp_tree.specs.Bare.{bare};
+ghost use Rattle.sp_tree.specs.PlainChecked.{Program as Checked};
+ghost use Rattle.sp_code.specs.Shares.{SetsAre};
+ghost use Rattle.sp_code.specs.Sound.{AreLimits};
+ghost use Rattle.sp_facts.specs.Gives.{IsAccepted};
 ghost use Rattle.sp_journal.specs.declared.entry.Entry.{Entry};
 ghost use Rattle.sp_meaning.specs.Own.{Setting};
 ghost use Rattle.sp_execute.specs.declared.execution.Ran.{Ran as ARan};
@@ -13,6 +20,15 @@ ghost use Rattle.sp_tree.specs.Plain.{Stmt};
 use sp_judge::runs_without_a_fault_are_clean;
 use sp_numbered::{witnesses_are_journals, witnesses_end_in_contention};
 use sp_witness::ordered_runs_never_contend;
+
+/// The program of a text that breaks no rule is ready: where its forks take over and share exactly what the sets of its
+/// statements say, its code runs as it means, on every input with all limits within their types.
+pub fn accepted_programs_are_ready()
+    ensures { (text : List ℕ) (c : Checked) → IsAccepted text c → (moves shares : Stmt → List ℕ)
+        → SetsAre (bare c) moves shares
+        → (input : List ℕ) (lim : Limits) → AreLimits lim
+        → IsReady (record { program = bare c; input = input; limits = lim }) moves shares }
+{}
 
 /// A journal along which the meaning is defined is unfit at no entry, and any other one at one entry alone.
 pub fn one_unfit_entry()

@@ -18,6 +18,9 @@
 //!   `Replayed`, `ReplayError`: those of `sp_replay`.
 //!
 //! Laws:
+//! - `accepted_programs_are_ready`: the program of a text that breaks no rule is ready (`IsReady` of `sp_link`), on every
+//!   input with all limits within their types, where its forks take over and share exactly what its statements' sets
+//!   say.
 //! - `one_unfit_entry`: a journal along which the meaning is defined is unfit at no entry, and any other one at one
 //!   entry alone.
 //! - `races_are_shown`: along the witness of a run's race the meaning is defined, to the fault F6 of the later offer;
@@ -37,6 +40,8 @@
 //!   the code.
 //!
 //! To change:
+//! - What is asked of a program: `specs/Premises.antt` of `sp_link`, and a line in `accepted_ready` of
+//!   `proofs/Readiness.antt`.
 //! - What is promised of a run: `Executes`, and `executed` of `proofs/Executing.antt`.
 //! - An end: its clause in `same_end` of `proofs/Concluding.antt`.
 #![tactic(auto)]
@@ -52,7 +57,7 @@ mod witnessing;
 pub use conclusion::{Concluded, conclude};
 pub use execution::{Ran, execute};
 pub use following::follow;
-pub use law::{one_unfit_entry, races_are_shown};
+pub use law::{accepted_programs_are_ready, one_unfit_entry, races_are_shown};
 pub use machine::run_code;
 pub use sp_replay::{ReplayError, Replayed};
 pub use verdict::judge;

@@ -1,6 +1,6 @@
 -- None of this belongs to what the program promises: it is for contracts between crates.
 -- What the phases of names and types give of the tree of a program that breaks no rule. The laws of this crate promise
--- it, and `sp_ready` makes of it all that the code asks for.
+-- it, and `sp_execute` makes of it all that the code asks for.
 use Rattle.std.specs.Prelude.{◌≡◌, ℕ, suc, ◌≤◌, List, Some, Ok, slice_get}
 use Rattle.sp_tree.specs.declared.checked.Role.TheVariants as role
 use Rattle.sp_tree.specs.Cells.{variables_of}

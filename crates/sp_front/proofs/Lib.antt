@@ -6,3 +6,5 @@ pub mod Numbered
 pub mod OneAnswer
 pub mod OwnNumbers
 pub mod Phasing
+mod Crossing
+pub mod Ending

@@ -10,10 +10,12 @@ ghost use Rattle.sp_meaning.specs.Own.{Setting};
 ghost use Rattle.sp_meaning.specs.Runs.{IsDisjointRun};
 ghost use Rattle.sp_types.specs.StatementNumbers.{AllDiffer, blocks_numbers};
 ghost use Rattle.sp_varsets.specs.AreSets.{HaveEarlierParents, HaveOwnNumbers};
+ghost use Rattle.sp_front.specs.Codes.{HasListing};
 ghost use Rattle.sp_front.specs.Checks.{BreaksFirst, IsChecked, IsProgramOf, KeepsRules};
 ghost use Rattle.sp_front.specs.Compiles.{BreaksAnyFirst, IsAccepted};
 
 use sp_facts::laws::{accepted_trees_are_fine, names_number_the_tree};
+use sp_generate::one_code;
 use sp_grammar::{one_verdict, some_verdict};
 use sp_meaning::rule_keepers_are_disjoint;
 use sp_scan::first_breach;
@@ -67,4 +69,12 @@ pub fn accepted_texts_are_disjoint()
 {
     accepted_trees_are_fine();
     rule_keepers_are_disjoint();
+}
+
+/// The code of a text has one listing.
+pub fn one_listing()
+    ensures { (text a b : List ℕ) → HasListing text a → HasListing text b → a ≡ b }
+{
+    one_answer();
+    one_code();
 }

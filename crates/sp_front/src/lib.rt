@@ -1,5 +1,5 @@
-//! The phases together: from the bytes of a text to its tree, its checked tree and its sets, or the first rule that it
-//! breaks.
+//! The phases together: from the bytes of a text to its tree, its checked tree, its sets and its code, or the first rule
+//! that it breaks.
 //!
 //! Calls:
 //! - `read_text`: exactly the tree of a text, or the first rule of its characters and its grammar that it breaks.
@@ -11,6 +11,12 @@
 //! - `compile`: the `Accepted` of a text that breaks no rule, or the first rule of all phases that it breaks. The
 //!   tree's program is that of the text, free of interference, and disjoint in every lawful schedule.
 //! - `Accepted`: `checked` is its checked tree, `sets` the sets of the tree.
+//! - `compiled`: of a text that breaks no rule its tree, its sets and its code (`CompiledText`); else the first rule
+//!   that it breaks, with its place; or want of memory. The rules are those of `compile`, and after them L5, the length
+//!   of the code.
+//! - `compiled_apart`: the same, on a thread with a stack for the longest text. Where no thread can be made it answers
+//!   want of memory.
+//! - `CompiledText`: `checked`, `sets`, `code` are the tree, its sets, its code; `into_code` is the code alone.
 //!
 //! Laws:
 //! - `one_answer`: a text has at most one first broken rule up to types, one checked tree and one program, and never a
@@ -23,28 +29,33 @@
 //!   one number are one.
 //! - `accepted_texts_are_disjoint`: on no input, with no limits and in no lawful schedule does a process of an
 //!   accepted text write what a parallel one reads or writes.
+//! - `one_listing`: the code of a text has one listing.
 //!
 //! To know:
 //! - `src/reader.rt` has characters and grammar, `src/phases.rt` goes on up to types, `src/compiling.rt` to sets and
-//!   interference. `specs/Texts.antt`, `Checks.antt` and `Compiles.antt` say what each of them answers.
+//!   interference, `src/to_code.rt` to code. `specs/Texts.antt`, `Checks.antt`, `Compiles.antt` and `Codes.antt` say what
+//!   each of them answers; `Codes.antt` says what the listing of a text is, too.
 //! - Each call may answer want of memory too.
-//! - `typed`, `analyse` and `compile` recurse as deep as the longest chain of operators is long. Of these `analyse`
-//!   has a call here that brings the stack for it; who calls the others has to.
+//! - `typed`, `analyse`, `compile` and `compiled` recurse as deep as the longest chain of operators is long. For
+//!   `analyse` and `compiled` there is a call that brings the stack for it; who calls the others has to.
 //! - `IsProgramOf` of `specs/Checks.antt` is the program of a text.
 //!
 //! To change:
-//! - A further phase: `src/compiling.rt`, its outcome in `specs/Compiles.antt`, its line in `proofs/Accepting.antt`.
+//! - A further phase: `src/compiling.rt`, its outcome in `specs/Compiles.antt`, its line in `proofs/Accepting.antt`; one
+//!   after the code: `src/to_code.rt` with `CompiledText`, and `IsCompiled` of `specs/Codes.antt`.
 #![tactic(auto)]
 
 mod compiling;
 mod law;
 mod phases;
 mod reader;
+mod to_code;
 
 pub use compiling::{Accepted, analyse, analyse_apart, compile};
 pub use law::{
-    accepted_texts_are_disjoint, numbered_trees, numbers_differ, one_answer, one_compilation,
+    accepted_texts_are_disjoint, numbered_trees, numbers_differ, one_answer, one_compilation, one_listing,
     some_answer,
 };
 pub use phases::typed;
 pub use reader::read_text;
+pub use to_code::{CompiledText, compiled, compiled_apart};

@@ -13,7 +13,7 @@ use Rattle.sp_journal.specs.Births.{NameableFrom, happening, occurrence}
 use Rattle.sp_journal.specs.Past.{Judged, judged, judged_by, judged_from, nothing_judged, met_now}
 use Rattle.sp_journal.proofs.Walk.{any_entry, births_parts}
 use Rattle.sp_journal.proofs.BirthLaws.{births_last}
-use Rattle.sp_past.specs.Prefixes.{IsQuiet, QuietFrom, WaitsForNone}
+use Rattle.sp_judge.specs.Prefixes.{IsQuiet, QuietFrom, WaitsForNone}
 use Rattle.sp_judge.specs.Counts.{counted_by, counts_from, counts}
 use Rattle.sp_judge.specs.Bench.{named}
 use Rattle.sp_judge.proofs.Numbers.{Stays, stays, same_process}

@@ -10,7 +10,7 @@ use Rattle.sp_journal.specs.Names.{chan_name, Offered}
 use Rattle.sp_journal.specs.Births.{Births, births, channel, happening, occurrence, occurrences, IsNameable}
 use Rattle.sp_journal.specs.Past.{judged, AreOrdered}
 use Rattle.sp_journal.proofs.BirthLaws.{Lawful, lawful}
-use Rattle.sp_past.specs.Prefixes.{IsQuiet}
+use Rattle.sp_judge.specs.Prefixes.{IsQuiet}
 use Rattle.sp_race.specs.Known.{KnowsOffers, AreKnown}
 use Rattle.sp_race.proofs.Completion.{known_ordered, ordered_known}
 use Rattle.sp_judge.specs.declared.bench.Bench.{Bench}

@@ -1,3 +1,5 @@
+mod Keys
+pub mod Prefixing
 mod ClockLaws
 mod Tallies
 mod Standing

@@ -12,8 +12,8 @@ use Rattle.sp_journal.specs.Names.{Name, Channel, same_name, same_channel, Offer
 use Rattle.sp_journal.specs.Births.{Births, at_start, births, channel, NameableFrom, happening, occurrence}
 use Rattle.sp_journal.specs.Past.{Judged, judged, judged_by, met_now}
 use Rattle.sp_journal.proofs.BirthLaws.{Lawful}
-use Rattle.sp_past.specs.Prefixes.{IsQuiet}
-use Rattle.sp_past.proofs.Keys.{channel_itself, channel_is}
+use Rattle.sp_judge.specs.Prefixes.{IsQuiet}
+use Rattle.sp_judge.proofs.Keys.{channel_itself, channel_is}
 use Rattle.sp_judge.specs.declared.bench.Offer.{Offer}
 use Rattle.sp_judge.specs.declared.bench.Line.{Line}
 use Rattle.sp_judge.specs.declared.bench.Bench.{Bench}

@@ -21,7 +21,7 @@ use Rattle.sp_meaning.proofs.Frames.{IsOn, all_in, pending_frame}
 use Rattle.sp_meaning.proofs.Status.{waits_stands, working_stands}
 use Rattle.sp_meaning.proofs.Sound.{step_sound}
 use Rattle.sp_race.proofs.GoodSteps.{sound_opening}
-use Rattle.sp_past.specs.Prefixes.{WaitsForNone, QuietFrom, IsQuiet}
+use Rattle.sp_judge.specs.Prefixes.{WaitsForNone, QuietFrom, IsQuiet}
 
 -- the process of a pending offer
 abbrev pub offerer : Option (Name × ℕ) → Option Name

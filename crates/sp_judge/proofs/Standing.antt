@@ -3,8 +3,8 @@ use Rattle.std.proofs.Common.{◌≡◌, ℕ, suc, nat_lt, List, [], ◌∷◌, 
 use Rattle.std.proofs.Common.{sym, subst, arith}
 use Rattle.sp_journal.specs.Names.{Name, Happening, Occurrence}
 use Rattle.sp_journal.specs.Past.{Judged, judged_by, judged_from, judged, nothing_judged}
-use Rattle.sp_past.specs.Prefixes.{QuietFrom, IsQuiet, WaitsForNone}
-use Rattle.sp_past.proofs.Prefixing.{Kept, one_entry, nothing_kept}
+use Rattle.sp_judge.specs.Prefixes.{QuietFrom, IsQuiet, WaitsForNone}
+use Rattle.sp_judge.proofs.Prefixing.{Kept, one_entry, nothing_kept}
 use Rattle.sp_race.proofs.Completion.{Paired, judged_paired, nothing_paired, Rounded, judged_rounded, nothing_rounded}
 use Rattle.sp_judge.specs.Counts.{PlaceOf, counted_by, counts_from, counts}
 use Rattle.sp_judge.proofs.Tallies.{Says, one_more, nothing_said}

@@ -15,7 +15,7 @@ use Rattle.sp_journal.specs.Names.{Name, Channel, Offered, Ended}
 use Rattle.sp_journal.specs.Births.{Births, births, channel, after_event, after_entry, happening}
 use Rattle.sp_journal.specs.Past.{judged, judged_by}
 use Rattle.sp_journal.proofs.BirthLaws.{Lawful, lawful, parent_older}
-use Rattle.sp_past.specs.Prefixes.{is_counted}
+use Rattle.sp_judge.specs.Prefixes.{is_counted}
 use Rattle.sp_race.specs.Known.{KnowsOffers, AreKnown}
 use Rattle.sp_judge.specs.declared.clock.Clock.{Clock}
 use Rattle.sp_judge.specs.declared.bench.Offer.{Offer}

@@ -15,7 +15,7 @@ use Rattle.sp_journal.specs.Births.{Births, at_start, births, channel, GivesNumb
 use Rattle.sp_journal.specs.Births.{occurrence}
 use Rattle.sp_journal.specs.Past.{Judged, judged, judged_by, judged_from, nothing_judged}
 use Rattle.sp_journal.proofs.BirthLaws.{Lawful}
-use Rattle.sp_past.specs.Prefixes.{IsQuiet}
+use Rattle.sp_judge.specs.Prefixes.{IsQuiet}
 use Rattle.sp_race.specs.Known.{KnowsOffers, KnownFrom, AreKnown}
 use Rattle.sp_race.proofs.Completion.{Paired, judged_paired, nothing_paired}
 use Rattle.sp_judge.specs.declared.bench.Offer.{Offer}

@@ -9,7 +9,7 @@ use Rattle.sp_journal.specs.declared.entry.Way.{Way}
 use Rattle.sp_journal.specs.declared.entry.Way.TheVariants as way
 use Rattle.sp_journal.specs.Names.{Name, Channel, Offered, Occurrence}
 use Rattle.sp_journal.specs.Births.{Births, at_start, births, channel, happening, occurrence, NameableFrom}
-use Rattle.sp_past.specs.Prefixes.{IsQuiet}
+use Rattle.sp_judge.specs.Prefixes.{IsQuiet}
 use Rattle.sp_journal.specs.Past.{judged}
 use Rattle.sp_race.specs.Known.{KnowsOffers}
 use Rattle.sp_judge.specs.declared.bench.Offer.{Offer}

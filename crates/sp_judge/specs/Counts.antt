@@ -6,7 +6,7 @@ use Rattle.std.specs.Prelude.{None, slice_get}
 use Rattle.sp_journal.specs.Names.{Name, same_name, Happening, Opened, Forked, Offered, Ended, Faulted, Laid, Paused}
 use Rattle.sp_journal.specs.Names.{Occurrence}
 use Rattle.sp_journal.specs.Past.{Judged, judged_by, nothing_judged}
-use Rattle.sp_past.specs.Prefixes.{is_counted}
+use Rattle.sp_judge.specs.Prefixes.{is_counted}
 
 -- how many counted entries of a process these are
 abbrev pub made : List Occurrence → Name → ℕ

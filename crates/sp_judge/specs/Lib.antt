@@ -1,5 +1,6 @@
 pub mod Bench
 pub mod Clocks
 pub mod Counts
+pub mod Prefixes
 pub mod Races
 pub mod Runs

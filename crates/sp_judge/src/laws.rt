@@ -11,10 +11,18 @@ ghost use Rattle.sp_meaning.specs.Own.{Setting};
 ghost use Rattle.sp_meaning.specs.Runs.{StateOf};
 ghost use Rattle.sp_meaning.specs.Along.{IsAlong, IsClean};
 ghost use Rattle.sp_meaning.specs.Ends.{EndIs};
-ghost use Rattle.sp_past.specs.Prefixes.{IsQuiet};
+ghost use Rattle.sp_judge.specs.Prefixes.{IsQuiet, KnowsCounted, KnowsPrefixes};
 ghost use Rattle.sp_judge.specs.Counts.{PlaceOf, counts};
 ghost use Rattle.sp_judge.specs.Races.{IsFault, IsVerdict};
 ghost use Rattle.sp_judge.specs.Runs.{IsRunVerdict};
+
+/// In every journal in which no process makes an entry while its own offer waits, a process that knows a counted entry of
+/// another one knows all earlier counted entries of that one, and it knows counted entries alone. Fork, open, send,
+/// receive and end are counted.
+pub fn knows_prefixes()
+    ensures prefixes { (es : List Occurrence) → IsQuiet es → KnowsPrefixes es }
+    ensures counted { (es : List Occurrence) → IsQuiet es → KnowsCounted es }
+{}
 
 /// After every journal in which no process makes an entry while its own offer waits, the clocks say what each process
 /// knows: the counted entry of a process with k counted ones of it before is known exactly where the count is above k.

@@ -7,6 +7,9 @@
 //!   counts, or leave all as they were; `knows` says whether the count is above a place.
 //!
 //! Laws:
+//! - `knows_prefixes`: where no process makes an entry while its own offer waits, who knows a counted entry of a process
+//!   knows all earlier counted ones of that process, and only counted entries are known. So a count for each known
+//!   process says all that a process knows.
 //! - `clocks_say_what_is_known`: where no process makes an entry while its own offer waits, a counted entry is known
 //!   exactly where the count of its process is above the number of that one's counted entries before it.
 //! - `runs_are_quiet`: in every run along a journal no process makes an entry while its own offer waits.
@@ -16,6 +19,8 @@
 //!   ordered, every lawful schedule ends as the run does; else it says what it says of the journal.
 //!
 //! To know:
+//! - Fork, open, send, receive and end are counted; a fault, a laid process and a pause are not
+//!   (`specs/Prefixes.antt`). `proofs/Prefixing.antt` keeps `knows_prefixes` from entry to entry.
 //! - The tables (`src/bench.rt`) have a clock and a count of counted entries for each process, a line for each
 //!   channel (the offer that waits, the last offer of each way) and a place for each entry.
 //! - An offer is in order exactly where its process knows the last earlier offer of its way on its channel: while all
@@ -29,6 +34,7 @@
 //!   `proofs/RunVerdicts.antt`.
 //!
 //! To change:
+//! - What an entry teaches: `sp_journal`'s `specs/Past.antt`, and `one_entry` in `proofs/Prefixing.antt`.
 //! - A clock: `src/clock.rt`.
 //! - The work of an entry: `src/bench.rt`.
 //! - The verdict: `specs/Races.antt`, `src/verdict.rt`.
@@ -43,7 +49,7 @@ mod verdict;
 
 pub use clock::Clock;
 pub use laws::{
-    clocks_say_what_is_known, runs_are_quiet, runs_without_a_fault_are_clean, verdicts_are_exact,
+    clocks_say_what_is_known, knows_prefixes, runs_are_quiet, runs_without_a_fault_are_clean, verdicts_are_exact,
     verdicts_hold_of_runs,
 };
 pub use verdict::verdict_of;

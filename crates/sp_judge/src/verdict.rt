@@ -5,7 +5,7 @@ ghost use Rattle.sp_journal.specs.Births.{births, occurrences, IsNameable, chann
 ghost use Rattle.sp_journal.specs.Ledger.{IsLedger};
 ghost use Rattle.sp_journal.specs.Names.{Offered};
 ghost use Rattle.sp_journal.specs.Past.{judged};
-ghost use Rattle.sp_past.specs.Prefixes.{IsQuiet};
+ghost use Rattle.sp_judge.specs.Prefixes.{IsQuiet};
 ghost use Rattle.sp_race.specs.Known.{KnowsOffers, AreKnown};
 ghost use Rattle.sp_judge.specs.Bench.{named, offer_event, IsTame, Holds, IsRacing};
 ghost use Rattle.sp_judge.specs.Races.{IsFault, IsJudged, IsVerdict};

@@ -1,6 +1,6 @@
 -- Some of this belongs to what the program promises (docs/promise.txt).
 -- What is asked of a program, of the sets of its forks and of the limits, so that its code runs as the program means.
--- The laws of this crate require it, and `sp_ready` shows it of every accepted text.
+-- The laws of this crate require it, and `sp_execute` shows it of every accepted text.
 use Rattle.std.specs.Prelude.{◌≡◌, ℕ, List, Some, slice_get}
 use Rattle.sp_tree.specs.declared.checked.Role.TheVariants as role
 use Rattle.sp_tree.specs.Formed.{IsFormed}

@@ -12,7 +12,7 @@ use Rattle.sp_journal.specs.Births.{Births, at_start, after_entry, births, chann
 use Rattle.sp_journal.specs.Births.{NameableFrom, happening, occurrence, occurrences_from}
 use Rattle.sp_journal.proofs.BirthLaws.{Lawful, lawful_start, lawful_after}
 use Rattle.sp_meaning.specs.Along.{IsClean}
-use Rattle.sp_past.specs.Prefixes.{IsQuiet}
+use Rattle.sp_judge.specs.Prefixes.{IsQuiet}
 use Rattle.sp_judge.proofs.Numbers.{same_process, same_chan, all_named}
 use Rattle.sp_witness.specs.Witness.{first_part}
 use Rattle.sp_witness.specs.Numbered.{process_number, channel_number, event_of, numbered_entry, numbered_from, numbered}

@@ -13,8 +13,8 @@ use Rattle.sp_journal.specs.Names.{Name, Occurrence}
 use Rattle.sp_journal.specs.Births.{Births, at_start, after_entry, births, IsNameable, occurrence, occurrences}
 use Rattle.sp_journal.specs.Past.{Judged, judged_by, nothing_judged}
 use Rattle.sp_meaning.specs.Along.{IsClean}
-use Rattle.sp_past.specs.Prefixes.{QuietFrom, IsQuiet}
-use Rattle.sp_past.proofs.Prefixing.{nothing_kept}
+use Rattle.sp_judge.specs.Prefixes.{QuietFrom, IsQuiet}
+use Rattle.sp_judge.proofs.Prefixing.{nothing_kept}
 use Rattle.sp_judge.proofs.Numbers.{all_named}
 use Rattle.sp_witness.specs.Witness.{witness, is_member, is_among}
 use Rattle.sp_witness.specs.Numbered.{witness_journal}

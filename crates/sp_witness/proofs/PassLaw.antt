@@ -5,7 +5,7 @@ use Rattle.std.proofs.lemmas.List.{take-append-drop}
 use Rattle.sp_journal.specs.Names.{Occurrence}
 use Rattle.sp_journal.specs.Past.{nothing_judged}
 use Rattle.sp_meaning.specs.Along.{IsClean}
-use Rattle.sp_past.specs.Prefixes.{QuietFrom, IsQuiet}
+use Rattle.sp_judge.specs.Prefixes.{QuietFrom, IsQuiet}
 use Rattle.sp_witness.specs.Witness.{who_at, past_before, members, first_part}
 use Rattle.sp_witness.specs.Needed.{taken, pass}
 use Rattle.sp_witness.proofs.Standing.{nothing_stands, stands_from}

@@ -8,7 +8,7 @@ use Rattle.sp_journal.specs.Past.{Judged, judged}
 use Rattle.sp_meaning.specs.Own.{Setting}
 use Rattle.sp_meaning.specs.Runs.{StateOf, IsDisjointRun}
 use Rattle.sp_meaning.specs.Along.{IsAlong, IsClean}
-use Rattle.sp_past.specs.Prefixes.{IsQuiet}
+use Rattle.sp_judge.specs.Prefixes.{IsQuiet}
 use Rattle.sp_judge.specs.Races.{KnowsCompletion, IsLeastRace}
 use Rattle.sp_witness.specs.Contention.{Shows}
 use Rattle.sp_witness.proofs.Order.{known_front}

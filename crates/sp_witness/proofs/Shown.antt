@@ -18,8 +18,8 @@ use Rattle.sp_meaning.specs.Along.{ticks_of, no_course, Along, IsAlong, IsClean}
 use Rattle.sp_meaning.proofs.Maps.{differs}
 use Rattle.sp_meaning.proofs.Keys.{name_test}
 use Rattle.sp_meaning.proofs.Journeys.{quiet_step}
-use Rattle.sp_past.specs.Prefixes.{QuietFrom, IsQuiet}
-use Rattle.sp_past.proofs.Prefixing.{nothing_kept}
+use Rattle.sp_judge.specs.Prefixes.{QuietFrom, IsQuiet}
+use Rattle.sp_judge.proofs.Prefixing.{nothing_kept}
 use Rattle.sp_race.specs.Notes.{Event, no_notes, mine}
 use Rattle.sp_race.specs.Noting.{WithNotes}
 use Rattle.sp_race.specs.Known.{AreKnown}

@@ -3,8 +3,8 @@ use Rattle.std.proofs.Common.{◌≡◌, ℕ, suc, ◌+◌, List, [], ◌∷◌,
 use Rattle.std.proofs.Common.{arith}
 use Rattle.sp_journal.specs.Names.{Occurrence}
 use Rattle.sp_journal.specs.Past.{Judged, judged_by, judged_from, nothing_judged}
-use Rattle.sp_past.specs.Prefixes.{WaitsForNone, QuietFrom}
-use Rattle.sp_past.proofs.Prefixing.{Kept, one_entry, nothing_kept}
+use Rattle.sp_judge.specs.Prefixes.{WaitsForNone, QuietFrom}
+use Rattle.sp_judge.proofs.Prefixing.{Kept, one_entry, nothing_kept}
 use Rattle.sp_race.proofs.Linking.{grown_size}
 use Rattle.sp_race.proofs.Completion.{Paired, judged_paired, nothing_paired, Rounded, judged_rounded, nothing_rounded}
 

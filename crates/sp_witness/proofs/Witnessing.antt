@@ -10,7 +10,7 @@ use Rattle.sp_meaning.specs.SuperPascal.{superpascal}
 use Rattle.sp_meaning.specs.Entries.{Happening, Opened, Forked, Offered, Faulted, Laid, Paused, Occurrence}
 use Rattle.sp_journal.specs.Names as happenings
 use Rattle.sp_meaning.specs.Along.{IsClean}
-use Rattle.sp_past.specs.Prefixes.{QuietFrom}
+use Rattle.sp_judge.specs.Prefixes.{QuietFrom}
 use Rattle.sp_race.specs.Notes.{Event, mine}
 use Rattle.sp_race.specs.Noting.{WithNotes}
 use Rattle.sp_witness.specs.Witness.{is_pause}

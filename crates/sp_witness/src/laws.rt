@@ -18,7 +18,7 @@ ghost use Rattle.sp_meaning.specs.Own.{Setting};
 ghost use Rattle.sp_meaning.specs.Runs.{StateOf};
 ghost use Rattle.sp_meaning.specs.Along.{IsAlong, IsClean};
 ghost use Rattle.sp_meaning.specs.Ends.{EndIs};
-ghost use Rattle.sp_past.specs.Prefixes.{IsQuiet};
+ghost use Rattle.sp_judge.specs.Prefixes.{IsQuiet};
 ghost use Rattle.sp_judge.specs.Races.{IsFault, IsLeastRace, IsVerdict, Race};
 ghost use Rattle.sp_witness.specs.Witness.{first_part, witness};
 ghost use Rattle.sp_witness.specs.Contention.{NeverContends, Shows};

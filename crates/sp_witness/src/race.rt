@@ -2,7 +2,7 @@
 
 ghost use Rattle.std.specs.Prelude.{◌≡◌, ◌<◌, IfOk, IfSome, length, slice_get};
 ghost use Rattle.sp_journal.specs.Births.{occurrences, IsNameable};
-ghost use Rattle.sp_past.specs.Prefixes.{IsQuiet};
+ghost use Rattle.sp_judge.specs.Prefixes.{IsQuiet};
 ghost use Rattle.sp_meaning.specs.Along.{IsClean};
 ghost use Rattle.sp_witness.specs.Witness.{witness as shown};
 ghost use Rattle.sp_witness.specs.Numbered.{witness_journal};

@@ -8,7 +8,7 @@ use Rattle.sp_base.specs.declared.limits.Limits.{Limits}
 use Rattle.sp_code.specs.Lengths.{tree_length}
 use Rattle.sp_code.specs.declared.code.Parts.{Parts}
 use Rattle.sp_codefile.specs.CodeText.{IsTextOf}
-use Rattle.sp_compile.specs.Codes.{BreaksLength, HasListing}
+use Rattle.sp_front.specs.Codes.{BreaksLength, HasListing}
 use Rattle.sp_format.specs.Formats.{HasLayout, HasNoLayout}
 use Rattle.sp_front.specs.Checks.{BreaksFirst, IsChecked, IsProgramOf}
 use Rattle.sp_front.specs.Compiles.{BreaksAnyFirst, IsAccepted}

@@ -55,7 +55,7 @@
 //!   `specs/Texts.antt`; its function in `src/texts.rt`, `src/runs.rt`, `src/replays.rt` or `src/executions.rt`, its
 //!   arm in `src/top.rt`.
 //! - What is told of a run: `run_notes` of `specs/Runs.antt`, `src/notes.rt`.
-//! - A phase over the text: `sp_front`, `sp_compile`.
+//! - A phase over the text: `sp_front`.
 #![tactic(auto)]
 
 mod answers;

@@ -24,7 +24,7 @@ use crate::telling::Telling;
 use crate::texts::{build, check, lay_out, list, one_code_text, tell_sets};
 use crate::writing::write;
 use sp_codefile::laws::a_text_is_of_one_code;
-use sp_compile::one_listing;
+use sp_front::one_listing;
 use sp_execute::one_unfit_entry;
 use sp_format::one_layout;
 use sp_front::{accepted_texts_are_disjoint, one_answer, one_compilation};

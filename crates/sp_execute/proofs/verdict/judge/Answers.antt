@@ -4,7 +4,7 @@ use Rattle.sp_journal.specs.declared.entry.Journal.{Journal}
 use Rattle.sp_journal.specs.declared.outcome.End.{End}
 use Rattle.sp_journal.specs.Births.{occurrences}
 use Rattle.sp_meaning.specs.Own.{Setting}
-use Rattle.sp_past.specs.Prefixes.{IsQuiet}
+use Rattle.sp_judge.specs.Prefixes.{IsQuiet}
 use Rattle.sp_tree.specs.Interference.{IsFreeOfInterference}
 use Rattle.sp_judge.specs.Races.{IsVerdict}
 use Rattle.sp_execute.specs.Runs.{IsAbout, Promises}

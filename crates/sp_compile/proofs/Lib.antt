@@ -1,2 +1,0 @@
-mod Crossing
-pub mod Ending

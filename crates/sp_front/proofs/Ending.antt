@@ -1,0 +1,35 @@
+-- What the generator's answer is for the compilation: code, the refusal L5, or want of memory.
+use Rattle.std.proofs.Common.{◌≡◌, inr, ℕ, List, Result, Ok, Err, refl, sym, subst}
+use Rattle.sp_base.specs.declared.halt.Halt.{Halt}
+use Rattle.sp_tree.specs.declared.checked.Checked.{Checked}
+use Rattle.sp_tree.specs.CheckedOf.{program_of}
+use Rattle.sp_tree.specs.PlainChecked as c
+use Rattle.sp_varsets.specs.declared.sets.Sets.{Sets}
+use Rattle.sp_varsets.specs.AreSets.{AreSets}
+use Rattle.sp_code.specs.declared.code.Parts.{Parts}
+use Rattle.sp_front.specs.declared.compiling.Accepted.{Accepted}
+use Rattle.sp_front.specs.Compiles.{IsAccepted}
+use Rattle.sp_generate.specs.declared.program.GenError.{GenError}
+use Rattle.sp_generate.specs.declared.program.GenError.TheVariants as gen
+use Rattle.sp_generate.specs.Generated.{Answered}
+use Rattle.sp_front.specs.Codes.{Codes, IsCompiled, halt_of}
+
+-- of a tree and sets that are the same
+pub same_sets : (a b : Checked) (s t : Sets) → a ≡ b → s ≡ t → AreSets (program_of b) t → AreSets (program_of a) s
+same_sets a b s t e f h = subst (λ (z : Checked × Sets). AreSets (program_of z.0) z.1) (λ i. (sym e i, sym f i)) h
+
+pub same_answer : (a b : Checked) (r : Result Parts GenError) → a ≡ b → Answered (program_of a) r
+    → Answered (program_of b) r
+same_answer a b r e h = subst (λ (z : Checked). Answered (program_of z) r) e h
+
+-- code, and none
+pub made : (text : List ℕ) (a : Accepted) (code : Parts) → IsAccepted text (program_of a.checked)
+    → AreSets (program_of a.checked) a.sets → Answered (program_of a.checked) (Ok code)
+    → IsCompiled text (record { accepted = a; code = code })
+made text a code accepted sets h = record { accepted = accepted; sets = sets; short = h.0; code = h.1 }
+
+pub stopped : (text : List ℕ) (p : c.Program) (e : GenError) (halt : Halt) → IsAccepted text p → Answered p (Err e)
+    → halt ≡ halt_of e → Codes text (Err halt)
+stopped text p (gen.TooLong n) halt accepted h e =
+    subst (λ (z : Halt). Codes text (Err z)) (sym e) (inr (p, accepted, h.0, refl))
+stopped text p gen.Memory halt accepted h e = subst (λ (z : Halt). Codes text (Err z)) (sym e) tt

@@ -1,5 +1,0 @@
-use Rattle.sp_ready.proofs.Readiness.{accepted_ready}
-use Rattle.sp_ready.proofs.laws.accepted_programs_are_ready.Goals as goal
-
-pub returns : goal.returns
-returns c = λ text p a moves shares sets input lim l. accepted_ready text p a moves shares sets input lim l
