@@ -18,9 +18,9 @@
 //!   `Replayed`, `ReplayError`: those of `sp_replay`.
 //!
 //! Laws:
-//! - `accepted_programs_are_ready`: the program of a text that breaks no rule is ready (`IsReady` of `sp_link`), on every
-//!   input with all limits within their types, where its forks take over and share exactly what its statements' sets
-//!   say.
+//! - `accepted_programs_are_ready`: the program of a text that breaks no rule is ready (`IsReady` of `sp_link`), on
+//!   every input with all limits within their types, where its forks take over and share exactly what its statements'
+//!   sets say.
 //! - `one_unfit_entry`: a journal along which the meaning is defined is unfit at no entry, and any other one at one
 //!   entry alone.
 //! - `races_are_shown`: along the witness of a run's race the meaning is defined, to the fault F6 of the later offer;

@@ -1,5 +1,5 @@
-//! The phases together: from the bytes of a text to its tree, its checked tree, its sets and its code, or the first rule
-//! that it breaks.
+//! The phases together: from the bytes of a text to its tree, its checked tree, its sets and its code, or the first
+//! rule that it breaks.
 //!
 //! Calls:
 //! - `read_text`: exactly the tree of a text, or the first rule of its characters and its grammar that it breaks.
@@ -33,16 +33,16 @@
 //!
 //! To know:
 //! - `src/reader.rt` has characters and grammar, `src/phases.rt` goes on up to types, `src/compiling.rt` to sets and
-//!   interference, `src/to_code.rt` to code. `specs/Texts.antt`, `Checks.antt`, `Compiles.antt` and `Codes.antt` say what
-//!   each of them answers; `Codes.antt` says what the listing of a text is, too.
+//!   interference, `src/to_code.rt` to code. `specs/Texts.antt`, `Checks.antt`, `Compiles.antt` and `Codes.antt` say
+//!   what each of them answers; `Codes.antt` says what the listing of a text is, too.
 //! - Each call may answer want of memory too.
 //! - `typed`, `analyse`, `compile` and `compiled` recurse as deep as the longest chain of operators is long. For
 //!   `analyse` and `compiled` there is a call that brings the stack for it; who calls the others has to.
 //! - `IsProgramOf` of `specs/Checks.antt` is the program of a text.
 //!
 //! To change:
-//! - A further phase: `src/compiling.rt`, its outcome in `specs/Compiles.antt`, its line in `proofs/Accepting.antt`; one
-//!   after the code: `src/to_code.rt` with `CompiledText`, and `IsCompiled` of `specs/Codes.antt`.
+//! - A further phase: `src/compiling.rt`, its outcome in `specs/Compiles.antt`, its line in `proofs/Accepting.antt`;
+//!   one after the code: `src/to_code.rt` with `CompiledText`, and `IsCompiled` of `specs/Codes.antt`.
 #![tactic(auto)]
 
 mod compiling;
@@ -53,8 +53,8 @@ mod to_code;
 
 pub use compiling::{Accepted, analyse, analyse_apart, compile};
 pub use law::{
-    accepted_texts_are_disjoint, numbered_trees, numbers_differ, one_answer, one_compilation, one_listing,
-    some_answer,
+    accepted_texts_are_disjoint, numbered_trees, numbers_differ, one_answer, one_compilation,
+    one_listing, some_answer,
 };
 pub use phases::typed;
 pub use reader::read_text;

@@ -16,9 +16,9 @@ ghost use Rattle.sp_judge.specs.Counts.{PlaceOf, counts};
 ghost use Rattle.sp_judge.specs.Races.{IsFault, IsVerdict};
 ghost use Rattle.sp_judge.specs.Runs.{IsRunVerdict};
 
-/// In every journal in which no process makes an entry while its own offer waits, a process that knows a counted entry of
-/// another one knows all earlier counted entries of that one, and it knows counted entries alone. Fork, open, send,
-/// receive and end are counted.
+/// In every journal in which no process makes an entry while its own offer waits, a process that knows a counted
+/// entry of another one knows all earlier counted entries of that one, and it knows counted entries alone. Fork,
+/// open, send, receive and end are counted.
 pub fn knows_prefixes()
     ensures prefixes { (es : List Occurrence) → IsQuiet es → KnowsPrefixes es }
     ensures counted { (es : List Occurrence) → IsQuiet es → KnowsCounted es }

@@ -7,9 +7,9 @@
 //!   counts, or leave all as they were; `knows` says whether the count is above a place.
 //!
 //! Laws:
-//! - `knows_prefixes`: where no process makes an entry while its own offer waits, who knows a counted entry of a process
-//!   knows all earlier counted ones of that process, and only counted entries are known. So a count for each known
-//!   process says all that a process knows.
+//! - `knows_prefixes`: where no process makes an entry while its own offer waits, who knows a counted entry of a
+//!   process knows all earlier counted ones of that process, and only counted entries are known. So a count for each
+//!   known process says all that a process knows.
 //! - `clocks_say_what_is_known`: where no process makes an entry while its own offer waits, a counted entry is known
 //!   exactly where the count of its process is above the number of that one's counted entries before it.
 //! - `runs_are_quiet`: in every run along a journal no process makes an entry while its own offer waits.
@@ -49,7 +49,7 @@ mod verdict;
 
 pub use clock::Clock;
 pub use laws::{
-    clocks_say_what_is_known, knows_prefixes, runs_are_quiet, runs_without_a_fault_are_clean, verdicts_are_exact,
-    verdicts_hold_of_runs,
+    clocks_say_what_is_known, knows_prefixes, runs_are_quiet, runs_without_a_fault_are_clean,
+    verdicts_are_exact, verdicts_hold_of_runs,
 };
 pub use verdict::verdict_of;

@@ -21,7 +21,6 @@ use sp_execute::run_code;
 use sp_kernel::Closed;
 use sp_outside::{Gate, Library, Source};
 use sp_print::end_lines;
-use sp_execute::accepted_programs_are_ready;
 use sp_rules::laws::verified_code_is_sound;
 use std::alloc::Global;
 use std::sync::{Arc, Wait};

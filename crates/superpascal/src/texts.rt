@@ -13,7 +13,7 @@ use sp_base::{Halt, Word};
 use sp_code::listing;
 use sp_codefile::encode;
 use sp_format::format;
-use sp_front::{analyse_apart, one_answer};
+use sp_front::{analyse_apart, compiled_apart, one_answer};
 use sp_generate::one_code;
 use sp_outside::Library;
 use sp_sets::print_sets;
