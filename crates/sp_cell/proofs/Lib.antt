@@ -1,0 +1,7 @@
+pub mod FrameLaws
+pub mod HeldLaws
+pub mod Laws
+pub mod Order
+pub mod Partition
+pub mod Plan
+pub mod Steps

@@ -1,7 +1,7 @@
 -- Some of this belongs to what the program promises (docs/promise.txt).
 -- What `split` and `join` do to the plain map of a store. The contracts of `Store` and the steps of the system promise
 -- it. Each part goes by recursion on the spots of a plan, so that it computes for a plan that is known.
-use Rattle.std.specs.Prelude.{◌≡◌, ℕ, ℤ, ◌⊎◌, List, [], ◌∷◌, ◌++◌, max, Option, None, Some, IsSome}
+use Rattle.std.specs.Prelude.{◌≡◌, ℕ, zero, suc, ℤ, ◌⊎◌, List, [], ◌∷◌, ◌++◌, max, Option, None, Some, IsSome}
 use Rattle.std.specs.FinMap as map
 use Rattle.sp_cell.specs.declared.cell.Cell.TheVariants.{Ordinal}
 use Rattle.sp_cell.specs.declared.spot.Spot.{Spot}
@@ -87,3 +87,14 @@ prepared_map m h = with_index (lent m h.shared (away map.empty h.moved)) (index_
 -- such a child as a store
 abbrev pub prepared : Map → Handing → Plain
 prepared m h = record { map = prepared_map m h; own = []; moved = h.moved }
+
+-- children joined one after another
+abbrev pub joined_all : Map → List Plain → Map
+joined_all m [] = m
+joined_all m (c ∷ cs) = joined_all (joined m c) cs
+
+-- the first i children complete, and the others prepared
+abbrev pub mixed : Map → List Handing → ℕ → List Plain
+mixed m [] i = []
+mixed m (h ∷ hs) zero = prepared m h ∷ mixed m hs zero
+mixed m (h ∷ hs) (suc i) = child_of m h ∷ mixed m hs i

@@ -1,14 +1,7 @@
 pub mod Codes
 pub mod Fork
 pub mod Frame
-pub mod FrameLaws
 pub mod Held
-pub mod HeldLaws
-pub mod Laws
 pub mod Lists
 pub mod Map
-pub mod Order
-pub mod Partition
-pub mod Plan
 pub mod Spots
-pub mod Steps

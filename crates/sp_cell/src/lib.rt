@@ -13,7 +13,7 @@
 //!   what the numbers mean (`View`), never of the numbers.
 //! - The definitions stand in `specs/Map.antt` (the map), `Frame.antt` (push and pop), `Fork.antt` (split and join)
 //!   and `Held.antt` (all stores of a run side by side). The laws over them, which have no representation in view,
-//!   stand in `specs/` too: `Laws`, `FrameLaws`, `HeldLaws`, `Partition`, `Plan`, `Steps`.
+//!   stand in `proofs/`: `Laws`, `FrameLaws`, `HeldLaws`, `Partition`, `Plan`, `Steps`.
 //!
 //! To change:
 //! - What a store means: `specs/Map.antt`, `specs/Frame.antt`, `specs/Fork.antt`.

@@ -5,7 +5,7 @@ use Rattle.std.proofs.Common.{zero-add}
 use Rattle.std.specs.Prelude.{slice_get, ◌≢◌, if◌then◌else◌}
 use Rattle.std.proofs.lemmas.Option.{same_Some}
 use Rattle.sp_base.proofs.Facts.{next_goes_left}
-use Rattle.sp_cell.specs.FrameLaws.{is_same, is_other}
+use Rattle.sp_cell.proofs.FrameLaws.{is_same, is_other}
 use Rattle.sp_code.specs.Machine as m
 use Rattle.sp_code.specs.Sound.{HasDistinctBlocks}
 use Rattle.sp_tree.specs.Plain.{Program, Block, Stmt}

@@ -5,7 +5,7 @@ use Rattle.std.specs.FinMap as fin
 use Rattle.sp_cell.specs.declared.cell.Cell.TheVariants as cell
 use Rattle.sp_cell.specs.declared.spot.Spot.{Spot}
 use Rattle.sp_cell.specs.Frame.{with_pieces}
-use Rattle.sp_cell.specs.Laws.{get_other, get_here, same_or}
+use Rattle.sp_cell.proofs.Laws.{get_other, get_here, same_or}
 use Rattle.sp_cell.specs.Map.{Map, Content, Own as Owned, Away}
 
 -- a variable of a frame

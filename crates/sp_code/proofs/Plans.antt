@@ -9,7 +9,7 @@ use Rattle.sp_tree.specs.Interference.{IsMember, AllDifferent}
 use Rattle.sp_cell.specs.declared.spot.Spot.{Spot}
 use Rattle.sp_cell.specs.declared.spot.Handing.{Handing}
 use Rattle.sp_cell.specs.Fork.{moved_of, shared_of, HasIndex}
-use Rattle.sp_cell.specs.Plan.{in_or, in_front, in_back}
+use Rattle.sp_cell.proofs.Plan.{in_or, in_front, in_back}
 use Rattle.sp_cell.specs.Spots.{In, NotIn, IsDistinct}
 use Rattle.sp_code.specs.declared.code.ForkTable.{ForkTable}
 use Rattle.sp_code.specs.declared.code.Layout.{Layout}

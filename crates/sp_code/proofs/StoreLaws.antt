@@ -12,9 +12,9 @@ use Rattle.sp_cell.specs.declared.spot.Address.{Address}
 use Rattle.sp_cell.specs.Map.{Content, Own, Shared, Output, Away, Map, Plain, IsPiece, IsOutput, HasCells, cells_of}
 use Rattle.sp_cell.specs.Map.{output_of, output_spot, spot_cmp}
 use Rattle.sp_cell.specs.Frame.{newest, NoneAway}
-use Rattle.sp_cell.specs.FrameLaws.{is_same}
-use Rattle.sp_cell.specs.Laws.{known_of_away}
-use Rattle.sp_cell.specs.Order.{spot_same}
+use Rattle.sp_cell.proofs.FrameLaws.{is_same}
+use Rattle.sp_cell.proofs.Laws.{known_of_away}
+use Rattle.sp_cell.proofs.Order.{spot_same}
 use Rattle.sp_code.specs.Memory.{has_cells, cells_in, is_held, is_there}
 use Rattle.sp_code.specs.PlainStore.{piece_of, is_away, none_away, is_newest, plain}
 

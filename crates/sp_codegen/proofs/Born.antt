@@ -12,7 +12,7 @@ use Rattle.sp_tree.specs.Uses.{Use, Target, CallOf, ParallelOf, ForallOf, Stop, 
 use Rattle.sp_tree.specs.Uses as use_of
 use Rattle.sp_tree.specs.Interference.{IsMember}
 use Rattle.sp_cell.specs.declared.spot.Spot.{Spot}
-use Rattle.sp_cell.specs.FrameLaws.{is_other}
+use Rattle.sp_cell.proofs.FrameLaws.{is_other}
 use Rattle.sp_meaning.specs.Model.{Name}
 use Rattle.sp_meaning.specs.Own.{Setting, Loc, Home, OfBlock, OfIndex, Frame}
 use Rattle.sp_meaning.specs.Deeds.{Birth, push, children, indexed_children}

@@ -10,9 +10,9 @@ use Rattle.sp_cell.specs.declared.spot.Handing.{Handing}
 use Rattle.sp_cell.specs.Lists.{overwritten, part}
 use Rattle.sp_cell.specs.Map.{Content, Own, Output, Away, Map, spot_cmp}
 use Rattle.sp_cell.specs.Frame.{with_pieces, without, root_map}
-use Rattle.sp_cell.specs.FrameLaws.{without_here, without_other}
+use Rattle.sp_cell.proofs.FrameLaws.{without_here, without_other}
 use Rattle.sp_cell.specs.Fork.{hold, taken, lent, away, with_index, index_frame, child_map, moved_of, shared_of, handed}
-use Rattle.sp_cell.specs.Laws.{get_other, get_here, same_or}
+use Rattle.sp_cell.proofs.Laws.{get_other, get_here, same_or}
 use Rattle.sp_code.specs.Memory.{cells_in}
 use Rattle.sp_code.specs.PlainStore.{piece_of}
 use Rattle.sp_code.proofs.StoreLaws.{cells_same}

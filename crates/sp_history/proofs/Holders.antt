@@ -15,8 +15,8 @@ use Rattle.sp_cell.specs.Map.{Map, Content, Own, Shared, Output, Away, Plain, Is
 use Rattle.sp_cell.specs.Frame.{with_pieces}
 use Rattle.sp_cell.specs.Fork.{moved_of}
 use Rattle.sp_cell.specs.Spots.{In}
-use Rattle.sp_cell.specs.Plan.{in_or, not_both}
-use Rattle.sp_cell.specs.Laws.{get_other, get_here}
+use Rattle.sp_cell.proofs.Plan.{in_or, not_both}
+use Rattle.sp_cell.proofs.Laws.{get_other, get_here}
 use Rattle.sp_journal.specs.declared.entry.Event.{Event}
 use Rattle.sp_journal.specs.declared.entry.Event.TheVariants as event
 use Rattle.sp_journal.specs.declared.entry.Entry.{Entry}

@@ -10,8 +10,8 @@ use Rattle.sp_cell.specs.declared.spot.Address.{Address}
 use Rattle.sp_cell.specs.Map.{Map, Content, Own, Shared, Output, Away, Plain, IsOutput, IsHeld, output_spot}
 use Rattle.sp_cell.specs.Fork.{hold, taken}
 use Rattle.sp_cell.specs.Spots.{In, NotIn}
-use Rattle.sp_cell.specs.Plan.{in_or, get_taken_in, get_taken_out}
-use Rattle.sp_cell.specs.Laws.{get_other, get_here, same_or}
+use Rattle.sp_cell.proofs.Plan.{in_or, get_taken_in, get_taken_out}
+use Rattle.sp_cell.proofs.Laws.{get_other, get_here, same_or}
 use Rattle.sp_journal.specs.declared.entry.Birth.{Birth}
 use Rattle.sp_journal.specs.Maps.{at_key}
 use Rattle.sp_code.specs.Machine.{Stop, Forks, Opens, Sends, Receives, Ends, Pauses, Config, At}

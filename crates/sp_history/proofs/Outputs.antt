@@ -11,8 +11,8 @@ use Rattle.sp_cell.specs.declared.spot.Spot.{Spot}
 use Rattle.sp_cell.specs.Map.{Map, Content, Own, Shared, Output, Away, Plain, IsOutput, IsOwn, bytes_of, output_spot}
 use Rattle.sp_cell.specs.Map.{with_map}
 use Rattle.sp_cell.specs.Frame.{with_pieces, without, next_frame, newest, pushed, popped}
-use Rattle.sp_cell.specs.FrameLaws.{known_below, without_here, without_other}
-use Rattle.sp_cell.specs.Laws.{get_other, get_here, same_or, known_of_away}
+use Rattle.sp_cell.proofs.FrameLaws.{known_below, without_here, without_other}
+use Rattle.sp_cell.proofs.Laws.{get_other, get_here, same_or, known_of_away}
 use Rattle.sp_code.specs.declared.code.Layout.{Layout}
 use Rattle.sp_code.specs.Machine.{Entry, Number, Chan, Pointer, Cells, Link, Reply, Done, Failed}
 use Rattle.sp_code.specs.Memory.{Setting, Frame, Memory, memory, put_cell, put_cells, cells_at, cell_at, position_at}

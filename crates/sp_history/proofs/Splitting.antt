@@ -11,8 +11,8 @@ use Rattle.sp_cell.specs.Map.{Map, Content, Own, Shared, Output, Away, Plain, Is
 use Rattle.sp_cell.specs.Map.{cells_at}
 use Rattle.sp_cell.specs.Fork.{lent, away, with_index, index_frame, child_map, moved_of, shared_of, handed}
 use Rattle.sp_cell.specs.Spots.{In, NotIn, IsDistinct}
-use Rattle.sp_cell.specs.Plan.{in_or, not_both, in_front, in_back, distinct_back}
-use Rattle.sp_cell.specs.Partition.{parent_moved, parent_rest, child_moved}
+use Rattle.sp_cell.proofs.Plan.{in_or, not_both, in_front, in_back, distinct_back}
+use Rattle.sp_cell.proofs.Partition.{parent_moved, parent_rest, child_moved}
 use Rattle.sp_journal.specs.declared.entry.Birth.{Birth}
 use Rattle.sp_journal.specs.Maps.{at_key}
 use Rattle.sp_code.specs.declared.code.Layout.{Layout}

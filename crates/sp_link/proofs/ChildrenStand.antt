@@ -42,7 +42,7 @@ use Rattle.sp_code.proofs.Plans.{in_spots}
 use Rattle.sp_codegen.proofs.Handed.{found_at, is_input, console_only, moved_aimed, moved_known, output_handed}
 use Rattle.sp_codegen.proofs.Handed.{right_of, MovedStands, moved_stands, no_console_spot, no_index_spot}
 use Rattle.sp_codegen.proofs.Handed.{index_no_console}
-use Rattle.sp_cell.specs.Plan.{in_or, get_away_in, get_lent_out}
+use Rattle.sp_cell.proofs.Plan.{in_or, get_away_in, get_lent_out}
 use Rattle.sp_tree.specs.Formed.{IsFormedUse}
 use Rattle.sp_tree.specs.Sets.{Reach}
 use Rattle.sp_codegen.specs.Standing.{Live, spot_at}

@@ -6,7 +6,7 @@ use Rattle.std.specs.FinMap as fin
 use Rattle.sp_cell.specs.declared.cell.Cell.{Cell as OneCell}
 use Rattle.sp_cell.specs.declared.spot.Spot.{Spot}
 use Rattle.sp_cell.specs.declared.spot.Address.{Address as Ptr}
-use Rattle.sp_cell.specs.Laws.{get_here}
+use Rattle.sp_cell.proofs.Laws.{get_here}
 use Rattle.sp_cell.specs.Map.{Content, Own as Owned, Shared, Output as Bytes, Away, Plain, IsOwn, IsPiece, HasCells}
 use Rattle.sp_cell.specs.Map.{cells_of}
 use Rattle.sp_meaning.specs.Maps.{at_key}

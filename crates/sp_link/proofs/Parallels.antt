@@ -12,7 +12,7 @@ use Rattle.sp_cell.specs.declared.spot.Spot.{Spot}
 use Rattle.sp_cell.specs.declared.spot.Handing.{Handing}
 use Rattle.sp_cell.specs.Fork.{index_frame, moved_of, shared_of}
 use Rattle.sp_cell.specs.Map.{Plain, IsPiece, output_spot}
-use Rattle.sp_cell.specs.Plan.{in_or}
+use Rattle.sp_cell.proofs.Plan.{in_or}
 use Rattle.sp_cell.specs.Spots.{In, NotIn}
 use Rattle.sp_meaning.specs.Model.{Name}
 use Rattle.sp_meaning.specs.Own.{Loc, Output, Own, Who, Got, Item}

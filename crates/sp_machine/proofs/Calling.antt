@@ -17,7 +17,7 @@ use Rattle.sp_cell.specs.declared.spot.Spot.{Spot}
 use Rattle.sp_cell.specs.declared.spot.Address.{Address}
 use Rattle.sp_cell.specs.Map.{Content, Own, Map, Plain, IsPiece, IsOwn, HasCells, cells_of}
 use Rattle.sp_cell.specs.Frame.{with_pieces, pushed, next_frame}
-use Rattle.sp_cell.specs.Laws.{get_other, get_here}
+use Rattle.sp_cell.proofs.Laws.{get_other, get_here}
 use Rattle.sp_code.specs.declared.code.Formal.{Formal}
 use Rattle.sp_code.specs.declared.code.Formal.TheVariants as formal
 use Rattle.sp_code.specs.declared.code.Layout.{Layout}

@@ -11,9 +11,9 @@ use Rattle.sp_cell.specs.declared.spot.Handing.{Handing}
 use Rattle.sp_cell.specs.Map.{Map, Plain}
 use Rattle.sp_cell.specs.Fork.{children_of, child_of}
 use Rattle.sp_cell.specs.Frame.{HasNextFrame}
-use Rattle.sp_cell.specs.FrameLaws.{known_below}
-use Rattle.sp_cell.specs.Laws.{known_of_held, known_of_piece}
-use Rattle.sp_cell.specs.Plan.{each_shared, each_moved, index_at}
+use Rattle.sp_cell.proofs.FrameLaws.{known_below}
+use Rattle.sp_cell.proofs.Laws.{known_of_held, known_of_piece}
+use Rattle.sp_cell.proofs.Plan.{each_shared, each_moved, index_at}
 use Rattle.sp_code.specs.declared.code.ChildTable.{ChildTable}
 use Rattle.sp_code.specs.declared.code.ForkTable.{ForkTable}
 use Rattle.sp_code.specs.declared.code.Layout.{Layout}

@@ -9,7 +9,7 @@ use Rattle.sp_cell.specs.declared.cell.Cell.TheVariants as cell
 use Rattle.sp_cell.specs.declared.spot.Spot.{Spot}
 use Rattle.sp_cell.specs.declared.spot.Address.{Address}
 use Rattle.sp_cell.specs.Map.{Content, Own, Shared, Output, Away, Map, Plain, IsPiece, HasCells, cells_of, cells_at}
-use Rattle.sp_cell.specs.Laws.{get_other, get_here, same_or}
+use Rattle.sp_cell.proofs.Laws.{get_other, get_here, same_or}
 use Rattle.sp_code.specs.Memory.{position_in, left_after, put_cell}
 use Rattle.sp_code.specs.PlainStore.{piece_of, plain}
 use Rattle.sp_code.proofs.StoreLaws.{cells_same}

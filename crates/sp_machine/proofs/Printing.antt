@@ -5,7 +5,7 @@ use Rattle.std.proofs.lemmas.List.{append-nil}
 use Rattle.std.specs.FinMap as map
 use Rattle.sp_cell.specs.Map.{Content, Own, Shared, Output, Away, Plain, with_map, appended, output_of, output_spot}
 use Rattle.sp_cell.specs.Map.{bytes_of}
-use Rattle.sp_cell.specs.Laws.{insert_same, insert_twice, get_here}
+use Rattle.sp_cell.proofs.Laws.{insert_same, insert_twice, get_here}
 use Rattle.sp_code.specs.Memory.{is_held}
 use Rattle.sp_code.specs.PlainStore.{plain}
 

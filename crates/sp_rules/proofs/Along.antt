@@ -7,8 +7,8 @@ use Rattle.std.proofs.lemmas.List.{nil_from_length}
 use Rattle.sp_tree.specs.Interference.{IsMember}
 use Rattle.sp_cell.specs.declared.cell.Cell.{Cell}
 use Rattle.sp_cell.specs.declared.spot.Address.{Address}
-use Rattle.sp_cell.specs.FrameLaws.{is_same}
-use Rattle.sp_cell.specs.Laws.{same_map}
+use Rattle.sp_cell.proofs.FrameLaws.{is_same}
+use Rattle.sp_cell.proofs.Laws.{same_map}
 use Rattle.sp_cell.specs.Map.{Map, Plain}
 use Rattle.sp_cell.specs.Spots.{In, NotIn}
 use Rattle.sp_journal.specs.Births.{Births}

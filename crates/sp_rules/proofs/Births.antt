@@ -12,11 +12,11 @@ use Rattle.sp_cell.specs.declared.spot.Spot.{Spot}
 use Rattle.sp_cell.specs.declared.spot.Handing.{Handing}
 use Rattle.sp_cell.specs.Fork.{lent, with_index, index_frame, child_map}
 use Rattle.sp_cell.specs.Frame.{above, frames}
-use Rattle.sp_cell.specs.FrameLaws.{is_same, is_other}
-use Rattle.sp_cell.specs.Laws.{get_here, known_of_held}
+use Rattle.sp_cell.proofs.FrameLaws.{is_same, is_other}
+use Rattle.sp_cell.proofs.Laws.{get_here, known_of_held}
 use Rattle.sp_cell.specs.Map.{Map, Content, Own, Shared, Output, Away, IsOutput, output_spot, cells_of}
-use Rattle.sp_cell.specs.Partition.{below_above, child_moved, child_shared}
-use Rattle.sp_cell.specs.Plan.{get_taken_out}
+use Rattle.sp_cell.proofs.Partition.{below_above, child_moved, child_shared}
+use Rattle.sp_cell.proofs.Plan.{get_taken_out}
 use Rattle.sp_cell.specs.Spots.{In, NotIn}
 use Rattle.sp_code.specs.declared.code.ChildTable.{ChildTable}
 use Rattle.sp_code.specs.declared.code.Layout.{Layout}

@@ -12,7 +12,7 @@ use Rattle.sp_tree.specs.Interference.{IsMember, AllDifferent}
 use Rattle.sp_cell.specs.declared.cell.Cell.{Cell}
 use Rattle.sp_cell.specs.declared.spot.Spot.{Spot}
 use Rattle.sp_cell.specs.declared.spot.Address.{Address}
-use Rattle.sp_cell.specs.FrameLaws.{is_same, is_other}
+use Rattle.sp_cell.proofs.FrameLaws.{is_same, is_other}
 use Rattle.sp_cell.specs.Map.{Map, IsOutput, output_spot}
 use Rattle.sp_code.specs.declared.code.Formal.{Formal}
 use Rattle.sp_code.specs.declared.code.Formal.TheVariants as formal

@@ -2,7 +2,7 @@
 use Rattle.std.proofs.Common.{◌≡◌, inl, ℕ, zero, suc, ◌+◌, ◌-◌, ◌≤◌, List, [], ◌∷◌, length, drop, Option, Some, None}
 use Rattle.std.proofs.Common.{Bool, true, false, refl, sym, ap, ◌∙◌, subst, arith, if◌then◌else◌}
 use Rattle.sp_tree.specs.Interference.{IsMember, AllDifferent}
-use Rattle.sp_cell.specs.FrameLaws.{is_other}
+use Rattle.sp_cell.proofs.FrameLaws.{is_other}
 use Rattle.sp_code.specs.declared.code.Layout.{Layout}
 use Rattle.sp_code.specs.Machine.{layout_of}
 use Rattle.sp_code.specs.Memory.{Home, OfBlock, OfIndex, Frame, last_frames, frames_up}

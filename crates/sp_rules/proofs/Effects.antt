@@ -13,7 +13,7 @@ use Rattle.sp_code.specs.declared.instr.Instr.{Instr}
 use Rattle.sp_code.specs.declared.instr.Instr.TheVariants as i
 use Rattle.sp_code.specs.Machine.{layout_of}
 use Rattle.sp_code.specs.Memory.{Home, OfBlock, OfIndex}
-use Rattle.sp_cell.specs.FrameLaws.{is_same}
+use Rattle.sp_cell.proofs.FrameLaws.{is_same}
 use Rattle.sp_rules.specs.Areas.{Area, Body, Child, Found, given, variable_at, homes, with_home, instr_at, child_at}
 use Rattle.sp_rules.specs.Areas.{child_of, table_at, table_named, index_of_child}
 use Rattle.sp_rules.specs.Chains.{variables_of, variables_in, all_variables}

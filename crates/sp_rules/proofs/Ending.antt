@@ -4,7 +4,7 @@ use Rattle.std.proofs.Common.{◌≡◌, ℕ, ◌+◌, ◌≤◌, ℤ, List, [],
 use Rattle.std.proofs.Common.{arith}
 use Rattle.std.proofs.lemmas.Bool.{ltb-true}
 use Rattle.std.specs.FinMap as map
-use Rattle.sp_cell.specs.Laws.{get_here}
+use Rattle.sp_cell.proofs.Laws.{get_here}
 use Rattle.sp_cell.specs.Map.{Plain, Own, IsOwn}
 use Rattle.sp_cell.specs.declared.spot.Address.{Address}
 use Rattle.sp_code.specs.declared.instr.Instr.TheVariants as i

@@ -11,12 +11,12 @@ use Rattle.sp_cell.specs.declared.spot.Spot.{Spot}
 use Rattle.sp_cell.specs.declared.spot.Handing.{Handing}
 use Rattle.sp_cell.specs.Fork.{lent, away, with_index, index_frame, child_map, moved_of, shared_of}
 use Rattle.sp_cell.specs.Frame.{above, frames, HasNextFrame}
-use Rattle.sp_cell.specs.FrameLaws.{known_below}
-use Rattle.sp_cell.specs.Laws.{known_of_held, known_of_piece, get_here, get_other, same_or}
+use Rattle.sp_cell.proofs.FrameLaws.{known_below}
+use Rattle.sp_cell.proofs.Laws.{known_of_held, known_of_piece, get_here, get_other, same_or}
 use Rattle.sp_cell.specs.Map.{Map, Content, Own, Shared, Output, Away, Plain, IsHeld, IsPiece, IsOutput, output_spot}
 use Rattle.sp_cell.specs.Map.{cells_at, spot_cmp}
-use Rattle.sp_cell.specs.Partition.{parent_moved, child_moved, child_rest}
-use Rattle.sp_cell.specs.Plan.{in_or, get_taken_out, get_lent_in, get_lent_out, get_away_out, lent_alike}
+use Rattle.sp_cell.proofs.Partition.{parent_moved, child_moved, child_rest}
+use Rattle.sp_cell.proofs.Plan.{in_or, get_taken_out, get_lent_in, get_lent_out, get_away_out, lent_alike}
 use Rattle.sp_cell.specs.Spots.{In, NotIn, IsDistinct}
 use Rattle.sp_code.specs.declared.code.ChildTable.{ChildTable}
 use Rattle.sp_code.specs.declared.code.ForkTable.{ForkTable}
@@ -108,7 +108,7 @@ module _ (g : Setting) {Area : Type 0} (H : Area → List Home) (E : Area → �
         framed o u true e = Rattle.std.proofs.lemmas.Bool.eqb-true s.frame (index_frame h) e
         framed o u false e = absurd (mathlib.Core.Bool.false≢true
             (subst (λ z. IsSome z) (child_rest n.store.map h s o u (λ i. cc (sym e
-            ∙ Rattle.sp_cell.specs.FrameLaws.is_same s.frame (index_frame h) i))) k))
+            ∙ Rattle.sp_cell.proofs.FrameLaws.is_same s.frame (index_frame h) i))) k))
 
     index_low : index_frame h ≤ n.depth + 1
     index_low =

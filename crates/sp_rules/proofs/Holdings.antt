@@ -11,8 +11,8 @@ use Rattle.std.specs.FinMap as map
 use Rattle.sp_tree.specs.Interference.{IsMember}
 use Rattle.sp_cell.specs.declared.spot.Spot.{Spot}
 use Rattle.sp_cell.specs.Frame.{above, next_frame, newest, popped, without}
-use Rattle.sp_cell.specs.FrameLaws.{known_below, above_known, is_same, without_here, without_other}
-use Rattle.sp_cell.specs.Laws.{get_other, get_here, same_or, known_of_held, known_insert}
+use Rattle.sp_cell.proofs.FrameLaws.{known_below, above_known, is_same, without_here, without_other}
+use Rattle.sp_cell.proofs.Laws.{get_other, get_here, same_or, known_of_held, known_insert}
 use Rattle.sp_cell.specs.Map.{Map, Content, Own, Shared, Output, Away, Plain, IsHeld, output_spot}
 use Rattle.sp_code.specs.declared.code.Layout.{Layout}
 use Rattle.sp_code.specs.Memory.{Home, Frame}

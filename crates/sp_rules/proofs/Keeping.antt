@@ -7,9 +7,9 @@ use Rattle.std.proofs.lemmas.Option.{same_Some}
 use Rattle.sp_cell.specs.declared.cell.Cell.{Cell}
 use Rattle.sp_cell.specs.declared.spot.Spot.{Spot}
 use Rattle.sp_cell.specs.Map.{Map, Content, Own, Shared, Output, Away, IsOutput, output_spot, cells_of}
-use Rattle.sp_cell.specs.Laws.{get_other, get_here, same_or}
+use Rattle.sp_cell.proofs.Laws.{get_other, get_here, same_or}
 use Rattle.sp_cell.specs.Fork.{lent}
-use Rattle.sp_cell.specs.Plan.{in_or, get_lent_in, get_lent_out}
+use Rattle.sp_cell.proofs.Plan.{in_or, get_lent_in, get_lent_out}
 use Rattle.sp_cell.specs.Spots.{In}
 use Rattle.sp_code.specs.declared.code.Layout.{Layout}
 use Rattle.sp_code.specs.Memory.{Home, Frame, position_in}

@@ -8,7 +8,7 @@ use Rattle.std.specs.FinMap as map
 use Rattle.std.proofs.lemmas.Option.{same_Some}
 use Rattle.sp_cell.specs.declared.cell.Cell.{Cell}
 use Rattle.sp_cell.specs.declared.spot.Address.{Address}
-use Rattle.sp_cell.specs.Laws.{known_of_held}
+use Rattle.sp_cell.proofs.Laws.{known_of_held}
 use Rattle.sp_cell.specs.Lists.{overwritten}
 use Rattle.sp_cell.specs.Map.{Map, Content, Own, Shared, Output, Away, Plain, IsOwn, IsPiece, cells_of, output_spot}
 use Rattle.sp_code.specs.Machine.{Config, At}

@@ -12,8 +12,8 @@ use Rattle.sp_cell.specs.declared.cell.Cell.{Cell}
 use Rattle.sp_cell.specs.declared.cell.Cell.TheVariants as cell
 use Rattle.sp_cell.specs.declared.spot.Spot.{Spot}
 use Rattle.sp_cell.specs.Frame.{with_pieces, root_map}
-use Rattle.sp_cell.specs.FrameLaws.{known_pieces}
-use Rattle.sp_cell.specs.Laws.{get_here, get_other, same_or}
+use Rattle.sp_cell.proofs.FrameLaws.{known_pieces}
+use Rattle.sp_cell.proofs.Laws.{get_here, get_other, same_or}
 use Rattle.sp_cell.specs.Map.{Map, Plain, Content, Own, Output, Away, IsOutput, output_spot, spot_cmp}
 use Rattle.sp_code.specs.declared.code.Layout.{Layout}
 use Rattle.sp_code.specs.Machine.{Config, layout_of}

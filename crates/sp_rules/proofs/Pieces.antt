@@ -9,7 +9,7 @@ use Rattle.std.proofs.lemmas.Option.{same_Some}
 use Rattle.sp_cell.specs.declared.cell.Cell.{Cell}
 use Rattle.sp_cell.specs.declared.cell.Cell.TheVariants as cell
 use Rattle.sp_cell.specs.declared.spot.Spot.{Spot}
-use Rattle.sp_cell.specs.Laws.{get_other, get_here, same_or}
+use Rattle.sp_cell.proofs.Laws.{get_other, get_here, same_or}
 use Rattle.sp_cell.specs.Lists.{overwritten}
 use Rattle.sp_cell.specs.Map.{Content, Own, Plain, owned}
 use Rattle.sp_code.specs.declared.code.Formal.{Formal}

@@ -10,8 +10,8 @@ use Rattle.sp_cell.specs.declared.cell.Cell.TheVariants as cell
 use Rattle.sp_cell.specs.declared.spot.Spot.{Spot}
 use Rattle.sp_cell.specs.declared.spot.Address.{Address}
 use Rattle.sp_cell.specs.Frame.{next_frame, with_pieces}
-use Rattle.sp_cell.specs.FrameLaws.{known_below}
-use Rattle.sp_cell.specs.Laws.{get_other, get_here, same_or, known_of_held}
+use Rattle.sp_cell.proofs.FrameLaws.{known_below}
+use Rattle.sp_cell.proofs.Laws.{get_other, get_here, same_or, known_of_held}
 use Rattle.sp_cell.specs.Map.{Map, Own, Away, Plain, IsHeld, output_spot, owned}
 use Rattle.sp_cell.specs.Spots.{In}
 use Rattle.sp_code.specs.declared.code.Formal.TheVariants as formal
@@ -164,7 +164,7 @@ module _ (ls : List Layout) {Area : Type 0} (H : Area → List Home) (E : Area �
       go : (t : Bool) → (q.frame == N) ≡ t → (q.frame ≡ N) ⊎ IsSome (map.get p.map q)
       go true e = inl (Rattle.std.proofs.lemmas.Bool.eqb-true q.frame N e)
       go false e = inr (subst (λ z. IsSome z) (fair.other q (λ i. cc (sym e
-          ∙ Rattle.sp_cell.specs.FrameLaws.is_same q.frame N i))) g)
+          ∙ Rattle.sp_cell.proofs.FrameLaws.is_same q.frame N i))) g)
 
   long : length (p.own ++ N ∷ []) ≡ length p.own + 1
   long = length-append p.own (N ∷ [])

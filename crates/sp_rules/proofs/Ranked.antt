@@ -8,7 +8,7 @@ use Rattle.std.proofs.lemmas.Bool.{eqb-false, ltb-true, ltb-false}
 use Rattle.std.proofs.lemmas.Option.{slice_get_within}
 use Rattle.sp_base.proofs.Facts.{less_same_or_more}
 use Rattle.sp_tree.specs.Interference.{IsMember, AllDifferent}
-use Rattle.sp_cell.specs.FrameLaws.{is_other}
+use Rattle.sp_cell.proofs.FrameLaws.{is_other}
 use Rattle.sp_code.specs.declared.instr.Instr.{Instr}
 use Rattle.sp_code.specs.declared.instr.Instr.TheVariants as i
 use Rattle.sp_code.specs.declared.code.Parts.{Parts}

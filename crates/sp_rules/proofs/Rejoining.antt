@@ -9,10 +9,10 @@ use Rattle.sp_tree.specs.Interference.{IsMember}
 use Rattle.sp_cell.specs.declared.cell.Cell.{Cell}
 use Rattle.sp_cell.specs.declared.spot.Spot.{Spot}
 use Rattle.sp_cell.specs.Fork.{taken}
-use Rattle.sp_cell.specs.FrameLaws.{is_same}
-use Rattle.sp_cell.specs.Laws.{known_of_held}
+use Rattle.sp_cell.proofs.FrameLaws.{is_same}
+use Rattle.sp_cell.proofs.Laws.{known_of_held}
 use Rattle.sp_cell.specs.Map.{Map, Content, Away, Plain, IsHeld, IsOutput, output_spot}
-use Rattle.sp_cell.specs.Plan.{in_or, not_both, get_taken_in, get_taken_out, in_front, in_back}
+use Rattle.sp_cell.proofs.Plan.{in_or, not_both, get_taken_in, get_taken_out, in_front, in_back}
 use Rattle.sp_cell.specs.Spots.{In, NotIn, IsDistinct}
 use Rattle.sp_code.specs.Machine.{Config, At}
 use Rattle.sp_code.specs.Memory.{Setting, Home, Memory, position_in}

@@ -3,7 +3,7 @@ use Rattle.std.proofs.Common.{◌≡◌, ℕ, ◌+◌, ◌-◌, ◌<◌, List, l
 use Rattle.std.specs.Result.{OnErr}
 use Rattle.std.proofs.lemmas.Grind.{get_or_default_zero}
 use Rattle.sp_cell.specs.Frame.{above, IsRising}
-use Rattle.sp_cell.specs.FrameLaws.{above_newest}
+use Rattle.sp_cell.proofs.FrameLaws.{above_newest}
 
 -- the number read at the last place is the greatest
 pub newest_read : (ns : List ℕ) (x n : ℕ) → IsRising ns → n ≡ length ns → 0 < n → x ≡ get_or ns (n - 1) x

@@ -17,13 +17,13 @@ use Rattle.std.proofs.lemmas.Map.Keys.{sorted_head, sorted_tail, Less-from_sorte
 use Rattle.std.proofs.lemmas.Cmp.{tied_itself, alike_right, ranked}
 use Rattle.sp_cell.specs.declared.spot.Spot.{Spot}
 use Rattle.sp_cell.specs.Map.{Content, spot_cmp}
-use Rattle.sp_cell.specs.Order.{spot_total, spot_same}
+use Rattle.sp_cell.proofs.Order.{spot_total, spot_same}
 use Rattle.sp_store.specs.declared.entry.Entry.{Entry}
 use Rattle.sp_store.specs.Layout.{content, pairs, layout, IsPlace, IsGap, AllKnown}
 use Rattle.sp_cell.specs.Spots.{DistinctByIndex}
 use Rattle.sp_cell.specs.Frame.{above, frames, without}
-use Rattle.sp_cell.specs.FrameLaws.{above_at, without_here, without_other}
-use Rattle.sp_cell.specs.Laws.{same_map}
+use Rattle.sp_cell.proofs.FrameLaws.{above_at, without_here, without_other}
+use Rattle.sp_cell.proofs.Laws.{same_map}
 use Rattle.std.proofs.lemmas.List.{get_or_default, get_or-take, get_or-drop, length-take-le, length-drop, length-take}
 use Rattle.std.proofs.lemmas.List.{length-append}
 

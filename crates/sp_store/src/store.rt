@@ -10,8 +10,8 @@ ghost use Rattle.sp_cell.specs.Frame.{root_map, next_frame, HasNextFrame, pushed
 ghost use Rattle.sp_cell.specs.Lists.{part};
 ghost use Rattle.sp_cell.specs.Map.{with_map, cells_at, HasCells, written, IsOwn, IsPiece, owned, put_cells, copied};
 ghost use Rattle.sp_cell.specs.Map.{IsOutput, output_spot, output_of, appended};
-ghost use Rattle.sp_cell.specs.Partition.{joined_all};
-ghost use Rattle.sp_cell.specs.Plan.{mixed};
+ghost use Rattle.sp_cell.specs.Fork.{joined_all};
+ghost use Rattle.sp_cell.specs.Fork.{mixed};
 ghost use Rattle.sp_cell.specs.Spots.{IsDistinct, In, NotIn, AllHeld, AllPieces, AllAway};
 ghost use Rattle.sp_cell.specs.Held.{KeepsPartition, RejoinsPartition};
 ghost use Rattle.sp_store.specs.Layout.{IsLent, FramesBelow};

@@ -8,8 +8,8 @@ use Rattle.sp_cell.specs.declared.spot.Spot.{Spot}
 use Rattle.sp_cell.specs.declared.spot.Handing.{Handing}
 use Rattle.sp_cell.specs.Fork.{moved_of, shared_of, HasIndex}
 use Rattle.sp_cell.specs.Frame.{next_frame, root_map, with_pieces, without}
-use Rattle.sp_cell.specs.FrameLaws.{above_known, known_pieces, without_here, without_other}
-use Rattle.sp_cell.specs.Laws.{get_here, get_other, same_or}
+use Rattle.sp_cell.proofs.FrameLaws.{above_known, known_pieces, without_here, without_other}
+use Rattle.sp_cell.proofs.Laws.{get_here, get_other, same_or}
 use Rattle.sp_cell.specs.Map.{Map, Content, Own, Output, Away, Plain, spot_cmp}
 use Rattle.sp_cell.specs.Spots.{In}
 use Rattle.std.proofs.lemmas.Bool.{cases_eq}

@@ -1,5 +1,5 @@
 use Rattle.std.proofs.Common.{arith}
-use Rattle.sp_cell.specs.Steps.{above_step}
+use Rattle.sp_cell.proofs.Steps.{above_step}
 use Rattle.sp_machine.proofs.children.above_all.Goals as goal
 use Rattle.sp_machine.proofs.children.above_all.Goals.{then-least-spot, else-least-spot}
 

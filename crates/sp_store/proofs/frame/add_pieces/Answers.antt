@@ -1,6 +1,6 @@
 use Rattle.std.proofs.Common.{ap, ◌∙◌, take}
 use Rattle.sp_cell.specs.Frame.{without}
-use Rattle.sp_cell.specs.FrameLaws.{without_pieces}
+use Rattle.sp_cell.proofs.FrameLaws.{without_pieces}
 use Rattle.sp_store.proofs.Frames.{any_err}
 use Rattle.sp_store.proofs.frame.add_pieces.Goals as goal
 

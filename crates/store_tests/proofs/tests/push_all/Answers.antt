@@ -3,7 +3,7 @@ use Rattle.std.proofs.Math.ListN.{length-append}
 use Rattle.std.specs.FinMap as map
 use Rattle.sp_cell.specs.declared.spot.Spot.{Spot}
 use Rattle.sp_cell.specs.Frame.{next_frame, pushed}
-use Rattle.sp_cell.specs.FrameLaws.{next_pushed}
+use Rattle.sp_cell.proofs.FrameLaws.{next_pushed}
 use Rattle.sp_cell.specs.Map.{Plain, Away}
 use Rattle.store_tests.proofs.Rooted.{none_pieces}
 use Rattle.store_tests.proofs.tests.push_all.Goals as goal

@@ -5,8 +5,9 @@ use Rattle.sp_cell.specs.declared.spot.Handing.{Handing}
 use Rattle.sp_cell.specs.Map.{Plain}
 use Rattle.sp_cell.specs.Fork.{away, moved_of, prepared_map}
 use Rattle.sp_cell.specs.Spots.{DistinctByIndex}
-use Rattle.sp_cell.specs.Plan.{distinct_at, known_at, room_at, is_prepared, filled, away_plan_step, mixed, mixed_all}
-use Rattle.sp_cell.specs.Plan.{length-mixed}
+use Rattle.sp_cell.proofs.Plan.{distinct_at, known_at, room_at, is_prepared, filled, away_plan_step, mixed_all}
+use Rattle.sp_cell.specs.Fork.{mixed}
+use Rattle.sp_cell.proofs.Plan.{length-mixed}
 use Rattle.sp_store.proofs.store.Store.fill.Goals as goal
 
 pub index_mut-child-requires : goal.index_mut-child-requires

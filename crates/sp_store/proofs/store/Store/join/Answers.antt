@@ -1,10 +1,10 @@
 use Rattle.std.proofs.Common.{ap, subst, sym, IsSome}
 use Rattle.std.specs.FinMap as map
 use Rattle.sp_cell.specs.Map.{Plain}
-use Rattle.sp_cell.specs.Laws.{known_of_held, known_of_away}
-use Rattle.sp_cell.specs.Plan.{at_places}
+use Rattle.sp_cell.proofs.Laws.{known_of_held, known_of_away}
+use Rattle.sp_cell.proofs.Plan.{at_places}
 use Rattle.sp_cell.specs.Spots.{AllHeld}
-use Rattle.sp_cell.specs.HeldLaws.{join_keeps}
+use Rattle.sp_cell.proofs.HeldLaws.{join_keeps}
 use Rattle.sp_store.proofs.store.Store.join.Goals as goal
 
 pub hand-requires-clause-known : goal.hand-requires-clause-known

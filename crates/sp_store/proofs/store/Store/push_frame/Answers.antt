@@ -1,7 +1,7 @@
 use Rattle.std.proofs.Common.{◌≡◌, ◌≤◌, ap, arith, sym, ◌∙◌}
 use Rattle.sp_cell.specs.Map.{Plain}
 use Rattle.sp_cell.specs.Frame.{above, next_frame, without}
-use Rattle.sp_cell.specs.FrameLaws.{without_next, rising_push}
+use Rattle.sp_cell.proofs.FrameLaws.{without_next, rising_push}
 use Rattle.sp_store.proofs.store.Store.push_frame.Goals as goal
 
 pub returns-in-Err-clause-err : goal.returns-in-Err-clause-err

@@ -1,5 +1,5 @@
-use Rattle.sp_cell.specs.HeldLaws.{split_keeps}
-use Rattle.sp_cell.specs.Partition.{split_join}
+use Rattle.sp_cell.proofs.HeldLaws.{split_keeps}
+use Rattle.sp_cell.proofs.Partition.{split_join}
 use Rattle.sp_store.proofs.store.Store.split.Goals as goal
 
 pub split_by-requires-clause-apart : goal.split_by-requires-clause-apart

@@ -4,12 +4,12 @@ use Rattle.sp_cell.specs.declared.spot.Spot.{Spot}
 use Rattle.sp_cell.specs.declared.spot.Handing.{Handing}
 use Rattle.sp_cell.specs.Map.{Map, Plain, IsPiece, spot_cmp, with_map}
 use Rattle.sp_cell.specs.Fork.{lent, taken, handed, moved_of, shared_of}
-use Rattle.sp_cell.specs.Plan.{each_shared, each_moved, distinct_in, ready_step, children_step, known_ready, take_all}
-use Rattle.sp_cell.specs.Plan.{merged, at_each, in_of_at, index_at}
+use Rattle.sp_cell.proofs.Plan.{each_shared, each_moved, distinct_in, ready_step, children_step, known_ready, take_all}
+use Rattle.sp_cell.proofs.Plan.{merged, at_each, in_of_at, index_at}
 use Rattle.sp_cell.specs.Spots.{In}
-use Rattle.sp_cell.specs.FrameLaws.{known_below}
-use Rattle.sp_cell.specs.Laws.{known_of_held, known_of_piece}
-use Rattle.sp_cell.specs.Steps.{known_away}
+use Rattle.sp_cell.proofs.FrameLaws.{known_below}
+use Rattle.sp_cell.proofs.Laws.{known_of_held, known_of_piece}
+use Rattle.sp_cell.proofs.Steps.{known_away}
 use Rattle.sp_store.proofs.store.Store.split_by.Goals as goal
 
 pub loop-handing-init : goal.loop-handing-init

@@ -1,4 +1,3 @@
--- None of this belongs to what the program promises: it is for contracts between crates.
 -- Laws of frame numbers, and of frames pushed and popped. The proofs of the store, the machine and the code above use
 -- them; they stand here since they speak of no representation.
 use Rattle.std.specs.Prelude.{◌≡◌, ◌≢◌, ◌⊎◌, ℕ, zero, suc, ◌+◌, ◌-◌, ◌≤◌, ◌<◌, ◌==◌, ◌||◌, not, cond, Bool, true, false}
@@ -18,9 +17,9 @@ use Rattle.sp_cell.specs.declared.spot.Spot.{Spot}
 use Rattle.sp_cell.specs.declared.cell.Cell.TheVariants.{Undefined}
 use Rattle.sp_cell.specs.Map.{Map, Content, Own, Plain, spot_cmp}
 use Rattle.std.proofs.lemmas.Cmp.{tied_itself}
-use Rattle.sp_cell.specs.Order.{spot_same, spot_total}
+use Rattle.sp_cell.proofs.Order.{spot_same, spot_total}
 use Rattle.sp_cell.specs.Frame.{above, frames, with_pieces, without, next_frame, newest, pushed, IsRising}
-use Rattle.sp_cell.specs.Laws.{get_other, same_or, same_map}
+use Rattle.sp_cell.proofs.Laws.{get_other, same_or, same_map}
 
 -- ---- numbers
 

@@ -1,4 +1,3 @@
--- None of this belongs to what the program promises: it is for contracts between crates.
 -- What a fork leaves to whom, and that its joins give the map back. The contract of `split` promises it as laws of
 -- the definition in `Fork.antt`, so that a wrong `handed` would be seen.
 use Rattle.std.specs.Prelude.{◌≡◌, ℕ, ℤ, ◌<◌, ◌≢◌, List, [], ◌∷◌, ◌++◌, Option, None, Some, IsSome}
@@ -6,13 +5,14 @@ use Rattle.std.proofs.Common.{sym, ap, refl, ◌∙◌, arith, inl, inr}
 use Rattle.std.specs.FinMap as map
 use Rattle.sp_cell.specs.declared.spot.Spot.{Spot}
 use Rattle.sp_cell.specs.declared.spot.Handing.{Handing}
-use Rattle.sp_cell.specs.Map.{Map, Shared, Away, Plain, cells_at, spot_cmp}
-use Rattle.sp_cell.specs.Fork.{taken, lent, away, with_index, index_frame, child_map, children_of, handed, joined}
+use Rattle.sp_cell.specs.Map.{Map, Shared, Away, cells_at, spot_cmp}
+use Rattle.sp_cell.specs.Fork.{joined_all, taken, lent, away, with_index, index_frame, child_map, children_of, handed}
 use Rattle.sp_cell.specs.Fork.{moved_of, shared_of}
 use Rattle.sp_cell.specs.Frame.{above, frames}
-use Rattle.sp_cell.specs.Laws.{get_other, same_map, known_of_held}
-use Rattle.sp_cell.specs.Plan.{in_or, get_taken_in, get_taken_out, get_lent_in, get_lent_out, get_away_in, get_away_out}
-use Rattle.sp_cell.specs.Plan.{taken_alike, lent_alike, in_front, in_back}
+use Rattle.sp_cell.proofs.Laws.{get_other, same_map, known_of_held}
+use Rattle.sp_cell.proofs.Plan.{in_or, get_taken_in, get_taken_out, get_lent_in, get_lent_out, get_away_in}
+use Rattle.sp_cell.proofs.Plan.{get_away_out}
+use Rattle.sp_cell.proofs.Plan.{taken_alike, lent_alike, in_front, in_back}
 use Rattle.sp_cell.specs.Spots.{In, NotIn, AllHeld}
 
 -- ---- the parent
@@ -65,11 +65,6 @@ child_rest m h q n o d = get_taken_out m h.moved _ q n
     ∙ map.get-empty spot_cmp q
 
 -- ---- the joins give the map back
-
--- children joined one after another
-abbrev pub joined_all : Map → List Plain → Map
-joined_all m [] = m
-joined_all m (c ∷ cs) = joined_all (joined m c) cs
 
 taken_append : (m : Map) (xs ys : List Spot) (c : Map) → taken m (xs ++ ys) c ≡ taken m ys (taken m xs c)
 taken_append m [] ys c = refl

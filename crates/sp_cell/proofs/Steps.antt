@@ -1,4 +1,3 @@
--- None of this belongs to what the program promises: it is for contracts between crates.
 -- One more spot of a fork or a join, as a loop takes it. The proofs of the loops of the store and of the machine use
 -- it, for what the first k spots have done.
 use Rattle.std.specs.Prelude.{◌≡◌, ℕ, zero, suc, ◌+◌, ◌<◌, ◌≢◌, List, [], ◌∷◌, length, take, Option, None, Some, IsSome}
@@ -11,7 +10,7 @@ use Rattle.sp_cell.specs.declared.cell.Cell.TheVariants.{Undefined}
 use Rattle.sp_cell.specs.Fork.{hold, taken, lent, away, IsLentAt}
 use Rattle.sp_cell.specs.Spots.{DistinctByIndex}
 use Rattle.sp_cell.specs.Frame.{with_pieces, above, frames}
-use Rattle.sp_cell.specs.Laws.{get_other, get_here, known_insert, same_or}
+use Rattle.sp_cell.proofs.Laws.{get_other, get_here, known_insert, same_or}
 
 taken_suc : (m : Map) (ss : List Spot) (c : Map) (k : ℕ) (d : Spot) → k < length ss
     → taken m (take (suc k) ss) c ≡ hold (taken m (take k ss) c) (get_or ss k d) (map.get m (get_or ss k d))

@@ -1,4 +1,3 @@
--- None of this belongs to what the program promises: it is for contracts between crates.
 -- Laws of the map of a store: what is found after an insert, and when two maps are one. The other laws here and the
 -- proofs of the crates above go by them.
 use Rattle.std.specs.Prelude.{◌≡◌, cond, Option, Some, None, ◌≢◌, ◌⊎◌, IsSome}
@@ -10,7 +9,7 @@ use Rattle.std.specs.declared.cmp.Ordering.TheVariants.{Less, Equal, Greater}
 use Rattle.std.specs.FinMap as map
 use Rattle.sp_cell.specs.declared.spot.Spot.{Spot}
 use Rattle.sp_cell.specs.Map.{Map, Content, Away, IsHeld, IsPiece, spot_cmp}
-use Rattle.sp_cell.specs.Order.{spot_total, spot_same}
+use Rattle.sp_cell.proofs.Order.{spot_total, spot_same}
 
 pub apart_less : (r : Ordering) → r ≡ Less → r ≡ Equal → ⊥
 apart_less r p q = cc

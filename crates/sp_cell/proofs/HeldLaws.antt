@@ -1,4 +1,3 @@
--- None of this belongs to what the program promises: it is for contracts between crates.
 -- A fork and a join keep the partition of all variables. The laws of `sp_store` promise it in their contracts; it is
 -- led from one variable to one child, and from there to all stores.
 use Rattle.std.specs.Prelude.{◌≡◌, ◌≢◌, ◌⊎◌, ℕ, ◌+◌, if◌then◌else◌, Bool, List, [], ◌∷◌, ◌++◌, Option, None, Some}
@@ -12,13 +11,13 @@ use Rattle.sp_cell.specs.declared.spot.Spot.{Spot}
 use Rattle.sp_cell.specs.declared.spot.Handing.{Handing}
 use Rattle.sp_cell.specs.Map.{Map, Content, Own, Shared, Output, Away, Plain, IsPiece, cells_of, cells_at}
 use Rattle.sp_cell.specs.Fork.{child_map, children_of, handed, joined, moved_of, shared_of, index_frame}
-use Rattle.sp_cell.specs.FrameLaws.{is_same, is_other}
+use Rattle.sp_cell.proofs.FrameLaws.{is_same, is_other}
 use Rattle.sp_cell.specs.Held.{View, IsNotHeld, Agree, IsNamed, AgreeOnAll, IsPartition, child_means, child_views}
 use Rattle.sp_cell.specs.Held.{IsFresh, KeepsPartition, RejoinsPartition}
-use Rattle.sp_cell.specs.Laws.{known_of_held, known_of_piece}
-use Rattle.sp_cell.specs.Partition.{parent_moved, parent_shared, parent_rest, child_moved, child_shared, child_rest}
-use Rattle.sp_cell.specs.Partition.{below_above}
-use Rattle.sp_cell.specs.Plan.{in_or, not_both, in_front, in_back, distinct_back, get_taken_in, get_taken_out}
+use Rattle.sp_cell.proofs.Laws.{known_of_held, known_of_piece}
+use Rattle.sp_cell.proofs.Partition.{parent_moved, parent_shared, parent_rest, child_moved, child_shared, child_rest}
+use Rattle.sp_cell.proofs.Partition.{below_above}
+use Rattle.sp_cell.proofs.Plan.{in_or, not_both, in_front, in_back, distinct_back, get_taken_in, get_taken_out}
 use Rattle.sp_cell.specs.Spots.{In, NotIn, IsDistinct, AllHeld, AllPieces, AllAway}
 
 -- ---- one variable

@@ -1,4 +1,3 @@
--- None of this belongs to what the program promises: it is for contracts between crates.
 -- Whole plans: what the children get, one after another, and that no two of them get one spot. The proofs of the two
 -- loops of `split` go by it, child by child, and so do the laws of partitions.
 use Rattle.std.specs.Prelude.{◌≡◌, ℕ, ℤ, zero, suc, ◌+◌, ◌<◌, ◌≤◌, ◌≢◌, ◌⊎◌, List, [], ◌∷◌, ◌++◌, length, take, drop}
@@ -10,10 +9,11 @@ use Rattle.std.specs.FinMap as map
 use Rattle.sp_cell.specs.declared.spot.Spot.{Spot}
 use Rattle.sp_cell.specs.declared.spot.Handing.{Handing}
 use Rattle.sp_cell.specs.Map.{Map, Content, Shared, Away, Plain, cells_at, spot_cmp}
-use Rattle.sp_cell.specs.Fork.{hold, taken, lent, away, with_index, index_frame, child_map, child_of, children_of}
+use Rattle.sp_cell.specs.Fork.{mixed, hold, taken, lent, away, with_index, index_frame, child_map, child_of}
+use Rattle.sp_cell.specs.Fork.{children_of}
 use Rattle.sp_cell.specs.Fork.{prepared_map, prepared, moved_of, shared_of, HasIndex}
 use Rattle.sp_cell.specs.Spots.{In, NotIn, IsDistinct, AllPieces, DistinctByIndex}
-use Rattle.sp_cell.specs.Laws.{get_other, get_here, known_insert, known_of_piece, same_or, same_map}
+use Rattle.sp_cell.proofs.Laws.{get_other, get_here, known_insert, known_of_piece, same_or, same_map}
 
 -- ---- membership by recursion
 
@@ -190,12 +190,6 @@ room_for m h q i = elim (in_or q h.shared) [
     index_known c n (Some i) q k = known_insert c _ _ q k
 
 -- ---- a plan, child by child
-
--- the first i children complete, and the others prepared
-abbrev pub mixed : Map → List Handing → ℕ → List Plain
-mixed m [] i = []
-mixed m (h ∷ hs) zero = prepared m h ∷ mixed m hs zero
-mixed m (h ∷ hs) (suc i) = child_of m h ∷ mixed m hs i
 
 -- all children complete
 pub mixed_all : (m : Map) (hs : List Handing) → mixed m hs (length hs) ≡ children_of m hs
