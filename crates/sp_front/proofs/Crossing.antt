@@ -23,7 +23,7 @@ use Rattle.sp_tree.specs.contracts.checked.Checked as Checked
 use Rattle.sp_varsets.proofs.sets.Sets.TheSendSync as sets
 use Rattle.sp_code.proofs.code.Code.TheSendSync as code
 use Rattle.sp_front.specs.contracts.compiling.Accepted as Accepted
-use Rattle.sp_front.specs.contracts.phases.CompiledText as CompiledText
+use Rattle.sp_front.specs.contracts.to_code.CompiledText as CompiledText
 
 checked_send : IsSend Checked.the_field.row
 checked_send = search (

@@ -89,7 +89,7 @@ pub fn compile(alloc: Global, text: &[u8]) -> Result<Accepted, Halt>
 }
 
 /// The stack of the phases, in bytes: addresses alone, since a page is used once it is touched.
-const STACK: usize = 0x4000_0000;
+pub(crate) const STACK: usize = 0x4000_0000;
 
 /// What the thread of the phases up to types promises of its answer about this text.
 #[derive(Drop)]

@@ -3,7 +3,7 @@
 ghost use Rattle.std.specs.Prelude.{◌≡◌};
 ghost use Rattle.sp_front.specs.Codes.{Codes, halt_of};
 
-use crate::compiling::{Accepted, compile};
+use crate::compiling::{Accepted, STACK, compile};
 use sp_base::{Halt, Place, Refusal, Rule};
 use sp_code::Code;
 use sp_generate::{GenError, generate};
@@ -79,9 +79,6 @@ pub fn compiled(alloc: Global, text: &[u8]) -> Result<CompiledText, Halt>
         Err(error) => Err(halt_of(error)),
     }
 }
-
-/// The stack of all phases, in bytes: addresses alone, since a page is used once it is touched.
-const STACK: usize = 0x4000_0000;
 
 /// What the thread of the phases promises of its answer about this text.
 #[derive(Drop)]

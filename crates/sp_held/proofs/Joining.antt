@@ -6,9 +6,9 @@ use Rattle.std.specs.FinMap as map
 use Rattle.std.proofs.lemmas.Option.{same_Some}
 use Rattle.sp_cell.specs.declared.spot.Spot.{Spot}
 use Rattle.sp_cell.specs.Held.{Agree}
-use Rattle.sp_cell.specs.Laws.{known_of_held, known_of_away}
+use Rattle.sp_cell.proofs.Laws.{known_of_held, known_of_away}
 use Rattle.sp_cell.specs.Map.{Plain}
-use Rattle.sp_cell.specs.Plan.{in_or, get_taken_in, get_taken_out}
+use Rattle.sp_cell.proofs.Plan.{in_or, get_taken_in, get_taken_out}
 use Rattle.sp_cell.specs.Spots.{In, NotIn}
 use Rattle.sp_journal.specs.Maps.{at_key}
 use Rattle.sp_journal.specs.declared.entry.Birth.{Birth}

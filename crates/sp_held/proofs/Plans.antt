@@ -4,7 +4,7 @@ use Rattle.std.proofs.Common.{[], ◌∷◌, ◌++◌, subst, arith}
 use Rattle.sp_base.proofs.Facts.{less_same_or_more}
 use Rattle.sp_cell.specs.declared.spot.Spot.{Spot}
 use Rattle.sp_cell.specs.Fork.{moved_of, shared_of}
-use Rattle.sp_cell.specs.Plan.{not_both, in_front, in_back, distinct_back}
+use Rattle.sp_cell.proofs.Plan.{not_both, in_front, in_back, distinct_back}
 use Rattle.sp_cell.specs.Spots.{In, IsDistinct}
 use Rattle.sp_code.specs.declared.code.ForkTable.{ForkTable}
 use Rattle.sp_code.specs.declared.code.Layout.{Layout}

@@ -11,13 +11,13 @@ use Rattle.std.proofs.lemmas.Option.{same_Some}
 use Rattle.sp_cell.specs.declared.spot.Spot.{Spot}
 use Rattle.sp_cell.specs.declared.spot.Handing.{Handing}
 use Rattle.sp_cell.specs.Fork.{lent, with_index, index_frame, child_map, moved_of, shared_of}
-use Rattle.sp_cell.specs.FrameLaws.{is_same, is_other}
+use Rattle.sp_cell.proofs.FrameLaws.{is_same, is_other}
 use Rattle.sp_cell.specs.Held.{IsNotHeld, Agree}
-use Rattle.sp_cell.specs.Laws.{known_of_held, known_of_piece}
+use Rattle.sp_cell.proofs.Laws.{known_of_held, known_of_piece}
 use Rattle.sp_cell.specs.Map.{Map, Plain, Shared, cells_at, spot_cmp}
-use Rattle.sp_cell.specs.Partition.{below_above, child_moved, child_shared, child_rest, parent_moved, parent_shared}
-use Rattle.sp_cell.specs.Partition.{parent_rest}
-use Rattle.sp_cell.specs.Plan.{in_or, not_both, get_taken_out, get_lent_out}
+use Rattle.sp_cell.proofs.Partition.{below_above, child_moved, child_shared, child_rest, parent_moved, parent_shared}
+use Rattle.sp_cell.proofs.Partition.{parent_rest}
+use Rattle.sp_cell.proofs.Plan.{in_or, not_both, get_taken_out, get_lent_out}
 use Rattle.sp_cell.specs.Spots.{In, NotIn}
 use Rattle.sp_journal.specs.Births.{Births, is_next}
 use Rattle.sp_journal.specs.Maps.{at_key}

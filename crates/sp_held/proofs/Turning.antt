@@ -10,8 +10,8 @@ use Rattle.sp_cell.specs.declared.cell.Cell.{Cell}
 use Rattle.sp_cell.specs.declared.spot.Spot.{Spot}
 use Rattle.sp_cell.specs.declared.spot.Address.{Address}
 use Rattle.sp_cell.specs.Frame.{next_frame, newest, popped, without}
-use Rattle.sp_cell.specs.FrameLaws.{is_same, is_other, known_below, without_here, without_other}
-use Rattle.sp_cell.specs.Laws.{get_here, get_other, same_or, known_of_held}
+use Rattle.sp_cell.proofs.FrameLaws.{is_same, is_other, known_below, without_here, without_other}
+use Rattle.sp_cell.proofs.Laws.{get_here, get_other, same_or, known_of_held}
 use Rattle.sp_cell.specs.Map.{Content, Own, Plain, IsHeld, output_spot, IsOwn}
 use Rattle.sp_cell.specs.Spots.{In}
 use Rattle.sp_code.specs.declared.code.Layout.{Layout}

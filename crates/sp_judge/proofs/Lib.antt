@@ -1,4 +1,4 @@
-mod Keys
+pub mod Keys
 pub mod Prefixing
 mod ClockLaws
 mod Tallies

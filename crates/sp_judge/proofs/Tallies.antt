@@ -10,11 +10,11 @@ use Rattle.sp_journal.specs.Names.{Name, Channel, same_name, Happening, Opened, 
 use Rattle.sp_journal.specs.Names.{Paused, Occurrence}
 use Rattle.sp_journal.specs.Past.{Judged, learn, teach, report, now, met_now, judged_by}
 use Rattle.sp_meaning.proofs.Keys.{name_test}
-use Rattle.sp_past.specs.Prefixes.{is_counted, Counts, WaitsForNone}
+use Rattle.sp_judge.specs.Prefixes.{is_counted, Counts, WaitsForNone}
 use Rattle.sp_judge.specs.Counts.{made, PlaceOf, becomes, gains, shares, gives_back, mine, theirs, both, met_counts}
 use Rattle.sp_judge.specs.Counts.{counted_by}
-use Rattle.sp_past.proofs.Keys.{name_itself, name_is}
-use Rattle.sp_past.proofs.Prefixing.{Kept, get_low, get_last, pair_second}
+use Rattle.sp_judge.proofs.Keys.{name_itself, name_is}
+use Rattle.sp_judge.proofs.Prefixing.{Kept, get_low, get_last, pair_second}
 
 -- counts that say which of these entries are known
 pub record Says (es : List Occurrence) (f : ℕ → Bool) (g : Name → ℕ) : Type 0 where

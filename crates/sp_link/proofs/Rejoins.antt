@@ -8,7 +8,7 @@ use Rattle.std.specs.FinMap as fin
 use Rattle.sp_cell.specs.declared.spot.Spot.{Spot}
 use Rattle.sp_cell.specs.Fork.{joined}
 use Rattle.sp_cell.specs.Map.{Plain, Content, with_map}
-use Rattle.sp_cell.specs.Plan.{get_taken_out, not_both}
+use Rattle.sp_cell.proofs.Plan.{get_taken_out, not_both}
 use Rattle.sp_cell.specs.Spots.{In, NotIn}
 use Rattle.sp_meaning.specs.Model.{Name, Condition, Absent, Ended, Becomes, changed}
 use Rattle.sp_meaning.specs.Steps.{has_ended, all_ended}

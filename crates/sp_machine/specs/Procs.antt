@@ -1,8 +1,8 @@
 -- None of this belongs to what the program promises: it is for contracts between crates.
 -- A process in memory as the definitions see it, and what one instruction and one turn of it do. Each instruction's
 -- contract here is `Came` of the definition's instruction, and the kernel and the runner cite the turn.
-use Rattle.std.specs.Prelude.{◌≡◌, ◌≢◌, ℕ, ◌+◌, ◌≤◌, ℤ, pos, ◌+ℤ◌, ◌≤ℤ◌, List, Option, Some, None, Bool, not, if◌then◌else◌}
-use Rattle.std.specs.Prelude.{◌⊎◌, slice_get}
+use Rattle.std.specs.Prelude.{◌≡◌, ◌≢◌, ℕ, ◌+◌, ◌≤◌, ℤ, pos, ◌+ℤ◌, ◌≤ℤ◌, List, Option, Some, None, Bool, not}
+use Rattle.std.specs.Prelude.{if◌then◌else◌, ◌⊎◌, slice_get}
 use Rattle.sp_base.specs.declared.fault.Fault.{Fault}
 use Rattle.sp_base.specs.declared.limits.Limits.{Limits}
 use Rattle.sp_cell.specs.declared.spot.Address.{Address}

@@ -12,9 +12,6 @@ ghost use Rattle.sp_machine.specs.Conversions.{converted};
 
 use crate::stack::Operand;
 use crate::state::{Interrupt, State, unpacked};
-use sp_arithmetic::{
-    absolute_of, binary, next_of, odd, previous_of, square_of, truth_of, unary, within,
-};
 use sp_base::{Fault, Limits, Memory};
 use sp_code::{Code, Instr};
 use sp_tree::{BinaryOp, UnaryOp};

@@ -165,7 +165,7 @@ fn beginning(table: &ForkTable, number: u64) -> (u32, Option<u32>)
 }
 
 /// The least number above every frame.
-#[tactic(auto, using(sp_cell::specs::Steps::above_step))]
+#[tactic(auto, using(sp_cell::proofs::Steps::above_step))]
 fn above_all(spots: &[Spot]) -> u64
     requires { FramesBelow spots.now 18446744073709551615 }
     ensures { result ≡ above (frames spots.now) }

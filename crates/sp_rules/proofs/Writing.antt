@@ -10,8 +10,8 @@ use Rattle.sp_tree.specs.Interference.{IsMember}
 use Rattle.sp_cell.specs.declared.spot.Spot.{Spot}
 use Rattle.sp_cell.specs.declared.spot.Address.{Address}
 use Rattle.sp_cell.specs.Frame.{next_frame}
-use Rattle.sp_cell.specs.FrameLaws.{is_same, is_other, known_below}
-use Rattle.sp_cell.specs.Laws.{known_of_held}
+use Rattle.sp_cell.proofs.FrameLaws.{is_same, is_other, known_below}
+use Rattle.sp_cell.proofs.Laws.{known_of_held}
 use Rattle.sp_cell.specs.Map.{Plain}
 use Rattle.sp_code.specs.declared.instr.Instr.TheVariants as i
 use Rattle.sp_code.specs.declared.code.Formal.{Formal}

@@ -4,8 +4,8 @@
 use Rattle.std.specs.Prelude.{ℕ, ℤ, pos, ◌+ℤ◌, ◌-ℤ◌, nat_abs, int_lt, List, Bool, false, not, Option}
 use Rattle.std.specs.Prelude.{if◌then◌else◌}
 use Rattle.std.specs.Option.{option_map}
-use Rattle.sp_items.specs.declared.Taken.{Taken}
-use Rattle.sp_items.specs.Taking.{taken_of}
+use Rattle.sp_values.specs.declared.items.Taken.{Taken}
+use Rattle.sp_values.specs.Taking.{taken_of}
 use Rattle.sp_tree.specs.Items as i
 use Rattle.sp_tree.specs.Plain.{Stmt}
 use Rattle.sp_meaning.specs.Own.{Setting, Item, Do, First, Again, Test, Leave, Break}

@@ -29,8 +29,8 @@ use crate::texts::{shown, taken_by};
 use crate::value::{Address, Chan, Value, copy_name};
 use crate::{have, take};
 use sp_base::{Fault, List, Memory};
-use sp_items::{cut_to, line_length};
 use sp_tree::{Arm, Block, Expr, Stmt, Var};
+use sp_values::{cut_to, line_length};
 
 /// What a statement does once its ordinal is known.
 #[derive(Clone, Copy)]

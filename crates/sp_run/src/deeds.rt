@@ -12,7 +12,7 @@ ghost use Rattle.sp_run.specs.Items.{item_of, items_of};
 ghost use Rattle.sp_run.specs.Views.{plain_value, plain_address};
 ghost use Rattle.sp_run.specs.Doings.{plain_deed, births_of};
 ghost use Rattle.sp_run.specs.Texts.{forall, index_set, leaves};
-ghost use Rattle.sp_items.specs.Taking.{taken_of};
+ghost use Rattle.sp_values.specs.Taking.{taken_of};
 ghost use Rattle.sp_run.specs.DirectDeeds.{peek, settle, turn_of, fork, write, advance, take_in};
 
 use crate::calls::tick;
@@ -27,8 +27,8 @@ use crate::texts::padded;
 use crate::value::{Address, Chan, Loc, Value};
 use crate::{have, take};
 use sp_base::{Fault, List, Memory};
-use sp_items::Taken;
 use sp_tree::{Arm, Stmt};
+use sp_values::Taken;
 
 /// The children that are to be born: one for each process statement, or one for each value of an index.
 #[derive(Clone, Copy)]

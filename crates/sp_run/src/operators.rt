@@ -1,7 +1,7 @@
 //! Operators on values, and components of variables.
 
 ghost use Rattle.std.specs.Prelude.{◌≡◌, ◌∷◌, ◌++◌, [], ◌≤ℤ◌, ◌-ℤ◌, nat_abs, IfOk, drop};
-ghost use Rattle.sp_arithmetic.specs.Worked.{worked};
+ghost use Rattle.sp_values.specs.Worked.{worked};
 ghost use Rattle.sp_meaning.specs.Own.{position_in};
 ghost use Rattle.sp_run.specs.Machines.{setting_of, plain_held};
 ghost use Rattle.sp_run.specs.Comings.{Implements, same, pointed};
@@ -23,12 +23,12 @@ use crate::stop::{Done, Halted};
 use crate::store::{fetch, look};
 use crate::value::{Address, Chan, Loc, Value, copy_loc, is_same_channel};
 use crate::{have, take};
-use sp_arithmetic::{
-    absolute_of, binary, next_of, odd, previous_of, square_of, truth_of, unary, within,
-};
 use sp_base::{Fault, List, MAXINT, Memory};
-use sp_items::is_at_line_end;
 use sp_tree::{BinaryOp, KindOf, StandardFn, UnaryOp};
+use sp_values::{
+    absolute_of, binary, is_at_line_end, next_of, odd, previous_of, square_of, truth_of, unary,
+    within,
+};
 use std::alloc::Global;
 
 /// What an operator gives, as a value.

@@ -7,8 +7,8 @@ ghost use Rattle.sp_meaning.specs.Deeds.{shown, taken_by};
 ghost use Rattle.sp_run.specs.Texts.{taken_if};
 
 use sp_base::{List, Memory, put_signed};
-use sp_items::{Taken, byte_of, char_in, number_in, truth_text};
 use sp_tree::KindOf;
+use sp_values::{Taken, byte_of, char_in, number_in, truth_text};
 use std::alloc::Global;
 
 /// What is read of a type.

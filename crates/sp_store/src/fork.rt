@@ -16,7 +16,7 @@ use sp_cell::Spot;
 use std::alloc::Global;
 
 /// The least number above every frame.
-#[tactic(auto, using(sp_cell::specs::Steps::above_step))]
+#[tactic(auto, using(sp_cell::proofs::Steps::above_step))]
 pub(crate) fn above_all(spots: &[Spot]) -> u64
     requires { FramesBelow spots.now 18446744073709551615 }
     ensures { result ≡ above (frames spots.now) }
@@ -31,7 +31,7 @@ pub(crate) fn above_all(spots: &[Spot]) -> u64
 }
 
 /// Adds every spot, with nothing there yet.
-#[tactic(auto, using(sp_cell::specs::Steps::away_step))]
+#[tactic(auto, using(sp_cell::proofs::Steps::away_step))]
 pub(crate) fn keep_room(slots: &mut Slots, spots: &[Spot]) -> Result<(), Memory>
     ensures { OnOk result (slots.new ≡ away slots.old spots.now) }
 {
@@ -42,7 +42,7 @@ pub(crate) fn keep_room(slots: &mut Slots, spots: &[Spot]) -> Result<(), Memory>
 }
 
 /// One more holder of the cells at the spot. The first one copies the piece, which the parent goes on to own.
-#[tactic(auto, using(sp_cell::specs::Laws::insert_same))]
+#[tactic(auto, using(sp_cell::proofs::Laws::insert_same))]
 fn one_more(alloc: Global, from: &Slots, ready: &mut Slots, spot: Spot) -> Result<Entry, Memory>
     requires piece { IsPiece (map.get from.now spot) }
     requires lent { IsLentAt from.now ready.old spot }
@@ -61,7 +61,7 @@ fn one_more(alloc: Global, from: &Slots, ready: &mut Slots, spot: Spot) -> Resul
 }
 
 /// Shares the pieces at the spots.
-#[tactic(auto, using(sp_cell::specs::Steps::lent_step, sp_cell::specs::Steps::lent_lent))]
+#[tactic(auto, using(sp_cell::proofs::Steps::lent_step, sp_cell::proofs::Steps::lent_lent))]
 pub(crate) fn lend(
     alloc: Global,
     from: &Slots,

@@ -10,7 +10,7 @@ use sp_cell::Spot;
 use std::alloc::Global;
 
 /// Adds an undefined piece for each size, from the variable `first` on.
-#[tactic(auto, using(sp_cell::specs::Steps::pieces_step))]
+#[tactic(auto, using(sp_cell::proofs::Steps::pieces_step))]
 pub(crate) fn add_pieces(
     alloc: Global,
     slots: &mut Slots,

@@ -160,7 +160,7 @@ impl Store {
 
     /// Writes one cell. A piece that is shared becomes an own copy first; where it is own, the call takes no memory and
     /// succeeds. Where memory is refused, the store is unchanged.
-    #[tactic(auto, using(sp_cell::specs::Laws::insert_same))]
+    #[tactic(auto, using(sp_cell::proofs::Laws::insert_same))]
     #[inline(always)]
     pub fn store(&mut self, at: Address, cell: Cell) -> Result<(), Memory>
         requires { HasCells self.old.map at 1 }
@@ -176,7 +176,7 @@ impl Store {
 
     /// Makes the piece an own one, with the same cells, so that later writes take no memory. Where memory is refused,
     /// the store is unchanged.
-    #[tactic(auto, using(sp_cell::specs::Laws::insert_same))]
+    #[tactic(auto, using(sp_cell::proofs::Laws::insert_same))]
     pub fn make_own(&mut self, spot: Spot) -> Result<(), Memory>
         requires { IsPiece (map.get self.old.map spot) }
         ensures ok { OnOk result (self.new ≡ with_map self.old (owned self.old.map spot (cells_at self.old.map spot))) }
@@ -209,7 +209,7 @@ impl Store {
     }
 
     /// Puts the bytes after the output. Where memory is refused, the store is unchanged.
-    #[tactic(auto, using(sp_cell::specs::Laws::insert_same))]
+    #[tactic(auto, using(sp_cell::proofs::Laws::insert_same))]
     pub fn append(&mut self, bytes: &[u8]) -> Result<(), Memory>
         requires { IsOutput (map.get self.old.map output_spot) }
         ensures ok { OnOk result (self.new ≡ with_map self.old (appended self.old.map bytes.now)) }
@@ -225,7 +225,7 @@ impl Store {
     /// Copies as many cells from one address to another. A target piece that is shared becomes an own copy first. What
     /// the source had before the call stands in the target after it, also where both ranges overlap. Where memory is
     /// refused, the store is unchanged.
-    #[tactic(auto, using(sp_cell::specs::Laws::insert_twice, sp_cell::specs::Laws::get_here))]
+    #[tactic(auto, using(sp_cell::proofs::Laws::insert_twice, sp_cell::proofs::Laws::get_here))]
     pub fn copy(&mut self, to: Address, from: Address, cells: u32) -> Result<(), Memory>
         requires target { HasCells self.old.map to cells }
         requires source { HasCells self.old.map from cells }

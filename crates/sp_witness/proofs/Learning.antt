@@ -6,8 +6,8 @@ use Rattle.sp_base.proofs.Facts.{false_is_not_true}
 use Rattle.sp_journal.specs.Maps.{at_key}
 use Rattle.sp_journal.specs.Names.{Name, same_name}
 use Rattle.sp_journal.specs.Past.{learn, teach, report}
-use Rattle.sp_past.proofs.Keys.{name_is, name_itself}
-use Rattle.sp_past.proofs.Prefixing.{teach_more, learn_here}
+use Rattle.sp_judge.proofs.Keys.{name_is, name_itself}
+use Rattle.sp_judge.proofs.Prefixing.{teach_more, learn_here}
 use Rattle.sp_witness.specs.Needed.{any_child}
 
 pub learn_is : (p : Name) (known : ℕ → Bool) (past : Name → ℕ → Bool) (q : Name) (i : ℕ) → learn p known past q i ≡ true

@@ -9,9 +9,9 @@ use Rattle.sp_journal.specs.Maps.{at_key}
 use Rattle.sp_journal.specs.Names.{Name, Channel, same_name, same_channel, Happening, Opened, Forked, Offered, Ended}
 use Rattle.sp_journal.specs.Names.{Faulted, Laid, Paused}
 use Rattle.sp_journal.specs.Past.{Judged, learn, teach, report, now, met_now, judged_by}
-use Rattle.sp_past.specs.Prefixes.{WaitsForNone}
-use Rattle.sp_past.proofs.Keys.{channel_is, channel_itself}
-use Rattle.sp_past.proofs.Prefixing.{learn_more, teach_more, report_more, learn_here}
+use Rattle.sp_judge.specs.Prefixes.{WaitsForNone}
+use Rattle.sp_judge.proofs.Keys.{channel_is, channel_itself}
+use Rattle.sp_judge.proofs.Prefixing.{learn_more, teach_more, report_more, learn_here}
 use Rattle.sp_witness.specs.Needed.{any_child, parent_is, needed_to_meet, needed_before}
 use Rattle.sp_witness.proofs.Learning.{IsChildAt, any_here, any_is, key_here, key_is, key_more, learn_is, report_here}
 use Rattle.sp_witness.proofs.Learning.{report_is, teach_here, teach_is}

@@ -9,8 +9,8 @@ use Rattle.sp_base.specs.declared.halt.Refusal.{Refusal}
 use Rattle.sp_base.specs.declared.limits.Limits.{Limits}
 use Rattle.sp_code.specs.declared.code.Parts.{Parts}
 use Rattle.sp_codefile.specs.CodeText.{IsTextOf}
-use Rattle.sp_compile.specs.Codes.{IsCompiled}
-use Rattle.sp_compile.specs.declared.phases.CompiledText.{CompiledText}
+use Rattle.sp_front.specs.Codes.{IsCompiled}
+use Rattle.sp_front.specs.declared.to_code.CompiledText.{CompiledText}
 use Rattle.sp_execute.specs.declared.execution.Ran.{Ran}
 use Rattle.sp_format.specs.Formats.{Formats}
 use Rattle.sp_gen.specs.Generated.{generated_text}

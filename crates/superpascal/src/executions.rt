@@ -17,7 +17,7 @@ use crate::prepare::{prepare_file, read_input};
 use sp_base::{Limits, Memory, Text};
 use sp_code::Code;
 use sp_codefile::laws::a_text_is_of_one_code;
-use sp_execute::run_code;
+use sp_execute::{accepted_programs_are_ready, run_code};
 use sp_kernel::Closed;
 use sp_outside::{Gate, Library, Source};
 use sp_print::end_lines;

@@ -29,12 +29,14 @@
 //!   `specs/Steps.antt`, what its answer is made of in `specs/Answering.antt`, why an answer is due in
 //!   `specs/Causes.antt` (`Cause`), what it has to write in `specs/Answers.antt`.
 //! - Of the proofs, `Running` and `RunningFiles` lead from `sp_execute` to a text's program and to a code file,
-//!   `Parts`, `Replaying` and `Executed` from the steps of a command to the cause of its answer, `Why` from an ending to
-//!   its cause, `Calling` and `Executing` from cause and writing to the contract; `Promising` puts the parts together.
+//!   `Parts`, `Replaying` and `Executed` from the steps of a command to the cause of its answer, `Why` from an ending
+//!   to its cause, `Calling` and `Executing` from cause and writing to the contract; `Promising` puts the parts
+//!   together.
 //! - The rules of the text come before its input, so `run`, `check` and `code` name the first broken rule of all;
 //!   `sets` looks up to types and `format` at characters and grammar. A text longer than the library's limit is never
 //!   seen whole; that it is longer is all that L1 says, so its refusal needs no bytes.
-//! - The thread that compiles has a copy of the text and gives back tree, sets and code; `prepare` keeps the code alone.
+//! - The thread that compiles has a copy of the text and gives back tree, sets and code; `prepare` keeps the code
+//!   alone.
 //! - "Exactly" yields to the outside and to want of memory: where the cause of a status holds, the status comes, or one
 //!   from 5 to 8. 5 and 6 come only where a count rose, and 7 only where the input, if it is told, is longer than the
 //!   limit.
@@ -48,12 +50,12 @@
 //!
 //! To change:
 //! - A status or a line: `Ending` in `src/ending.rt`, `specs/Answers.antt`, `own_line` of `specs/Answering.antt` and of
-//!   `src/answers.rt`, its cause in `Due` of `specs/Causes.antt`, the step that it ends in `specs/Steps.antt`, its clause
-//!   in `specs/Statuses.antt`, `proofs/Why.antt` and `proofs/Calling.antt`.
-//! - A command: its variant in `sp_words`; what it asks for in `src/asked.rt`; `text_of`, `IsAbout`, `FollowsUnder`, `ExecutesUnder`, `Breaks`, `Keeps`,
-//!   `asks_text`, `asks_run`, `asks_replay`, `asks_build`, `asks_execution`, `CanRead`, `Makes` and `asks_all` of
-//!   `specs/Texts.antt`; its function in `src/texts.rt`, `src/runs.rt`, `src/replays.rt` or `src/executions.rt`, its
-//!   arm in `src/top.rt`.
+//!   `src/answers.rt`, its cause in `Due` of `specs/Causes.antt`, the step that it ends in `specs/Steps.antt`, its
+//!   clause in `specs/Statuses.antt`, `proofs/Why.antt` and `proofs/Calling.antt`.
+//! - A command: its variant in `sp_words`; what it asks for in `src/asked.rt`; `text_of`, `IsAbout`, `FollowsUnder`,
+//!   `ExecutesUnder`, `Breaks`, `Keeps`, `asks_text`, `asks_run`, `asks_replay`, `asks_build`, `asks_execution`,
+//!   `CanRead`, `Makes` and `asks_all` of `specs/Texts.antt`; its function in `src/texts.rt`, `src/runs.rt`,
+//!   `src/replays.rt` or `src/executions.rt`, its arm in `src/top.rt`.
 //! - What is told of a run: `run_notes` of `specs/Runs.antt`, `src/notes.rt`.
 //! - A phase over the text: `sp_front`.
 #![tactic(auto)]

@@ -10,7 +10,7 @@ use crate::ending::Ending;
 use sp_base::{Halt, Place, Refusal, Rule, Text, Word};
 use sp_code::Code;
 use sp_codefile::{DecodeError, Rejected, decode, verify};
-use sp_compile::compiled_apart;
+use sp_front::compiled_apart;
 use sp_journal::{Journal, ReadError as JournalError, read_journal};
 use sp_outside::{Library, LoadError, ReadError, Source, read_all};
 use std::alloc::Global;

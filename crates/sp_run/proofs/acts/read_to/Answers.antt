@@ -3,7 +3,7 @@ use Rattle.sp_meaning.specs.Deeds.{taken_by}
 use Rattle.sp_run.specs.Machines.{setting_of, plain_who, plain_own, store_of}
 use Rattle.sp_run.specs.Views.{plain_address}
 use Rattle.sp_run.specs.Items.{items_of}
-use Rattle.sp_items.specs.Taking.{taken_of}
+use Rattle.sp_values.specs.Taking.{taken_of}
 use Rattle.sp_run.proofs.Acting.{value_read}
 use Rattle.sp_run.proofs.acts.read_to.Goals as goal
 

@@ -1,4 +1,4 @@
-use Rattle.std.proofs.Common.{◌≡◌, ap, arith, length, map, sym, subst}
+use Rattle.std.proofs.Common.{ap, arith, length, map, sym, subst}
 use Rattle.sp_base.proofs.Facts.{length_of_map}
 use Rattle.sp_tree.specs.Bare.{bare, bare_block, variable_of}
 use Rattle.sp_tree.specs.CheckedOf.{block_of, program_of}

@@ -1,4 +1,4 @@
-use Rattle.std.proofs.Common.{◌≡◌, suc, Some, None, inl, inr, subst, sym, ◌∙◌}
+use Rattle.std.proofs.Common.{suc, inl, inr, subst, sym, ◌∙◌}
 use Rattle.sp_machine.specs.Procs.{Came, next_of, IsTurnOf, Proceeded}
 use Rattle.sp_machine.proofs.Going.{safe_next, safe_both, on_it, on_both, smaller, smaller_both, ends_it, came_some}
 use Rattle.sp_machine.proofs.Going.{turned_with}
