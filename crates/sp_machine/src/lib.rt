@@ -26,7 +26,7 @@
 //! - After want of memory nothing is said of a process but that it keeps its number and its input.
 //!
 //! To change:
-//! - An instruction: its function, and `step` or `other` in `src/turn.rt`.
+//! - An instruction: its function, and `any_step` in `src/turn.rt`; `step` too, if programs make it often.
 //! - The frames: `src/frames.rt`.
 #![tactic(auto)]
 

@@ -79,6 +79,7 @@ pub(crate) fn unpacked(outcome: Outcome) -> Result<Option<Interrupt>, Memory>
     }
 }
 
+/// The same in two bytes.
 #[inline(always)]
 pub(crate) fn packed(told: Result<Option<Interrupt>, Memory>) -> Outcome
     ensures { unpacked result ≡ told }

@@ -84,7 +84,7 @@ impl State {
         }
     }
 
-    /// The next instruction, whichever it is, apart from the turn.
+    /// The next instruction, whichever it is: a call from the turn, told in two bytes.
     #[inline(never)]
     fn other_step(&mut self, code: &Code, limits: &Limits) -> Outcome
         requires blocks { HasDistinctBlocks code.now.layouts }
@@ -97,6 +97,7 @@ impl State {
         packed(self.any_step(code, limits))
     }
 
+    /// The next instruction, whichever it is.
     fn any_step(&mut self, code: &Code, limits: &Limits) -> Result<Option<Interrupt>, Memory>
         requires blocks { HasDistinctBlocks code.now.layouts }
         requires formals { HaveFormals code.now.layouts }
