@@ -4,7 +4,7 @@ use Rattle.std.proofs.Common.{List, [], ◌∷◌, ◌++◌, length, Some, None,
 use Rattle.std.specs.Prelude.{slice_get, Result, Ok, Err, OnOk}
 use Rattle.std.proofs.lemmas.List.{length-append}
 use Rattle.std.proofs.lemmas.Option.{same_Some}
-use Rattle.sp_base.proofs.Facts.{below_or_last, item_there}
+use Rattle.sp_base.proofs.Facts.{below_or_last, item_there, on_map}
 use Rattle.sp_code.specs.declared.code.Layout.{Layout}
 use Rattle.sp_code.specs.declared.code.ChildTable.{ChildTable}
 use Rattle.sp_code.specs.Memory.{Home}
@@ -32,11 +32,6 @@ puts_again old number n is = record { more = length-append old (n ∷ []); lists
 pub puts_index : (old new : List Node) (around x : ℕ) → Puts old new (frame.Index x) (Some around)
     → PutsChild old new around (Some x)
 puts_index old new around x p = record { more = p.more; lists = λ ls lists are l. p.lists ls lists are tt l }
-
--- what holds where there is an answer
-pub on_map : {T E : Type 0} (r : Result T E) (P Q : Type 0) → (P → Q) → OnOk r P → OnOk r Q
-on_map (Ok x) P Q f h = f h
-on_map (Err e) P Q f h = tt
 
 module _ (around : ℕ) (ts : List ChildTable) where
   pub puts_none : (old : List Node) → PutsChildren old old around ts 0

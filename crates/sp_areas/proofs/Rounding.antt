@@ -6,7 +6,7 @@ use Rattle.std.specs.Prelude.{slice_get, slice_set, not, get_or, Result, Ok, Err
 use Rattle.std.proofs.lemmas.List.{length-set}
 use Rattle.std.proofs.lemmas.List.Sums.{sum_by-set}
 use Rattle.std.proofs.lemmas.Option.{slice_get_within, slice_get-get_or, get_or_from_slice_get, none-some}
-use Rattle.sp_base.proofs.Facts.{less_same_or_more, not_true_and_false}
+use Rattle.sp_base.proofs.Facts.{less_same_or_more, not_true_and_false, on_map}
 use Rattle.sp_code.specs.declared.instr.Instr.{Instr}
 use Rattle.sp_code.specs.declared.instr.Instr.TheVariants as i
 use Rattle.sp_code.specs.declared.code.Parts.{Parts}
@@ -233,11 +233,6 @@ strays_back c p (ComesBack a n l w) = (n, w)
 
 pub lies_back : (c : Parts) (p : ℕ) → BreaksV9 c p → (p < length c.instrs) × ((a : Area) × LiesIn c p a)
 lies_back c p (ComesBack a n l w) = (back_within c n p p w, (a, l))
-
--- what holds after an answer that is no error
-pub on_map : {T E : Type 0} (r : Result T E) (P Q : Type 0) → (P → Q) → OnOk r P → OnOk r Q
-on_map (Ok x) P Q f h = f h
-on_map (Err e) P Q f h = tt
 
 module _ (c : Parts) (os : List Owner) (are : AreOwners c os) (p : ℕ) where
   pub not_broken : has_owner os p ≡ false → BreaksV9 c p → ⊥

@@ -2,11 +2,20 @@
 use Rattle.std.proofs.Common.{◌≡◌, ◌≢◌, ◌⊎◌, inl, inr, ⊎_elim, ℕ, zero, suc, ◌+◌, ◌<◌, ◌≤◌, ◌==◌, refl, sym, ap, ◌∙◌}
 use Rattle.std.proofs.Common.{Bool, true, false, true≢false, ◌&&◌, ◌||◌, not, nat_lt, nat_eq, arith}
 use Rattle.std.proofs.Common.{List, [], ◌∷◌, ◌++◌, length, map, slice_get, slice_set, Option, Some, None, is_some}
+use Rattle.std.proofs.Common.{Err, Ok, Result, ℤ, get_or}
 use Rattle.std.specs.declared.cmp.Ordering.{Ordering}
 use Rattle.std.specs.declared.cmp.Ordering.TheVariants.{Less, Equal, Greater}
 use Rattle.std.specs.Ordering.{nat_cmp, ordering_then, is_eq}
 use Rattle.std.proofs.lemmas.Bool.{or_left, or_right}
 use Rattle.std.proofs.lemmas.Bool.Decides.{nat_tests}
+use Rattle.std.specs.Result.{OnOk}
+use Rattle.std.proofs.lemmas.List.{length-append}
+use Rattle.std.specs.Prelude.{take, ◌-◌, int_le, pos, ◌-ℤ◌, sum, min}
+use Rattle.std.proofs.Math.Seq.{take-append_seam}
+use Rattle.std.proofs.lemmas.List.Sums.{sum-map, sum_by-cons}
+use Rattle.std.proofs.lemmas.Option.{slice_get-get_or}
+use Rattle.std.specs.Str.{bytes_eq}
+use Rattle.std.proofs.lemmas.Slice.Eq.{bytes_eq-Decides}
 
 -- a number is itself with nothing added after it
 pub is_plus_none : (n : ℕ) → n ≡ n + 0
@@ -258,3 +267,51 @@ pub get_in_front : {A : Type 0} (xs ys : List A) (i : ℕ) (x : A) → slice_get
 get_in_front [] ys i x e = absurd (cc e)
 get_in_front (z ∷ xs) ys zero x e = e
 get_in_front (z ∷ xs) ys (suc i) x e = get_in_front xs ys i x e
+
+-- what follows from a fact of an `Ok`
+pub on_ok : {T E A B : Type 0} (r : Result T E) → OnOk r A → (A → B) → OnOk r B
+on_ok (Ok x) a f = f a
+on_ok (Err e) a f = tt
+
+-- what holds where there is an answer, once it is led on
+pub on_map : {T E : Type 0} (r : Result T E) (P Q : Type 0) → (P → Q) → OnOk r P → OnOk r Q
+on_map (Ok x) P Q f h = f h
+on_map (Err e) P Q f h = tt
+
+-- all of a list but its last
+pub take_front : (ns : List ℕ) (n : ℕ) → take (length (ns ++ n ∷ []) - 1) (ns ++ n ∷ []) ≡ ns
+take_front ns n =
+    let l = length-append ns (n ∷ []) in
+    let e : length (ns ++ n ∷ []) - 1 ≡ length ns = omega (arith, l) in
+    ap (λ k. take k (ns ++ n ∷ [])) e ∙ take-append_seam ns (n ∷ [])
+
+-- what is at least a bound is above it by no negative number
+pub from_low : (low v : ℤ) → int_le low v ≡ true → int_le (pos 0) (v -ℤ low) ≡ true
+from_low low v x = Prim.grind (arith, x)
+
+-- two integers keep their order where one number is taken from both
+pub to_high : (low v high : ℤ) → int_le v high ≡ true → int_le (v -ℤ low) (high -ℤ low) ≡ true
+to_high low v high x = Prim.grind (arith, x)
+
+-- a sum over a list begins with its first
+pub sum_on : (f : List ℕ × ℕ → ℕ) (x : List ℕ × ℕ) (xs : List (List ℕ × ℕ)) → sum (map f (x ∷ xs)) ≡ f x + sum (map f xs)
+sum_on f x xs = sum-map f (x ∷ xs) ∙ sum_by-cons f x xs ∙ ap (λ (s : ℕ). f x + s) (sym (sum-map f xs))
+
+-- a sum with a limit, from its parts
+pub sum_capped : (m a x s : ℕ) → min (min (a + x) m + s) m ≡ min (a + (x + s)) m
+sum_capped m a x s = omega arith
+
+-- the item of a table at an index
+pub item_is : {X : Type 0} (xs : List X) (i : ℕ) (x : X) → i < length xs → x ≡ get_or xs i x → slice_get xs i ≡ Some x
+item_is xs i x l e = slice_get-get_or xs i x l ∙ ap (λ y. Some y) (sym e)
+
+-- where a list has nothing, what is made of it has nothing
+pub no_get_of_map : {A B : Type 0} (p : A → B) (vs : List A) (i : ℕ) → slice_get vs i ≡ None
+    → slice_get (map p vs) i ≡ None
+no_get_of_map p [] i e = refl
+no_get_of_map p (v ∷ vs) zero e = cc
+no_get_of_map p (v ∷ vs) (suc i) e = no_get_of_map p vs i e
+
+-- two texts of the same bytes are one
+pub same_if_bytes_eq : (x y : List ℕ) → bytes_eq x y ≡ true → x ≡ y
+same_if_bytes_eq x y e = (bytes_eq-Decides x y).0 e

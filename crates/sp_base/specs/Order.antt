@@ -30,7 +30,7 @@ pair_total = then_total (on_total (λ p. p.fork) nat_cmp_total) (on_total (λ p.
 pub name_total : IsTotalOrder name_cmp
 name_total = on_total (λ n. n.pairs) (lists_total pair_total)
 
-abbrev IsTie : Ordering → Type 0
+abbrev pub IsTie : Ordering → Type 0
 IsTie Less = ⊥
 IsTie Equal = Unit {0}
 IsTie Greater = ⊥

@@ -17,6 +17,7 @@ use Rattle.sp_cell.specs.declared.spot.Spot.{Spot}
 use Rattle.sp_cell.specs.declared.cell.Cell.TheVariants.{Undefined}
 use Rattle.sp_cell.specs.Map.{Map, Content, Own, Plain, spot_cmp}
 use Rattle.std.proofs.lemmas.Cmp.{tied_itself}
+use Rattle.sp_base.specs.Order.{tie_of}
 use Rattle.sp_cell.proofs.Order.{spot_same, spot_total}
 use Rattle.sp_cell.specs.Frame.{above, frames, with_pieces, without, next_frame, newest, pushed, IsRising}
 use Rattle.sp_cell.proofs.Laws.{get_other, same_or, same_map}
@@ -62,11 +63,6 @@ rising_push ns n r a i j l b =
 
 tied_frame : (q s : Spot) → is_eq (spot_cmp q s) ≡ true → q.frame ≡ s.frame
 tied_frame q s e = ap (λ (t : Spot). t.frame) (spot_same q s (tie_of (spot_cmp q s) e))
-  where
-    tie_of : (r : Ordering) → is_eq r ≡ true → r ≡ Equal
-    tie_of Less e = absurd (false≢true e)
-    tie_of Equal e = refl
-    tie_of Greater e = absurd (false≢true e)
 
 or_cases : (a b : Bool) → (a || b) ≡ true → (a ≡ true) ⊎ (b ≡ true)
 or_cases true b e = inl refl

@@ -8,6 +8,8 @@ use Rattle.std.specs.Fmt.{digit_glyph}
 use Rattle.std.proofs.lemmas.Bool.Decides.{nat_tests}
 use Rattle.std.proofs.lemmas.Fmt.{decimal_nonempty}
 use Rattle.std.proofs.lemmas.List.Elements.{All-head, All-tail}
+use Rattle.sp_journal.proofs.SplitLaws.{Within}
+use Rattle.sp_journal.proofs.TextLaws.{digits_within}
 use Rattle.sp_code.specs.declared.code.ChildTable.{ChildTable}
 use Rattle.sp_code.specs.declared.code.ForkTable.{ForkTable}
 use Rattle.sp_code.specs.declared.code.Layout.{Layout}
@@ -25,7 +27,7 @@ use Rattle.sp_codefile.specs.Cuts.{blank_cut}
 use Rattle.sp_codefile.specs.Items.{item_text, last_children, HasRoom, ItemFits, CanFollow, IsNext}
 use Rattle.sp_codefile.specs.Lines.{layout_words, child_words, digit_value, bytes_of, kind_of}
 use Rattle.sp_codefile.proofs.Printing.{child_body}
-use Rattle.sp_codefile.proofs.WordLaws.{Within, blank_at, digits_within, digits_no_blank}
+use Rattle.sp_codefile.proofs.WordLaws.{blank_at, digits_no_blank}
 use Rattle.sp_codefile.proofs.LayoutLaws.{layout_behind, child_behind}
 
 -- digits and what they stand for

@@ -8,6 +8,8 @@ use Rattle.std.specs.Fmt.{signed_decimal}
 use Rattle.std.proofs.lemmas.Fmt.{decimal_injective}
 use Rattle.std.proofs.lemmas.List.Elements.{All-head, All-tail}
 use Rattle.std.proofs.lemmas.Option.{same_Some}
+use Rattle.sp_journal.proofs.SplitLaws.{Within}
+use Rattle.sp_journal.proofs.TextLaws.{digits_within}
 use Rattle.sp_code.specs.declared.code.ChildTable.{ChildTable}
 use Rattle.sp_code.specs.declared.code.Formal.{Formal}
 use Rattle.sp_code.specs.declared.code.Formal.TheVariants as formal
@@ -25,7 +27,7 @@ use Rattle.sp_codefile.specs.Cuts.{blank_cut, word_of, class_cut}
 use Rattle.sp_codefile.specs.Items.{item_text, last_children, CanFollow, after_item}
 use Rattle.sp_codefile.specs.Lines.{parent_word, answer_word, layout_words, child_words, bytes_of, kind_of}
 use Rattle.sp_codefile.specs.Opcodes.{instr_named, filled}
-use Rattle.sp_codefile.proofs.WordLaws.{Within, number_cut, digits_within, no_sign}
+use Rattle.sp_codefile.proofs.WordLaws.{number_cut, no_sign}
 use Rattle.sp_codefile.proofs.InstrLaws.{IsRead, Agree, AreSmall, plain, named_plain, filled_plain, operands_small}
 use Rattle.sp_codefile.proofs.InstrLaws.{instr_cut, operand_cut}
 use Rattle.sp_codefile.proofs.ItemLaws.{code_step}

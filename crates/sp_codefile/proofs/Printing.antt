@@ -8,6 +8,7 @@ use Rattle.std.proofs.lemmas.List.Elements.{All-more}
 use Rattle.std.specs.List.{flat_map}
 use Rattle.std.proofs.Math.Seq.{take-suc, take-append_seam}
 use Rattle.std.proofs.lemmas.Grind.{flat_map-append}
+use Rattle.sp_base.proofs.Facts.{on_ok}
 use Rattle.sp_code.specs.declared.code.ChildTable.{ChildTable}
 use Rattle.sp_code.specs.Listing.{number_text, child_line, instr_line, instr_text}
 use Rattle.sp_codefile.specs.CodeText.{body, line, index_text, child_text}
@@ -70,11 +71,6 @@ line_more text xs i x old out mid new l is e f g =
 pub fits_more : {X : Type 0} (P : X → Type 0) (xs : List X) (i : ℕ) (x : X) → i < length xs → x ≡ get_or xs i x
     → All P (take i xs) → P x → All P (take (i + 1) xs)
 fits_more P xs i x l is a p = All-more P xs i x l a (subst P is p)
-
--- what follows from a fact of an `Ok`
-pub on_ok : {T E A B : Type 0} (r : Result T E) → OnOk r A → (A → B) → OnOk r B
-on_ok (Ok x) a f = f a
-on_ok (Err e) a f = tt
 
 -- the line of a numbered item
 pub numbered_line : (out mid new text : List ℕ) → mid ≡ out ++ text → new ≡ mid ++ codes "\n" → new ≡ out ++ line text

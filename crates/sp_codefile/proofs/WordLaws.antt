@@ -11,12 +11,12 @@ use Rattle.std.proofs.lemmas.List.Elements.{All-head, All-tail}
 use Rattle.std.proofs.lemmas.Bool.{eqb-true, ne_eqb, true≢false}
 use Rattle.std.proofs.lemmas.List.{nil_from_length}
 use Rattle.sp_base.proofs.Facts.{and_with_false}
+use Rattle.sp_journal.proofs.Facts.{here}
+use Rattle.sp_journal.proofs.SplitLaws.{Within, within_append, within_wider}
+use Rattle.sp_journal.proofs.TextLaws.{digits_within}
 use Rattle.sp_code.specs.Listing.{number_text}
 use Rattle.sp_codefile.specs.CodeText.{IsNumber, IsInteger}
 use Rattle.sp_codefile.specs.Cuts.{blank_cut, word_of, begins, class_cut}
-
-pub here : (j k : ℕ) → j ≡ k → j == k ≡ true
-here j k e = grind (arith, nat_tests)
 
 -- no byte is a blank
 abbrev pub NoBlank : List ℕ → Type 0
@@ -61,27 +61,6 @@ pub outside_append : (low high : ℕ) (xs ys : List ℕ) → Outside low high xs
     → Outside low high (xs ++ ys)
 outside_append low high [] ys a b = b
 outside_append low high (x ∷ xs) ys a b = (a.0, outside_append low high xs ys a.1 b)
-
--- each byte is from low to high
-abbrev pub Within : ℕ → ℕ → List ℕ → Type 0
-Within low high [] = Unit {0}
-Within low high (x ∷ xs) = (low ≤ x) × (x ≤ high) × Within low high xs
-
-pub within_append : (low high : ℕ) (xs ys : List ℕ) → Within low high xs → Within low high ys
-    → Within low high (xs ++ ys)
-within_append low high [] ys a b = b
-within_append low high (x ∷ xs) ys a b = (a.0, a.1, within_append low high xs ys a.2 b)
-
-pub within_wider : (lo hi low high : ℕ) (xs : List ℕ) → low ≤ lo → hi ≤ high → Within lo hi xs → Within low high xs
-within_wider lo hi low high [] l h w = tt
-within_wider lo hi low high (x ∷ xs) l h w =
-    (let a = w.0 in omega arith, let a = w.1 in omega arith, within_wider lo hi low high xs l h w.2)
-
-pub digits_within : (n : ℕ) → n < 2 ^ 64 → Within 48 57 (decimal n)
-digits_within n l = decimal_by_steps (λ _ ds. Within 48 57 ds)
-    (λ n h. (omega arith, omega arith, tt))
-    (λ n ds h w. within_append 48 57 ds ((48 + n % 10) ∷ []) w (omega arith, omega arith, tt))
-    n l
 
 no_blank : (xs : List ℕ) → Within 48 57 xs → NoBlank xs
 no_blank [] w = tt

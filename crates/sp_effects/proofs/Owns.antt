@@ -20,7 +20,7 @@ use Rattle.sp_shapes.specs.Reached.{reached_at}
 use Rattle.sp_shapes.specs.Stacks.{list_of}
 use Rattle.sp_shapes.proofs.Reaching.{reached_there, stands}
 use Rattle.std.proofs.lemmas.Option.{none-some, same_Some}
-use Rattle.sp_base.proofs.Facts.{below_or_last}
+use Rattle.sp_base.proofs.Facts.{below_or_last, on_map}
 use Rattle.sp_effects.specs.declared.facts.Fact.{Fact}
 use Rattle.sp_effects.specs.declared.facts.Deed.{Deed}
 use Rattle.sp_effects.specs.declared.facts.Deed.TheVariants as deed
@@ -28,11 +28,6 @@ use Rattle.sp_effects.specs.Facts.{fact, with_fact, Tells}
 use Rattle.sp_effects.specs.Own.{IsOf, IsAmong, IsStop, IsHanded, OneIsHanded, ForkedAt, ReachedAt, OwnAt, OwnBefore}
 use Rattle.sp_effects.specs.Own.{DoesBy, deed_of}
 use Rattle.sp_effects.proofs.Telling.{tells_none, tells_as, tells_then, tells_one}
-
--- what holds where all went well
-pub ok_on : {T E : Type 0} (r : Result T E) (P Q : Type 0) → (P → Q) → OnOk r P → OnOk r Q
-ok_on (Ok x) P Q f h = f h
-ok_on (Err e) P Q f h = tt
 
 -- ---- lists
 

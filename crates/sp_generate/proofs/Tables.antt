@@ -4,6 +4,7 @@ use Rattle.std.proofs.Common.{◌∙◌, arith}
 use Rattle.std.specs.Prelude.{option_map, sum, take}
 use Rattle.std.proofs.lemmas.List.Sums.{sum-map, sum_by-cons}
 use Rattle.std.proofs.lemmas.Option.{slice_get-map, same_Some}
+use Rattle.sp_base.proofs.Facts.{sum_on}
 use Rattle.sp_tree.specs.declared.checked.KindOf.TheVariants as kind
 use Rattle.sp_tree.specs.declared.checked.Block as ast_b
 use Rattle.sp_tree.specs.CheckedOf.{block_of}
@@ -33,10 +34,6 @@ slot_or p x = slots_at p 0 p.variables x ∙ ap (λ (y : ℕ). slot_by p y (slic
 pub more_on : (n : ℕ) (o : Option ℕ) → more n (one_more o) ≡ more (suc n) o
 more_on n None = refl
 more_on n (Some m) = ap Some (omega arith)
-
--- where a field begins
-sum_on : (f : List ℕ × ℕ → ℕ) (x : List ℕ × ℕ) (xs : List (List ℕ × ℕ)) → sum (map f (x ∷ xs)) ≡ f x + sum (map f xs)
-sum_on f x xs = sum-map f (x ∷ xs) ∙ sum_by-cons f x xs ∙ ap (λ (s : ℕ). f x + s) (sym (sum-map f xs))
 
 offset_at : (p : Program) (n : ℕ) (fs : List (List ℕ × ℕ)) (f o : ℕ)
     → slice_get (offsets_from (sizes p.kinds) n fs) f ≡ Some o → o ≡ n + field_offset p fs f

@@ -13,18 +13,13 @@ use Rattle.sp_base.specs.declared.halt.Refusal.{Refusal}
 use Rattle.sp_base.specs.declared.rule.Rule.{Rule}
 use Rattle.sp_base.specs.declared.rule.Rule.TheVariants as rule
 use Rattle.sp_base.proofs.Facts.{one_value}
-use Rattle.sp_base.specs.Order.{both_tie}
+use Rattle.sp_base.specs.Order.{both_tie, IsTie}
 use Rattle.sp_tree.specs.First.{row, refusal_cmp, before, IsFirst}
 use Rattle.sp_tree.specs.Places.{next_place, place_behind}
 
 pub refusal_total : IsTotalOrder refusal_cmp
 refusal_total = then_total (on_total (λ r. r.at.line) nat_cmp_total)
     (then_total (on_total (λ r. r.at.column) nat_cmp_total) (on_total (λ r. row r.rule) nat_cmp_total))
-
-abbrev IsTie : Ordering → Type 0
-IsTie Less = ⊥
-IsTie Equal = Unit {0}
-IsTie Greater = ⊥
 
 -- the rules in the order of the table
 abbrev table : List Rule

@@ -318,3 +318,18 @@ module _ (s : Births) (lawful : Lawful s) (q : ℕ) (there : q < s.processes) wh
   pub name_of_root : None ≡ s.birth q → s.name q ≡ []
   name_of_root e = ⊎_elim (λ (l : q < 1). let z : q ≡ 0 = omega arith in ap s.name z ∙ lawful.no_name)
       (λ (l : 1 ≤ q). let o = lawful.born q l there in let f = o.is in absurd (cc (e, f))) (cases_lt q 1)
+
+-- no entry takes a process away
+pub processes_grow : (s : Births) (es : List Entry) → s.processes ≤ (births_from s es).processes
+processes_grow s [] = omega arith
+processes_grow s (e ∷ es) = let a = by e.event in let b = processes_grow (after_entry s e) es in omega arith
+  where
+    by : (v : Event) → s.processes ≤ (after_event s e.process v).processes
+    by (event.Fork n) = omega arith
+    by event.Open = omega arith
+    by (event.Send c) = omega arith
+    by (event.Receive c) = omega arith
+    by event.End = omega arith
+    by (event.Fault f) = omega arith
+    by event.Laid = omega arith
+    by event.Pause = omega arith

@@ -20,7 +20,7 @@ use Rattle.sp_journal.proofs.SplitLaws.{Within, Without, within_append, within_w
 use Rattle.sp_journal.proofs.TextLaws.{digits_within, name_within, channel_within}
 use Rattle.sp_journal.proofs.BirthLaws.{Lawful}
 
-abbrev in_line : List ℕ → Bool
+abbrev pub in_line : List ℕ → Bool
 in_line [] = true
 in_line (x ∷ xs) = nat_le 32 x && (nat_le x 122 && in_line xs)
 

@@ -1,7 +1,9 @@
 -- Different names stay different in the form in which the program keeps them.
-use Rattle.std.proofs.Common.{◌≡◌, List, [], ◌∷◌, ◌++◌, refl, sym, ap}
+use Rattle.std.proofs.Common.{◌≡◌, List, [], ◌∷◌, ◌++◌, refl, sym, ap, eq-eqb, true, ◌&&◌, ◌==◌, eqb-true}
+use Rattle.std.proofs.lemmas.Bool.{and_from}
 use Rattle.sp_base.specs.declared.name.ProcName.{ProcName}
-use Rattle.sp_journal.specs.Names.{Name, pairs_of, proc_name}
+use Rattle.sp_base.proofs.Facts.{false_is_not_true, first_true, second_true}
+use Rattle.sp_journal.specs.Names.{Name, pairs_of, proc_name, same_name}
 
 cons_first : {A : Type 0} (a b : A) (xs ys : List A) → a ∷ xs ≡ b ∷ ys → a ≡ b
 cons_first a b xs ys e = cc
@@ -41,3 +43,21 @@ pairs_differ (a ∷ p) (b ∷ q) e =
 -- different names are kept as different ones
 pub names_differ : (p q : Name) → proc_name p ≡ proc_name q → p ≡ q
 names_differ p q e = pairs_differ p q (ap (λ (n : ProcName). n.pairs) e)
+
+-- a name is the same as itself
+pub name_itself : (p : Name) → same_name p p ≡ true
+name_itself [] = refl
+name_itself (a ∷ p) = and_from ((a.0 == a.0) && (a.1 == a.1)) (same_name p p)
+    (and_from (a.0 == a.0) (a.1 == a.1) (eq-eqb a.0 a.0 refl) (eq-eqb a.1 a.1 refl)) (name_itself p)
+
+-- names that are the same by their test are one
+pub name_is : (p q : Name) → same_name p q ≡ true → p ≡ q
+name_is [] [] e = refl
+name_is [] (b ∷ q) e = false_is_not_true e
+name_is (a ∷ p) [] e = false_is_not_true e
+name_is (a ∷ p) (b ∷ q) e =
+    let h = first_true ((a.0 == b.0) && (a.1 == b.1)) (same_name p q) e in
+    let x = eqb-true a.0 b.0 (first_true (a.0 == b.0) (a.1 == b.1) h) in
+    let y = eqb-true a.1 b.1 (second_true (a.0 == b.0) (a.1 == b.1) h) in
+    let r = name_is p q (second_true ((a.0 == b.0) && (a.1 == b.1)) (same_name p q) e) in
+    λ i. (x i, y i) ∷ r i

@@ -14,8 +14,8 @@ use Rattle.sp_journal.specs.Names.{Name, Channel, same_name, Forked, Offered, En
 use Rattle.sp_journal.specs.Births.{Births, at_start, after_event, births, channel, NameableFrom, happening, occurrence}
 use Rattle.sp_journal.specs.Past.{Judged, judged, judged_by}
 use Rattle.sp_journal.proofs.BirthLaws.{Lawful, name_by_birth, name_of_root}
+use Rattle.sp_journal.proofs.NameLaws.{name_itself}
 use Rattle.sp_judge.specs.Prefixes.{IsQuiet, is_counted}
-use Rattle.sp_judge.proofs.Keys.{name_itself}
 use Rattle.sp_judge.specs.declared.bench.Offer.{Offer}
 use Rattle.sp_judge.specs.declared.bench.Line.{Line}
 use Rattle.sp_judge.specs.declared.bench.Bench.{Bench}

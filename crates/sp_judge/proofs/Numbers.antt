@@ -13,7 +13,8 @@ use Rattle.sp_journal.specs.Births.{Births, at_start, after_event, after_entry, 
 use Rattle.sp_journal.specs.Births.{GivesNumbers, NameableFrom, happening, occurrence, occurrences_from}
 use Rattle.sp_journal.proofs.Facts.{below, between}
 use Rattle.sp_journal.proofs.BirthLaws.{Lawful, lawful_start, lawful_after, lawful}
-use Rattle.sp_judge.proofs.Keys.{name_itself, name_is, channel_itself, channel_is}
+use Rattle.sp_journal.proofs.NameLaws.{name_itself, name_is}
+use Rattle.sp_judge.proofs.Keys.{channel_itself, channel_is}
 use Rattle.sp_judge.specs.Counts.{gains, shares}
 use Rattle.sp_judge.proofs.Tallies.{index_or_not}
 

@@ -9,8 +9,9 @@ use Rattle.sp_journal.specs.Maps.{at_key}
 use Rattle.sp_journal.specs.Names.{Name, Channel, same_name, same_channel, Happening, Opened, Forked, Offered, Ended}
 use Rattle.sp_journal.specs.Names.{Faulted, Laid, Paused, Occurrence}
 use Rattle.sp_journal.specs.Past.{Judged, learn, teach, report, now, met_now, judged_by, judged_from, nothing_judged}
+use Rattle.sp_journal.proofs.NameLaws.{name_itself, name_is}
 use Rattle.sp_judge.specs.Prefixes.{is_counted, Counts, WaitsForNone, QuietFrom, IsQuiet, KnowsPrefixes, KnowsCounted}
-use Rattle.sp_judge.proofs.Keys.{name_itself, name_is, channel_is, channel_itself}
+use Rattle.sp_judge.proofs.Keys.{channel_is, channel_itself}
 
 -- a set of indices of these entries that is closed under earlier entries of the same process
 pub record IsFine (es : List Occurrence) (f : ℕ → Bool) : Type 0 where

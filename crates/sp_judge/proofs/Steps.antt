@@ -5,6 +5,7 @@ use Rattle.std.proofs.Common.{slice_get, slice_set, refl, sym, ap, ◌∙◌, su
 use Rattle.std.proofs.lemmas.Option.{slice_get-get_or, same_Some}
 use Rattle.std.specs.Result.{OnOk}
 use Rattle.std.proofs.lemmas.List.{length-set}
+use Rattle.sp_base.proofs.Facts.{item_is}
 use Rattle.sp_journal.specs.declared.entry.Entry.{Entry}
 use Rattle.sp_journal.specs.declared.entry.Event.{Event}
 use Rattle.sp_journal.specs.declared.entry.Event.TheVariants as event
@@ -372,10 +373,6 @@ module _ (all : List Entry) (t : IsTame all) (at : ℕ) (e : Entry) (inside : sl
             let g : count_of cl o.process ≡ clock_at b.clocks.items p o.process = ap (λ x. count_of x o.process) is_cl
             ∙ clock_is b.clocks.items p cl o.process clocks_inside in
             (λ x. f.0 (subst (λ n. o.place < n) g x), λ x. subst (λ n. o.place < n) (sym g) (f.1 x))
-
--- the item of a table at an index
-pub item_is : {X : Type 0} (xs : List X) (i : ℕ) (x : X) → i < length xs → x ≡ get_or xs i x → slice_get xs i ≡ Some x
-item_is xs i x l e = slice_get-get_or xs i x l ∙ ap (λ y. Some y) (sym e)
 
 pub ok_both : {T E : Type 0} (A B : Type 0) (r : Result T E) → OnOk r A → OnOk r B → OnOk r (A × B)
 ok_both A B (Ok x) a b = (a, b)

@@ -9,11 +9,11 @@ use Rattle.sp_base.proofs.Facts.{below_or_at, or_with_false, true_is_not_false}
 use Rattle.sp_journal.specs.Names.{Name, Channel, same_name, Happening, Opened, Forked, Offered, Ended, Faulted, Laid}
 use Rattle.sp_journal.specs.Names.{Paused, Occurrence}
 use Rattle.sp_journal.specs.Past.{Judged, learn, teach, report, now, met_now, judged_by}
+use Rattle.sp_journal.proofs.NameLaws.{name_itself, name_is}
 use Rattle.sp_meaning.proofs.Keys.{name_test}
 use Rattle.sp_judge.specs.Prefixes.{is_counted, Counts, WaitsForNone}
 use Rattle.sp_judge.specs.Counts.{made, PlaceOf, becomes, gains, shares, gives_back, mine, theirs, both, met_counts}
 use Rattle.sp_judge.specs.Counts.{counted_by}
-use Rattle.sp_judge.proofs.Keys.{name_itself, name_is}
 use Rattle.sp_judge.proofs.Prefixing.{Kept, get_low, get_last, pair_second}
 
 -- counts that say which of these entries are known

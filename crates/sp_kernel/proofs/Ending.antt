@@ -8,6 +8,7 @@ use Rattle.sp_journal.specs.declared.entry.Entry.{Entry}
 use Rattle.sp_journal.specs.declared.entry.Event.{Event}
 use Rattle.sp_journal.specs.declared.entry.Event.TheVariants as event
 use Rattle.sp_journal.specs.Births.{Births, at_start, births_from, after_event, after_entry, NameableFrom}
+use Rattle.sp_journal.proofs.BirthLaws.{processes_grow}
 use Rattle.sp_code.specs.Control.{entries_of}
 use Rattle.sp_code.specs.System.{System}
 use Rattle.sp_history.specs.Holding.{IsOutputOf}
@@ -50,11 +51,6 @@ more_processes s p (event.Fault f) = omega arith
 more_processes s p event.Laid = omega arith
 more_processes s p event.Pause = omega arith
 
-all_processes : (s : Births) (es : List Entry) → s.processes ≤ (births_from s es).processes
-all_processes s [] = omega arith
-all_processes s (e ∷ es) = let a = more_processes s e.process e.event in let b = all_processes (after_entry s e) es in
-    omega (arith, a, b)
-
 pub fault_there : (s : Births) (es : List Entry) (p : ℕ) (f : Fault) → NameableFrom s es → fault_in es ≡ Some (p, f)
     → p < (births_from s es).processes
 fault_there s [] p f h e = absurd (cc e)
@@ -65,7 +61,7 @@ fault_there s (d ∷ es) p f h e = go (λ g. fault_there (after_entry s d) es p 
     go on (event.Fault g) i w =
         let same : d.process ≡ p = ap first (same_Some _ _ w) in
         let a = more_processes s d.process d.event in
-        let b = all_processes (after_entry s d) es in
+        let b = processes_grow (after_entry s d) es in
         omega (arith, h.0.0, same, a, b)
       where
         first : ℕ × Fault → ℕ

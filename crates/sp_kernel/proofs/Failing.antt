@@ -2,6 +2,7 @@
 use Rattle.std.proofs.Common.{◌≡◌, ℕ, ◌+◌, ◌<◌, ◌≤◌, nat_lt, true, false, Some, Result, Ok, Err, OnOk, sym, ap, subst}
 use Rattle.std.proofs.Common.{refl, ◌∙◌, arith}
 use Rattle.sp_base.specs.declared.fault.Fault.{Fault}
+use Rattle.sp_base.proofs.Facts.{on_map}
 use Rattle.sp_journal.specs.declared.entry.Event.TheVariants as event
 use Rattle.sp_code.specs.System.{fault_of}
 use Rattle.sp_kernel.specs.declared.slot.Slot.TheVariants as slot
@@ -13,16 +14,12 @@ use Rattle.sp_kernel.specs.Procs.{turn_of}
 use Rattle.sp_kernel.specs.Fits.{Fits}
 use Rattle.sp_kernel.proofs.Giving.{gave_fault}
 
-pub on_ok : {A E : Type 0} (r : Result A E) (P Q : Type 0) → (P → Q) → OnOk r P → OnOk r Q
-on_ok (Ok a) P Q f h = f h
-on_ok (Err e) P Q f h = h
-
 -- it is laid down with that fault
 pub failed : {A E : Type 0} (r : Result A E) (x y : Kernel) (k : IsKernel x) (w : ℕ) (h i : Handed) (g : Fault)
     → Fits x w h → x.faulted ≡ false → i ≡ h → fault_of x.limits (system_of x) (turn_of h) ≡ Some g
     → OnOk r (y ≡ record (back i.proc.number (event.Fault g) (slot.Here i.proc st.Laid) x) { faulted = true })
     → OnOk r (Gave x h.proc.number h y)
-failed r x y k w h i g fits quiet same is = on_ok r _ _
+failed r x y k w h i g fits quiet same is = on_map r _ _
     (λ e. subst (Gave x h.proc.number h) (sym
     (e ∙ ap (λ (j : Handed). record (back j.proc.number (event.Fault g) (slot.Here j.proc st.Laid) x)
     { faulted = true }) same)) (gave_fault x k h.proc.number w fits.out h g (refl, fits.input) quiet is))

@@ -1,6 +1,7 @@
 -- A told length is the same whatever part of it was told before.
 use Rattle.std.proofs.Common.{◌≡◌, ℕ, ◌+◌, true, false, refl, sym, arith, true≢false}
 use Rattle.std.specs.Prelude.{min}
+use Rattle.sp_base.proofs.Facts.{sum_capped}
 use Rattle.sp_tree.specs.Plain.{ExprForm, Selector, Index, Field, Selectors, Select, Whole, Actual, ByValue}
 use Rattle.sp_tree.specs.Plain.{ByReference, Actuals, Pass, Nothing}
 use Rattle.sp_code.specs.Scopes.{Sort, Ordinals, Channels, Many, NoSort}
@@ -8,11 +9,8 @@ use Rattle.sp_code.specs.Lengths.{form_length, right_length, selectors_length, a
 use Rattle.sp_length.specs.Told.{told}
 use Rattle.sp_length.specs.Trees.{is_many}
 
-summed_by : (m a x s : ℕ) → min (min (a + x) m + s) m ≡ min (a + (x + s)) m
-summed_by m a x s = omega arith
-
 pub summed : (a x s : ℕ) → told (told (a + x) + s) ≡ told (a + (x + s))
-summed a x s = summed_by 4294967295 a x s
+summed a x s = sum_capped 4294967295 a x s
 
 split : (m q a b c : ℕ) → a ≡ b + c → min (min (q + b) m + c) m ≡ min (q + a) m
 split m q a b c e = omega (arith, e)

@@ -12,6 +12,7 @@ use Rattle.sp_base.specs.Order.{pair_cmp, name_cmp}
 use Rattle.sp_base.specs.declared.name.Pair.{Pair}
 use Rattle.sp_base.specs.declared.name.ProcName.{ProcName}
 use Rattle.sp_journal.specs.Names.{Name, pairs_of, proc_name}
+use Rattle.sp_journal.proofs.NameLaws.{names_differ}
 use Rattle.sp_meaning.specs.Ends.{pairs_before, name_before}
 
 abbrev pair : ℕ × ℕ → Pair
@@ -72,10 +73,3 @@ unpair a = (a.fork, a.child)
 back : (xs : List (ℕ × ℕ)) → map unpair (map pair xs) ≡ xs
 back [] = refl
 back (x ∷ xs) = ap (λ y. x ∷ y) (back xs)
-
-pub one_name : (p q : Name) → proc_name p ≡ proc_name q → p ≡ q
-one_name p q e =
-    let pairs : map pair (reverse p) ≡ map pair (reverse q) = sym (pairs_are p) ∙ ap (λ (y : ProcName). y.pairs) e
-    ∙ pairs_are q in
-    let same : reverse p ≡ reverse q = sym (back (reverse p)) ∙ ap (λ y. map unpair y) pairs ∙ back (reverse q) in
-    sym (reverse-reverse p) ∙ ap (λ y. reverse y) same ∙ reverse-reverse q

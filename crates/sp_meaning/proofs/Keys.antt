@@ -3,6 +3,7 @@ use Rattle.std.proofs.Common.{◌≡◌, true, ◌&&◌, ◌==◌, [], ◌∷◌
 use Rattle.std.proofs.Common.{Bool, false, sym, ◌∙◌}
 use Rattle.std.proofs.lemmas.Bool.{and_from}
 use Rattle.sp_base.proofs.Facts.{first_true, second_true}
+use Rattle.sp_journal.proofs.NameLaws.{name_is, name_itself}
 use Rattle.sp_meaning.specs.Maps.{IsTest}
 use Rattle.sp_meaning.specs.Model.{Name, Channel, same_name, same_channel}
 
@@ -16,24 +17,8 @@ number_or a b = go (a == b) refl
 pub name_test : IsTest same_name
 name_test p q = (name_is p q, name_same p q)
   where
-    name_is : (p q : Name) → same_name p q ≡ true → p ≡ q
-    name_is [] [] h = refl
-    name_is [] (b ∷ q) h = absurd (cc h)
-    name_is (a ∷ p) [] h = absurd (cc h)
-    name_is (a ∷ p) (b ∷ q) h =
-        let l = first_true ((a.0 == b.0) && (a.1 == b.1)) (same_name p q) h in
-        let e0 : a.0 ≡ b.0 = eqb-true a.0 b.0 (first_true (a.0 == b.0) (a.1 == b.1) l) in
-        let e1 : a.1 ≡ b.1 = eqb-true a.1 b.1 (second_true (a.0 == b.0) (a.1 == b.1) l) in
-        let r : p ≡ q = name_is p q (second_true ((a.0 == b.0) && (a.1 == b.1)) (same_name p q) h) in
-        λ i. (e0 i, e1 i) ∷ r i
-
     name_same : (p q : Name) → p ≡ q → same_name p q ≡ true
-    name_same p q e = subst (λ z. same_name p z ≡ true) e (self p)
-      where
-        self : (p : Name) → same_name p p ≡ true
-        self [] = refl
-        self (a ∷ p) = and_from ((a.0 == a.0) && (a.1 == a.1)) (same_name p p)
-            (and_from (a.0 == a.0) (a.1 == a.1) (eq-eqb a.0 a.0 refl) (eq-eqb a.1 a.1 refl)) (self p)
+    name_same p q e = subst (λ z. same_name p z ≡ true) e (name_itself p)
 
 pub channel_test : IsTest same_channel
 channel_test a b = (

@@ -17,9 +17,8 @@ use crate::names::name;
 use crate::operators::is;
 use crate::source::{Source, cut, expect, misplaced};
 use crate::statements::compound;
-use crate::take;
 use crate::types::type_name;
-use sp_base::{Boxed, Halt, List};
+use sp_base::{Boxed, Halt, List, take};
 use sp_tree::{Kind, MAX_NESTING, SynBlock, SynPart, Syntax, Token, sign, word};
 
 /// Whether a block begins with the token.

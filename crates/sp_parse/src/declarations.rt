@@ -12,9 +12,8 @@ use crate::constants::constant_then;
 use crate::made_blocks::{constant_declaration, type_declaration, variable_declaration};
 use crate::names::name_then;
 use crate::source::{Source, expect, pass};
-use crate::take;
 use crate::types::{group, type_of};
-use sp_base::{Halt, List};
+use sp_base::{Halt, List, take};
 use sp_tree::{Kind, SynKind, SynPart, Token, sign};
 
 // one_constant = name "=" constant ";"

@@ -11,8 +11,7 @@ ghost use Rattle.sp_parse.specs.Reads.{Ready, Halts, Reads};
 use crate::made_statements::empty_statement;
 use crate::operators::{begins_factor, begins_form, begins_simple};
 use crate::source::{Source, cut, misplaced};
-use crate::take;
-use sp_base::{Halt, Refusal, Rule};
+use sp_base::{Halt, Refusal, Rule, take};
 use sp_tree::{SynStmt, Token};
 
 /// A part begins with this token and lies too deep.

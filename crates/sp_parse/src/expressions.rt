@@ -16,8 +16,7 @@ use crate::names::name;
 use crate::operators::{adding, is, multiplying, relational, sign_of};
 use crate::source::{Source, cut, expect, misplaced, pass};
 use crate::spelled::{name_at, number_at, quoted_at};
-use crate::take;
-use sp_base::{Halt, List, Place};
+use sp_base::{Halt, List, Place, take};
 use sp_tree::{Kind, MAX_NESTING, Name, SynArg, SynExpr, SynSelector, Token, UnaryOp, sign, word};
 
 // expression = simple [ ( "=" | "<>" | "<" | "<=" | ">" | ">=" ) simple ]

@@ -7,9 +7,8 @@ ghost use Rattle.sp_parse.specs.Reads.{Ready, Reads};
 ghost use Rattle.sp_parse.specs.BlockProductions as grammar;
 
 use crate::source::{Source, expect, pass};
-use crate::take;
 use crate::types::{group, listed};
-use sp_base::{Halt, List};
+use sp_base::{Halt, List, take};
 use sp_tree::{Kind, Name, SynFormal, SynGroup, Token, sign, word};
 
 /// Parameters of one type.

@@ -7,8 +7,7 @@ ghost use Rattle.sp_parse.specs.BlockProductions as grammar;
 
 use crate::source::{Source, cut, expect, misplaced, pass};
 use crate::spelled::name_at;
-use crate::take;
-use sp_base::{Halt, List};
+use sp_base::{Halt, List, take};
 use sp_tree::{Kind, Name, Token, sign};
 
 // name, a token

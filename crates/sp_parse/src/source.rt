@@ -17,17 +17,6 @@ pub struct Source<'a> {
     pub end: Place,
 }
 
-/// The value; where there is none, the function around ends so.
-#[macro_export]
-macro_rules! take {
-    ($result:expr) => {
-        match $result {
-            Ok(value) => value,
-            Err(halt) => return Err(halt),
-        }
-    };
-}
-
 /// The first token and the others. Where none is left, the text ends too early.
 pub fn cut<'t>(source: &Source, tokens: &'t [Token]) -> Result<(Token, &'t [Token]), Halt>
     requires { Ready source.now tokens.now }

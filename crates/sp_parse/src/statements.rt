@@ -21,8 +21,7 @@ use crate::names::name_then;
 use crate::operators::{begins_selector, is};
 use crate::source::{Source, cut, expect, misplaced, pass};
 use crate::spelled::name_at;
-use crate::take;
-use sp_base::{Boxed, Halt, List, Place};
+use sp_base::{Boxed, Halt, List, Place, take};
 use sp_tree::{Kind, MAX_NESTING, Name, SynArm, SynBranch, SynConst, SynStmt, Token, sign, word};
 
 // statement = [ assignment | call | compound | if | while | repeat | for | case

@@ -10,8 +10,7 @@ use crate::names::{name, names};
 use crate::operators::is;
 use crate::source::{Source, cut, expect, misplaced, pass};
 use crate::spelled::name_at;
-use crate::take;
-use sp_base::{Halt, List};
+use sp_base::{Halt, List, take};
 use sp_tree::{Kind, Name, SynGroup, SynKind, Token, sign, word};
 
 // group = names ":" name

@@ -8,9 +8,9 @@ use Rattle.sp_base.specs.declared.name.ProcName.{ProcName}
 use Rattle.sp_journal.specs.Births.{Births}
 use Rattle.sp_journal.specs.Names.{proc_name}
 use Rattle.sp_journal.specs.Queue.{numbers}
+use Rattle.sp_journal.proofs.Facts.{numbers_last}
 use Rattle.sp_report.specs.Conditions.{Conditions}
 use Rattle.sp_report.specs.Waiting.{children_text, has_ended, left_of}
-use Rattle.sp_report.proofs.Orders.{numbers_last}
 
 module _ (s : Births) (t : Conditions) (first child : ℕ) (some : first ≤ child) where
   left_more : left_of t first (child + 1 - first) ≡ left_of t first (child - first)

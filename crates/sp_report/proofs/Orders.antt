@@ -8,18 +8,13 @@ use Rattle.sp_base.specs.Order.{name_cmp}
 use Rattle.sp_journal.specs.Births.{Births}
 use Rattle.sp_journal.specs.Names.{proc_name}
 use Rattle.sp_journal.specs.Queue.{numbers}
+use Rattle.sp_journal.proofs.Facts.{numbers_last}
 use Rattle.sp_report.specs.InOrder.{Named, in_order, placed}
 
 placed_last : (s : Births) (es : List Named) (qs : List ℕ) (q : ℕ)
     → placed s es (qs ++ q ∷ []) ≡ insert_entry name_cmp (placed s es qs) (proc_name (s.name q)) q
 placed_last s es [] q = refl
 placed_last s es (x ∷ qs) q = placed_last s (insert_entry name_cmp es (proc_name (s.name x)) x) qs q
-
-pub numbers_last : (i n : ℕ) → numbers i (suc n) ≡ numbers i n ++ (i + n) ∷ []
-numbers_last i zero = let e : i ≡ i + 0 = omega arith in ap (λ (x : ℕ). x ∷ []) e
-numbers_last i (suc n) =
-    let e : suc i + n ≡ i + suc n = omega arith in
-    ap (λ (xs : List ℕ). i ∷ xs) (numbers_last (suc i) n ∙ ap (λ (x : ℕ). numbers (suc i) n ++ x ∷ []) e)
 
 -- one more process at its place
 one_placed : (s : Births) (m k : List Named) (qs : List ℕ) (q : ℕ) (name : ProcName) → m ≡ in_order s qs

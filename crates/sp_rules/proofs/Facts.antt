@@ -6,7 +6,7 @@ use Rattle.std.proofs.lemmas.Bool.{le-leb, and_parts}
 use Rattle.std.proofs.lemmas.List.{length-drop, length-take-le}
 use Rattle.std.proofs.lemmas.Option.{same_Some}
 use Rattle.sp_base.specs.declared.fault.Fault.TheVariants as fault
-use Rattle.sp_base.proofs.Facts.{not_true_and_false}
+use Rattle.sp_base.proofs.Facts.{not_true_and_false, from_low, to_high}
 use Rattle.sp_cell.specs.declared.cell.Cell.{Cell}
 use Rattle.sp_cell.specs.declared.spot.Address.{Address}
 use Rattle.sp_cell.specs.Lists.{part}
@@ -33,12 +33,6 @@ in_span low high v e = let b = and_parts (int_le low v) (int_le v high) e in wit
   where
     across : int_le low v ≡ true → int_le v high ≡ true → int_le low high ≡ true
     across x y = Prim.grind (arith, x, y)
-
-    from_low : (low v : ℤ) → int_le low v ≡ true → int_le (pos 0) (v -ℤ low) ≡ true
-    from_low low v x = Prim.grind (arith, x)
-
-    to_high : (low v high : ℤ) → int_le v high ≡ true → int_le (v -ℤ low) (high -ℤ low) ≡ true
-    to_high low v high x = Prim.grind (arith, x)
 
     short : (a c : ℤ) → int_le (pos 0) a ≡ true → int_le a c ≡ true → nat_abs a ≤ nat_abs c
     short a c x y = Prim.grind (arith, x, y)

@@ -8,6 +8,7 @@ use Rattle.std.specs.List.{list_all}
 use Rattle.std.proofs.lemmas.List.{length-append}
 use Rattle.std.proofs.lemmas.List.{get_or-append_right}
 use Rattle.std.specs.FinMap as map
+use Rattle.sp_base.proofs.Facts.{take_front}
 use Rattle.sp_tree.specs.Interference.{IsMember}
 use Rattle.sp_cell.specs.declared.spot.Spot.{Spot}
 use Rattle.sp_cell.specs.Frame.{above, next_frame, newest, popped, without}
@@ -31,13 +32,6 @@ newest_last ms n =
     ap (λ j. get_or (ms ++ n ∷ []) j 0) {x = length (ms ++ n ∷ []) - 1} {y = length ms} (omega (arith, len))
     ∙ get_or-append_right ms (n ∷ []) (length ms) (length ms) 0 refl (omega arith)
     ∙ ap (λ k. get_or (n ∷ []) k 0) {y = 0} (omega arith)
-
-pub take_front : (ms : List ℕ) (n : ℕ) → take (length (ms ++ n ∷ []) - 1) (ms ++ n ∷ []) ≡ ms
-take_front ms n = ap (λ k. take k (ms ++ n ∷ [])) {y = length ms} (omega (arith, length-append ms (n ∷ []))) ∙ go ms
-  where
-    go : (xs : List ℕ) → take (length xs) (xs ++ n ∷ []) ≡ xs
-    go [] = refl
-    go (x ∷ xs) = ap (λ ys. x ∷ ys) (go xs)
 
 above_members : (ns : List ℕ) (b : ℕ) → ((n : ℕ) → IsMember n ns → n < b) → above ns ≤ b
 above_members [] b h = omega arith

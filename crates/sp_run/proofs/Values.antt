@@ -2,6 +2,7 @@
 use Rattle.std.proofs.Common.{◌≡◌, ℕ, zero, suc, List, [], ◌∷◌, Some, None, slice_get, slice_set, map}
 use Rattle.std.proofs.Common.{refl, ap, sym}
 use Rattle.std.specs.Option.{option_map}
+use Rattle.sp_base.proofs.Facts.{no_get_of_map, get_of_map}
 use Rattle.sp_tree.specs.Cells.{first_or}
 use Rattle.sp_meaning.specs.Values.{Value, Undefined, Parts, Then, values, item, with_item}
 use Rattle.sp_meaning.specs.Values.{set_at}
@@ -32,15 +33,3 @@ with_part_here p w vs i path rest x u e h k = rw h (ap Parts (sym (with_item_her
 pub with_part_past : {A : Type 0} (p : A → Value) (w : Value) (vs : List A) (i : ℕ) (path rest : List ℕ)
     → slice_get vs i ≡ None → path ≡ i ∷ rest → set_at path w (Parts (values (map p vs))) ≡ Parts (values (map p vs))
 with_part_past p w vs i path rest e h = rw h (ap Parts (with_item_past p (set_at rest w) vs i e))
-
-pub some_mapped : {A B : Type 0} (p : A → B) (vs : List A) (i : ℕ) (x : A) → slice_get vs i ≡ Some x
-    → slice_get (map p vs) i ≡ Some (p x)
-some_mapped p [] i x e = cc
-some_mapped p (v ∷ vs) zero x e = let k : v ≡ x = cc in cc
-some_mapped p (v ∷ vs) (suc i) x e = some_mapped p vs i x e
-
-pub none_mapped : {A B : Type 0} (p : A → B) (vs : List A) (i : ℕ) → slice_get vs i ≡ None
-    → slice_get (map p vs) i ≡ None
-none_mapped p [] i e = refl
-none_mapped p (v ∷ vs) zero e = cc
-none_mapped p (v ∷ vs) (suc i) e = none_mapped p vs i e

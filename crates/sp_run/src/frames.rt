@@ -166,7 +166,7 @@ fn place_by(run: &Setting, who: &Who, machine: &Machine, x: usize, v: &Variable)
 }
 
 /// Where an entire variable stands.
-#[tactic(auto, using(crate::proofs::Values::some_mapped, crate::proofs::Values::none_mapped))]
+#[tactic(auto, using(sp_base::proofs::Facts::get_of_map, sp_base::proofs::Facts::no_get_of_map))]
 pub fn place_of(run: &Setting, who: &Who, machine: &Machine, x: u32) -> Done<Place>
     ensures { Implements run.now who.now plain_place machine.now result machine.now (place_of (setting_of run.now) x) }
 {

@@ -4,6 +4,7 @@ use Rattle.std.proofs.Common.{if◌then◌else◌, codes}
 use Rattle.std.specs.Str.{bytes_eq}
 use Rattle.std.proofs.lemmas.Slice.Eq.{bytes_eq-Decides}
 use Rattle.sp_base.specs.declared.rule.Rule.TheVariants as rule
+use Rattle.sp_base.proofs.Facts.{same_if_bytes_eq}
 use Rattle.sp_tree.specs.declared.syntax.Name.{Name}
 use Rattle.sp_tree.specs.Found.{Found, lesser, breaks, breaks_if}
 use Rattle.sp_tree.specs.NameRules.{among}
@@ -16,15 +17,12 @@ input = codes "input"
 abbrev output : List ℕ
 output = codes "output"
 
-same : (x y : List ℕ) → bytes_eq x y ≡ true → x ≡ y
-same x y e = (bytes_eq-Decides x y).0 e
-
 differ : (x y : List ℕ) → bytes_eq x y ≡ false → bytes_eq y x ≡ false
 differ x y e = by (bytes_eq y x) refl
   where
     by : (b : Bool) → bytes_eq y x ≡ b → bytes_eq y x ≡ false
     by false f = f
-    by true f = absurd (subst T (sym ((bytes_eq-Decides x y).1 (sym (same y x f))) ∙ e) tt)
+    by true f = absurd (subst T (sym ((bytes_eq-Decides x y).1 (sym (same_if_bytes_eq y x f))) ∙ e) tt)
 
 files_agree : (xs : List Name) (before : List (List ℕ)) (i o : Bool) → among input before ≡ i → among output before ≡ o
     → (given : Found) → files_flagged i o xs given ≡ files_first before xs given
@@ -42,15 +40,15 @@ files_agree (x ∷ xs) before i o p q given = by (λ a b r s g. files_agree xs (
         (if a || b then breaks_if rule.N2 x.at (among x.text before) else breaks rule.N1 x.at))
     by again true e b f =
         ap (λ c. files_flagged true o xs (lesser given (breaks_if rule.N2 x.at c)))
-        (sym p ∙ ap (λ t. among t before) (sym (same x.text input e)))
-        ∙ again true o (ap (λ t. bytes_eq input t || among input before) (same x.text input e))
-        (ap (λ t. bytes_eq output t || among output before) (same x.text input e) ∙ q)
+        (sym p ∙ ap (λ t. among t before) (sym (same_if_bytes_eq x.text input e)))
+        ∙ again true o (ap (λ t. bytes_eq input t || among input before) (same_if_bytes_eq x.text input e))
+        (ap (λ t. bytes_eq output t || among output before) (same_if_bytes_eq x.text input e) ∙ q)
         (lesser given (breaks_if rule.N2 x.at (among x.text before)))
     by again false e true f =
         ap (λ c. files_flagged i true xs (lesser given (breaks_if rule.N2 x.at c)))
-        (sym q ∙ ap (λ t. among t before) (sym (same x.text output f)))
-        ∙ again i true (ap (λ t. bytes_eq input t || among input before) (same x.text output f) ∙ p)
-        (ap (λ t. bytes_eq output t || among output before) (same x.text output f))
+        (sym q ∙ ap (λ t. among t before) (sym (same_if_bytes_eq x.text output f)))
+        ∙ again i true (ap (λ t. bytes_eq input t || among input before) (same_if_bytes_eq x.text output f) ∙ p)
+        (ap (λ t. bytes_eq output t || among output before) (same_if_bytes_eq x.text output f))
         (lesser given (breaks_if rule.N2 x.at (among x.text before)))
     by again false e false f =
         again i o (ap (λ b. b || among input before) (differ x.text input e) ∙ p)

@@ -2,6 +2,7 @@
 use Rattle.std.proofs.Common.{◌≡◌, ℕ, zero, suc, ◌+◌, ◌<◌, List, [], ◌∷◌, ◌++◌, Option, Some, None, slice_get, refl}
 use Rattle.std.proofs.Common.{sym, ap, ap₂, ◌∙◌, subst, append_assoc, arith}
 use Rattle.std.specs.Prelude.{◌≢◌, codes, length, get_or}
+use Rattle.sp_base.proofs.Facts.{item_is}
 use Rattle.sp_sets.specs.Forks.{tree_lines}
 use Rattle.sp_sets.specs.Orders.{IsInOrder, line_cmp}
 use Rattle.sp_sets.specs.SetsText.{IsBoth, IsImplicit, IsLine, IsLineAt, IsOfBlock, IsSetsText, IsVariables, Joined}
@@ -101,11 +102,6 @@ pub at_default : {X : Type 0} (xs : List X) (i : ℕ) (d : X) → i < length xs 
 at_default [] i d low = absurd (omega arith)
 at_default (y ∷ ys) zero d low = refl
 at_default (y ∷ ys) (suc i) d low = at_default ys i d (omega arith)
-
-pub at_index : {X : Type 0} (xs : List X) (i : ℕ) (x : X) → i < length xs → x ≡ get_or xs i x → slice_get xs i ≡ Some x
-at_index [] i x low e = absurd (omega arith)
-at_index (y ∷ ys) zero x low e = ap Some (sym e)
-at_index (y ∷ ys) (suc i) x low e = at_index ys i x (omega arith) e
 
 abbrev mapped : {X Y : Type 0} → (X → Y) → Option X → Option Y
 mapped f None = None

@@ -14,7 +14,7 @@ use Rattle.std.proofs.lemmas.List.Elements.{All-from_get_or, recursion_from_All}
 use Rattle.std.proofs.lemmas.List.Sorted.{ranks_by, sorted_far, sum_by-IsPermutation}
 use Rattle.std.proofs.lemmas.List.Sums.{sum_by-cons}
 use Rattle.sp_base.specs.declared.place.Place.{Place}
-use Rattle.sp_base.specs.Order.{both_tie}
+use Rattle.sp_base.specs.Order.{both_tie, IsTie}
 use Rattle.sp_sets.specs.declared.line.Line.{Line}
 use Rattle.sp_sets.specs.Orders.{IsInOrder, line_cmp, part_number, place_cmp, stand, variable_cmp}
 use Rattle.sp_tree.specs.declared.checked.Variable.{Variable}
@@ -37,11 +37,6 @@ pub ranks : {X : Type 0} (cmp : X → X → Ordering) → IsTotalOrder cmp → I
 ranks cmp o = ranks_by o (λ x. x)
 
 -- ---- what ties is one thing
-
-abbrev IsTie : Ordering → Type 0
-IsTie Less = ⊥
-IsTie Equal = Unit {0}
-IsTie Greater = ⊥
 
 same_place : (p q : Place) → place_cmp p q ≡ Equal → p ≡ q
 same_place p q e =

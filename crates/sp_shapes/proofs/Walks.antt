@@ -5,7 +5,7 @@ use Rattle.std.specs.Prelude.{slice_get, slice_set, Result, Ok, Err, OnOk}
 use Rattle.std.proofs.lemmas.List.{length-set, length_push}
 use Rattle.std.proofs.lemmas.Option.{slice_get_within, none-some, same_Some}
 use Rattle.std.proofs.lemmas.Bool.{cases_eq}
-use Rattle.sp_base.proofs.Facts.{get_beside_set, get_where_set}
+use Rattle.sp_base.proofs.Facts.{get_beside_set, get_where_set, on_map}
 use Rattle.sp_code.specs.declared.code.Parts.{Parts}
 use Rattle.sp_rules.specs.Areas.{Area, instr_at}
 use Rattle.sp_rules.specs.Shapes.{Shape, Shaped, Wrong, To, shaped}
@@ -343,7 +343,3 @@ module _ (c : Parts) (s : Search) (p k : ℕ) (st : Stacks) (found : Option (Opt
         → ys ≡ waiting g xs → Walks c s (record s { stacks = st; arrivals = ys }) p
     goes_far f g xs ys q e d = Goes k st f g (leaps (step.To f g) q)
         (ap (λ (z : List Arrival). record s { stacks = st; arrivals = z }) (d ∙ ap (waiting g) e))
-
-pub on_ok : {T E : Type 0} (r : Result T E) (P Q : Type 0) → (P → Q) → OnOk r P → OnOk r Q
-on_ok (Ok x) P Q f h = f h
-on_ok (Err e) P Q f h = tt

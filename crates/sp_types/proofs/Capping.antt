@@ -14,6 +14,7 @@ use Rattle.sp_tree.specs.declared.checked.Role.{Role}
 use Rattle.sp_tree.specs.declared.checked.Role.TheVariants as role
 use Rattle.sp_tree.specs.declared.checked.Variable as checked
 use Rattle.sp_base.specs.declared.rule.Rule.TheVariants as rule
+use Rattle.sp_base.proofs.Facts.{sum_on, sum_capped}
 use Rattle.sp_tree.specs.Found.{Found, lesser, breaks_if}
 use Rattle.sp_tree.specs.Cells.{count, first_or, size_by, cells_by, table, sizes}
 use Rattle.sp_types.specs.Tables.{type_number}
@@ -42,10 +43,6 @@ counted n s = product_capped (most_cells + 1) n s
 counted_right : (n s : ℕ) → capped (n * capped s) ≡ capped (n * s)
 counted_right n s = ap capped (mul_comm n (capped s)) ∙ counted s n ∙ ap capped (mul_comm s n)
 
--- a sum, from its parts
-sum_capped : (m a x s : ℕ) → min (min (a + x) m + s) m ≡ min (a + (x + s)) m
-sum_capped m a x s = omega arith
-
 pub summed : (a x s : ℕ) → capped (capped (a + x) + s) ≡ capped (a + (x + s))
 summed a x s = sum_capped (most_cells + 1) a x s
 
@@ -70,9 +67,6 @@ at_capped : (known : List ℕ) (k : ℕ) → capped (first_or 0 (slice_get (map 
     ≡ capped (first_or 0 (slice_get known k))
 at_capped known k = ap (λ (o : Option ℕ). capped (first_or 0 o)) (slice_get-map capped known k)
     ∙ first_capped (slice_get known k)
-
-sum_on : (f : List ℕ × ℕ → ℕ) (x : List ℕ × ℕ) (xs : List (List ℕ × ℕ)) → sum (map f (x ∷ xs)) ≡ f x + sum (map f xs)
-sum_on f x xs = sum-map f (x ∷ xs) ∙ sum_by-cons f x xs ∙ ap (λ (s : ℕ). f x + s) (back_of (sum-map f xs))
 
 abbrev field_cells : List ℕ → List ℕ × ℕ → ℕ
 field_cells known f = first_or 0 (slice_get known f.1)

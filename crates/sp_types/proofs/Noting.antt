@@ -9,7 +9,7 @@ use Rattle.std.specs.Cmp.Lexicographic.{slice_cmp}
 use Rattle.std.proofs.lemmas.Map.Text.{is_eq-slice_cmp}
 use Rattle.std.proofs.lemmas.Slice.Eq.{bytes_eq-Decides}
 use Rattle.std.proofs.lemmas.Bool.{true≢false}
-use Rattle.sp_base.proofs.Facts.{tie_is_equal}
+use Rattle.sp_base.proofs.Facts.{tie_is_equal, same_if_bytes_eq}
 use Rattle.sp_types.specs.Entries.{Index, under, Notes, field_from}
 
 by_test : (b : Bool) (x : ℕ × ℕ) (rest : Option (ℕ × ℕ))
@@ -30,9 +30,6 @@ pub noted : (old new : Index) (n : ℕ) (f : List ℕ × ℕ) (rest : List (List
 noted old new n f rest h name = ap (λ u. option_or u (field_from (n + 1) name rest)) (h name)
     ∙ one_field (under old name) n f rest name
 
-is_name : (name other : List ℕ) → bytes_eq name other ≡ true → name ≡ other
-is_name name other e = (bytes_eq-Decides name other).0 e
-
 swapped : (name other : List ℕ) → bytes_eq name other ≡ bytes_eq other name
 swapped name other = search (rules, bytes_eq-Decides)
 
@@ -50,7 +47,7 @@ put old new n f h up name =
     by None false e k = refl
     by (Some x) false e k = refl
     by (Some x) true e k = absurd (true≢false
-        (sym (ap is_some e) ∙ ap (λ x. is_some (under old x)) (is_name name f.0 k) ∙ h))
+        (sym (ap is_some e) ∙ ap (λ x. is_some (under old x)) (same_if_bytes_eq name f.0 k) ∙ h))
 
 abbrev pub has : List ℕ → ℕ → Bool
 has numbers k = list_any (λ j. is_eq (nat_cmp k j)) numbers

@@ -17,9 +17,8 @@ use crate::rules::answer_rule;
 use crate::statements::type_statement;
 use crate::tables::Tables;
 use crate::tabling::answer_variable;
-use crate::take;
 use crate::typed::Walked;
-use sp_base::{Halt, List, Place};
+use sp_base::{Halt, List, Place, take};
 use sp_tree::{Block, Found, NamedAnswer, NamedBlock, Variable, lesser};
 use std::alloc::Global;
 

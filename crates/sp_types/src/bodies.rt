@@ -6,8 +6,7 @@ ghost use Rattle.sp_tree.specs.NamedOf.{block_of};
 ghost use Rattle.sp_types.specs.TypeWalk.{bodies, earlier, count_before};
 
 use crate::counting::{statement_counted, sum};
-use crate::take;
-use sp_base::{Halt, List, Place};
+use sp_base::{Halt, List, Place, take};
 use sp_tree::NamedBlock;
 use std::alloc::Global;
 

@@ -18,10 +18,9 @@ ghost use Rattle.sp_types.specs.CheckedTree.{written_text, written_form, written
 use crate::checks::{channel_value, read_value, type_width, write_value};
 use crate::expressions::place_of;
 use crate::tables::Tables;
-use crate::take;
 use crate::typed::Walked;
 use crate::values::char_of;
-use sp_base::{Halt, List, Place, Text};
+use sp_base::{Halt, List, Place, Text, take};
 use sp_tree::{Expr, ExprForm, Form, Found, NamedArg, NamedExpr, NamedExprForm, Var};
 use std::alloc::Global;
 

@@ -18,9 +18,8 @@ use crate::rules::{
     selector_rule, width_rule, write_rule,
 };
 use crate::tables::Tables;
-use crate::take;
 use crate::typed::Typed;
-use sp_base::{Halt, Place};
+use sp_base::{Halt, Place, take};
 use sp_tree::{Expr, Found, NamedExpr, lesser};
 use std::alloc::Global;
 

@@ -11,10 +11,9 @@ ghost use Rattle.sp_types.specs.CheckedTree.{constant_numbers};
 use crate::rules::choice_rule;
 use crate::seen::Seen;
 use crate::tables::{Ordinal, Tables, ordinal_kind};
-use crate::take;
 use crate::values::number_or;
 use crate::written::{const_rule, const_value};
-use sp_base::{Halt, List, Place, Rule};
+use sp_base::{Halt, List, Place, Rule, take};
 use sp_tree::{Found, NamedArm, NamedConst, breaks_if, lesser};
 use std::alloc::Global;
 

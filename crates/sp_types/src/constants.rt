@@ -6,9 +6,8 @@ ghost use Rattle.sp_types.specs.Tables.{constant_by, constants_from};
 
 use crate::numbers::type_number;
 use crate::tables::Ordinal;
-use crate::take;
 use crate::written::const_value;
-use sp_base::{Halt, List};
+use sp_base::{Halt, List, take};
 use sp_tree::NamedConstant;
 use std::alloc::Global;
 

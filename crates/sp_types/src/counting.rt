@@ -7,8 +7,7 @@ ghost use Rattle.sp_tree.specs.NamedOf.{other, argument_of, arguments};
 ghost use Rattle.sp_types.specs.TypeWalk.{statement_counted, form_counted, other_counted, statements_counted};
 ghost use Rattle.sp_types.specs.TypeWalk.{arms_counted, branches_counted, single_count, parts_count, count};
 
-use crate::take;
-use sp_base::{Boxed, Halt, List};
+use sp_base::{Boxed, Halt, List, take};
 use sp_tree::{NamedArg, NamedArm, NamedBranch, NamedForm, NamedStmt, StandardProcedure};
 
 /// The sum. One that is no `u32` is answered as want of memory.

@@ -10,9 +10,8 @@ ghost use Rattle.sp_types.specs.DeclarationFirsts.{constants_first, bounds_first
 use crate::kinds::are_wrong;
 use crate::sizes::frame_cells;
 use crate::tables::Ordinal;
-use crate::take;
 use crate::written::{const_rule, const_value};
-use sp_base::{Halt, List, Place, Rule};
+use sp_base::{Halt, List, Place, Rule, take};
 use sp_tree::{
     Found, NamedConst, NamedConstant, NamedKind, NamedKindForm, Variable, breaks_if, lesser,
 };

@@ -23,10 +23,9 @@ use crate::rules::{
     standard_rule, text_rule, unary_rule, unary_takes,
 };
 use crate::tables::{Tables, ordinal_kind};
-use crate::take;
 use crate::typed::{Typed, Walked};
 use crate::values::{char_of, field, field_rule, integer, number_or, numbered_field, or_zero};
-use sp_base::{Boxed, Halt, List, Place, Text};
+use sp_base::{Boxed, Halt, List, Place, Text, take};
 use sp_tree::{
     Actual, BinaryOp, Expr, ExprForm, Found, NamedArg, NamedExpr, NamedExprForm, NamedSelector,
     NamedVar, Role, Selector, StandardFn, UnaryOp, Var, lesser,

@@ -7,10 +7,9 @@ ghost use Rattle.sp_types.specs.Tables.{kinds_from};
 
 use crate::numbers::type_number;
 use crate::tables::Ordinal;
-use crate::take;
 use crate::values::number_or;
 use crate::written::{const_value, has_wrong_sign, is_long, value_by};
-use sp_base::{Halt, List, Text};
+use sp_base::{Halt, List, Text, take};
 use sp_tree::{KindOf, NamedConst, NamedKind, NamedKindForm};
 use std::alloc::Global;
 

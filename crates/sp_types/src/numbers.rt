@@ -5,8 +5,7 @@ ghost use Rattle.sp_tree.specs.Found.{Answers};
 ghost use Rattle.sp_types.specs.Tables.{number_by, next_by, numbers_from, type_number};
 
 use crate::counting::sum;
-use crate::take;
-use sp_base::{Halt, List};
+use sp_base::{Halt, List, take};
 use sp_tree::{NamedKind, NamedKindForm};
 use std::alloc::Global;
 

@@ -22,10 +22,9 @@ use crate::numbers::numbers_of;
 use crate::sizes::sizes_of;
 use crate::tables::{Ordinal, Tables};
 use crate::tabling::{kinds_in, tables_of};
-use crate::take;
 use crate::typed::Walked;
 use crate::values::or_zero;
-use sp_base::{Halt, List, Place};
+use sp_base::{Halt, List, Place, take};
 use sp_tree::{
     Block, Checked, Found, KindOf, Named, NamedBlock, NamedConstant, NamedKind, Variable,
 };

@@ -22,9 +22,8 @@ use crate::choices::{check_choices, constant_numbers};
 use crate::performs::{type_assign, type_call, type_perform};
 use crate::rules::range_rule;
 use crate::tables::Tables;
-use crate::take;
 use crate::typed::Walked;
-use sp_base::{Boxed, Halt, List, Place};
+use sp_base::{Boxed, Halt, List, Place, take};
 use sp_tree::{
     Arm, Expr, Form, Found, NamedArm, NamedBranch, NamedExpr, NamedForm, NamedStmt, Stmt, lesser,
 };

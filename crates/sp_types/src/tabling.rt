@@ -8,8 +8,7 @@ ghost use Rattle.sp_types.specs.Tables.{answer_variable, type_of, types_of, role
 use crate::entries::KindEntry;
 use crate::numbers::type_number;
 use crate::tables::{Ordinal, Signature, Tables};
-use crate::take;
-use sp_base::{Halt, List};
+use sp_base::{Halt, List, take};
 use sp_tree::{KindOf, NamedAnswer, NamedBlock, Role, Variable};
 use std::alloc::Global;
 

@@ -7,9 +7,8 @@ ghost use Rattle.sp_types.specs.Tables.{value_by, signed, const_value, is_long, 
 ghost use Rattle.sp_types.specs.TypeRules.{const_rule};
 
 use crate::tables::Ordinal;
-use crate::take;
 use crate::values::{char_of, integer};
-use sp_base::{Halt, Rule};
+use sp_base::{Halt, Rule, take};
 use sp_tree::{Found, NamedConst, NamedValue, breaks_if};
 
 fn entry(known: &[Option<Ordinal>], k: u32) -> Option<Ordinal>

@@ -3,7 +3,7 @@ use Rattle.std.proofs.Common.{◌≡◌, ◌↔◌, ◌⊎◌, ℕ, zero, suc, �
 use Rattle.std.proofs.Common.{length, get_or, refl, sym, ap, subst, ◌∙◌, arith, inl, inr, ◌+◌, add-one, Result, Ok, Err}
 use Rattle.std.proofs.Common.{OnOk, eqb-true, eq-eqb}
 use Rattle.std.proofs.lemmas.Bool.{or_cases}
-use Rattle.sp_base.proofs.Facts.{or_from_either}
+use Rattle.sp_base.proofs.Facts.{or_from_either, on_ok}
 use Rattle.sp_tree.specs.declared.checked.Actual.{Actual}
 use Rattle.sp_tree.specs.declared.checked.Selector.{Selector}
 use Rattle.sp_tree.specs.PlainChecked as p
@@ -71,11 +71,6 @@ adds_as a b H K f to from = record {
   runs = λ x. turned (f.runs x) (λ h. (h.0, to (CallOf x h.0) h.1)) (λ k. (k.0, from (CallOf x k.0) k.1));
   stops = turned f.stops (to Stop) (from Stop);
 }
-
--- where a step may fail, what follows from it
-pub ok_as : {T E A B : Type 0} (r : Result T E) → OnOk r A → (A → B) → OnOk r B
-ok_as (Ok v) h f = f h
-ok_as (Err e) h f = h
 
 pub ok_then : {T E : Type 0} (r : Result T E) (a b c : Uses) (H K : Use → Type 0) → Adds a b H → OnOk r (Adds b c K)
     → OnOk r (Adds a c (λ u. H u ⊎ K u))

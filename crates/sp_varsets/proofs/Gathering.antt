@@ -157,7 +157,7 @@ declares_none g rows x c l none = record {
   where
     outside : (b : ℕ) → b < length rows → (n : ℕ) → IsBelow g n c b → ⊥
     outside b low zero e =
-        let i = Rattle.sp_varsets.proofs.Reaching.item_of g.blocks b (omega arith) in
+        let i = Rattle.sp_base.proofs.Facts.item_there g.blocks b (omega arith) in
         let no : None ≡ Some i.0 = sym none ∙ (ap (λ z. slice_get g.blocks z) e ∙ i.1) in cc
     outside b low (suc n) (k, e, q, r, s) = let no : None ≡ Some k = sym none ∙ e in cc
 

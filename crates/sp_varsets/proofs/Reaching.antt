@@ -3,7 +3,7 @@ use Rattle.std.proofs.Common.{◌≡◌, ◌↔◌, ℕ, zero, suc, ◌<◌, tru
 use Rattle.std.proofs.Common.{slice_get, refl, sym, subst, ◌∙◌, arith, inl, inr, Some, None}
 use Rattle.std.proofs.lemmas.Option.{slice_get_within}
 use Rattle.std.proofs.lemmas.Bool.{false_from_ne_true}
-use Rattle.sp_base.proofs.Facts.{and_not_from, and_not_parts, get_of_map}
+use Rattle.sp_base.proofs.Facts.{and_not_from, and_not_parts, get_of_map, no_get_of_map, item_there}
 use Rattle.sp_tree.specs.PlainChecked as p
 use Rattle.sp_tree.specs.Bare.{bare_statement, bare_block, bare}
 use Rattle.sp_tree.specs.Plain.{Actuals, Program, Block}
@@ -25,16 +25,6 @@ pub map_at : {A B : Type 0} (f : A → B) (xs : List A) (i : ℕ) (y : B) → sl
 map_at f [] i y e = absurd (let no : None ≡ Some y = e in cc)
 map_at f (x ∷ xs) zero y e = (x, refl, let s : Some (f x) ≡ Some y = e in cc)
 map_at f (x ∷ xs) (suc i) y e = map_at f xs i y e
-
-pub none_map : {A B : Type 0} (f : A → B) (xs : List A) (i : ℕ) → slice_get xs i ≡ None → slice_get (map f xs) i ≡ None
-none_map f [] i e = refl
-none_map f (x ∷ xs) zero e = absurd (let no : Some x ≡ None = e in cc)
-none_map f (x ∷ xs) (suc i) e = none_map f xs i e
-
-pub item_of : {A : Type 0} (xs : List A) (i : ℕ) → i < length xs → (x : A) × (slice_get xs i ≡ Some x)
-item_of [] i h = absurd (omega arith)
-item_of (x ∷ xs) zero h = (x, refl)
-item_of (x ∷ xs) (suc i) h = item_of xs i (omega arith)
 
 module _ (g : Program) (u : Use) (x : ℕ) (rows runs hidden : List VarSet) where
   -- the rows, the calls and what is hidden are those of the blocks
@@ -103,7 +93,7 @@ module _ (c : p.Program) (bodies : Bodies) (hidden rows own : List VarSet) (u : 
     rows_of = λ b h.
         let s = and_not_parts (member own b x) (member hidden b x) (sym (shown b) ∙ h) in
         let inside : b < length c.blocks = subst (λ n. b < n) count (within_rows own b x s.0) in
-        let k = item_of c.blocks b inside in
+        let k = item_there c.blocks b inside in
         (bare_block k.0, get_of_map bare_block c.blocks b k.0 k.1, passes b inside s.1, (own_is b k.0 k.1).0 s.0);
     rows_in = λ b k e f h.
         let m = map_at bare_block c.blocks b k e in
@@ -112,7 +102,7 @@ module _ (c : p.Program) (bodies : Bodies) (hidden rows own : List VarSet) (u : 
         ((own_is b m.0 m.1).1 (subst (λ (z : Block). In_stmt z.body u) (sym m.2) h)) (hides b inside f);
     runs_of = λ b f h.
         let inside : b < length c.blocks = subst (λ n. b < n) bs.runs (within_rows bodies.runs b f h) in
-        let k = item_of c.blocks b inside in
+        let k = item_there c.blocks b inside in
         let at = bs.each b k.0 inside k.1 in
         let r = (at.runs f).0 h in
         (bare_block k.0, get_of_map bare_block c.blocks b k.0 k.1, r.0, r.1);

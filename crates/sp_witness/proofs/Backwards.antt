@@ -14,7 +14,7 @@ use Rattle.sp_journal.specs.Maps.{at_key}
 use Rattle.sp_journal.specs.Births.{Births, at_start, births, births_from, after_entry, after_event, CanFollow}
 use Rattle.sp_journal.specs.Births.{GivesNumbers, NameableFrom}
 use Rattle.sp_journal.proofs.Facts.{here, same}
-use Rattle.sp_journal.proofs.BirthLaws.{Lawful, lawful}
+use Rattle.sp_journal.proofs.BirthLaws.{Lawful, lawful, processes_grow}
 use Rattle.sp_journal.proofs.Walk.{left_is, more_births, can_follow, births_parts, birth_stays, any_entry}
 use Rattle.sp_witness.specs.Flags.{any_flag, parent_flag, flags_to_meet, flags_before, flags, marks, lines_after}
 use Rattle.sp_witness.specs.Flags.{partner_of}
@@ -249,21 +249,6 @@ module _ (earlier last : ℕ) (es : List Entry) (i j : ℕ) (is : i ≡ j + 1) (
       ∙ (λ k. m k ∷ (h ∙ ap (λ n. marks earlier last (births (take n es)) (lines_of (take n es)) n (drop n es)) is) k)
       ∙ sym (marks_more earlier last es j inside)
 
--- an entry of a nameable front, and the whole run
-more_processes : (s : Births) (es : List Entry) → s.processes ≤ (births_from s es).processes
-more_processes s [] = omega arith
-more_processes s (e ∷ es) = let a = by e.event in let b = more_processes (after_entry s e) es in omega arith
-  where
-    by : (v : Event) → s.processes ≤ (after_event s e.process v).processes
-    by (event.Fork n) = omega arith
-    by event.Open = omega arith
-    by (event.Send c) = omega arith
-    by (event.Receive c) = omega arith
-    by event.End = omega arith
-    by (event.Fault f) = omega arith
-    by event.Laid = omega arith
-    by event.Pause = omega arith
-
 nameable_rest : (s : Births) (xs ys : List Entry) → NameableFrom s (xs ++ ys) → NameableFrom (births_from s xs) ys
 nameable_rest s [] ys h = h
 nameable_rest s (x ∷ xs) ys h = nameable_rest (after_entry s x) xs ys h.1
@@ -289,7 +274,7 @@ module _ (es : List Entry) (nameable : NameableFrom at_start es) (at : ℕ) (ins
     pub there : (get_or es at any_entry).process < (births all).processes
     there =
         let a = follows.0 in
-        let b = more_processes (births (take at es)) (drop at es ++ front.0) in
+        let b = processes_grow (births (take at es)) (drop at es ++ front.0) in
         let c = ap (λ (s : Births). s.processes) all_is in
         omega arith
 

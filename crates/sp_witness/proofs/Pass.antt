@@ -8,9 +8,9 @@ use Rattle.sp_base.proofs.Facts.{first_true, same_if_both_follow, second_true, t
 use Rattle.sp_journal.specs.Names.{Name, Channel, same_name, Happening, Opened, Forked, Offered, Ended, Faulted, Laid}
 use Rattle.sp_journal.specs.Names.{Paused, Occurrence}
 use Rattle.sp_journal.specs.Past.{Judged, judged_by}
+use Rattle.sp_journal.proofs.NameLaws.{name_itself, name_is}
 use Rattle.sp_meaning.specs.Along.{IsCleanly, IsClean}
 use Rattle.sp_judge.specs.Prefixes.{WaitsForNone, QuietFrom}
-use Rattle.sp_judge.proofs.Keys.{name_is, name_itself}
 use Rattle.sp_witness.specs.Witness.{who_of, who_at, past_before, is_pause, is_known, offers_after, is_member, is_among}
 use Rattle.sp_witness.specs.Witness.{members}
 use Rattle.sp_witness.specs.Needed.{needed_before, needed, taken, needed_marks}

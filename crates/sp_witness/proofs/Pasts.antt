@@ -11,9 +11,9 @@ use Rattle.sp_base.proofs.Facts.{first_true, second_true, true_is_not_false}
 use Rattle.sp_journal.specs.Names.{Name, Channel, same_name, same_channel, Happening, Opened, Forked, Offered, Ended}
 use Rattle.sp_journal.specs.Names.{Faulted, Laid, Paused, Occurrence}
 use Rattle.sp_journal.specs.Past.{Judged, learn, now, met_now, judged_by, judged_from, judged, nothing_judged}
+use Rattle.sp_journal.proofs.NameLaws.{name_itself, name_is}
 use Rattle.sp_meaning.specs.Along.{IsCleanly, IsClean}
 use Rattle.sp_judge.specs.Prefixes.{is_counted, Counts, QuietFrom}
-use Rattle.sp_judge.proofs.Keys.{name_itself, name_is}
 use Rattle.sp_judge.proofs.Prefixing.{learn_all, teach_all, report_all, learn_more, teach_more, report_more, Kept}
 use Rattle.sp_judge.proofs.Prefixing.{one_entry}
 use Rattle.sp_race.proofs.Linking.{last_entry, kept_entry, grown_size}

@@ -1,9 +1,10 @@
 use Rattle.std.proofs.Common.{Option, ℕ, Some, sym, subst}
 use Rattle.std.specs.Prelude.{OnOk}
+use Rattle.sp_base.proofs.Facts.{on_map}
 use Rattle.sp_areas.specs.declared.tree.Frame.TheVariants as frame
 use Rattle.sp_areas.specs.Around.{PutsChild}
 use Rattle.sp_areas.specs.Grown.{Puts}
-use Rattle.sp_areas.proofs.Hanging.{on_map, puts_index}
+use Rattle.sp_areas.proofs.Hanging.{puts_index}
 use Rattle.sp_areas.proofs.hung.put_child.Goals as goal
 
 pub returns-in-Some : goal.returns-in-Some

@@ -1,6 +1,7 @@
 use Rattle.std.proofs.Common.{◌<◌, List, Bool, sym, subst}
+use Rattle.sp_base.proofs.Facts.{on_map}
 use Rattle.sp_areas.specs.Rounds.{AreLed, Widens, gaps}
-use Rattle.sp_areas.proofs.Rounding.{on_map, led_flag, less_flag}
+use Rattle.sp_areas.proofs.Rounding.{led_flag, less_flag}
 use Rattle.sp_areas.proofs.rounds.go_on.Goals as goal
 
 pub returns : goal.returns

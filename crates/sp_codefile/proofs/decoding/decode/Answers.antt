@@ -1,9 +1,10 @@
 use Rattle.std.proofs.Common.{◌≡◌, ℕ, suc, ◌∙◌, List, Some, None, refl, sym, ap, subst, arith, codes, rules}
+use Rattle.sp_journal.proofs.TextLaws.{parts_first, none_parts}
 use Rattle.sp_code.specs.declared.code.Parts.{Parts}
 use Rattle.sp_codefile.specs.CodeText.{IsTextOf}
 use Rattle.sp_codefile.specs.Items.{item_text, IsNext}
 use Rattle.sp_codefile.proofs.WordLaws.{not_empty, empty}
-use Rattle.sp_codefile.proofs.ReadLaws.{Begun, head, parts_first, none_parts, begun_first, bad_first, begun_next}
+use Rattle.sp_codefile.proofs.ReadLaws.{Begun, head, begun_first, bad_first, begun_next}
 use Rattle.sp_codefile.proofs.ReadLaws.{bad_line, read_whole, shorter}
 use Rattle.sp_codefile.proofs.decoding.decode.Goals as goal
 

@@ -1,4 +1,5 @@
-use Rattle.sp_codefile.proofs.Printing.{child_put, on_ok}
+use Rattle.sp_base.proofs.Facts.{on_ok}
+use Rattle.sp_codefile.proofs.Printing.{child_put}
 use Rattle.sp_codefile.proofs.writing.put_child.Goals as goal
 
 pub returns-clause-text : goal.returns-clause-text

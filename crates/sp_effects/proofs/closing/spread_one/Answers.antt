@@ -1,9 +1,9 @@
 use Rattle.std.proofs.Common.{sym, ◌∙◌, subst, List}
 use Rattle.std.specs.Prelude.{◌≡◌, Some}
+use Rattle.sp_base.proofs.Facts.{on_map as ok_on}
 use Rattle.sp_effects.specs.declared.facts.Fact.{Fact}
 use Rattle.sp_effects.specs.Facts.{Tells, with_fact}
 use Rattle.sp_effects.specs.Closing.{fact_along}
-use Rattle.sp_effects.proofs.Owns.{ok_on}
 use Rattle.sp_effects.proofs.Spreading.{carried_told}
 use Rattle.sp_effects.proofs.closing.spread_one.Goals as goal
 

@@ -1,6 +1,6 @@
 use Rattle.std.proofs.Common.{◌<◌, sym, ◌∙◌, subst}
+use Rattle.sp_base.proofs.Facts.{on_map as ok_on}
 use Rattle.sp_effects.specs.Edges.{Links, CalledAt, StartedAt, EdgeAt}
-use Rattle.sp_effects.proofs.Owns.{ok_on}
 use Rattle.sp_effects.proofs.Linking.{nothing_at, layout_within, child_within, links_then}
 use Rattle.sp_effects.proofs.edges.link_at.Goals as goal
 

@@ -1,7 +1,7 @@
 use Rattle.std.proofs.Common.{length}
+use Rattle.sp_base.proofs.Facts.{on_map as ok_on}
 use Rattle.sp_shapes.specs.Stacks.{list_of}
 use Rattle.sp_effects.specs.Edges.{Links, IsCall, IsDeeper}
-use Rattle.sp_effects.proofs.Owns.{ok_on}
 use Rattle.sp_effects.proofs.Linking.{call_linked}
 use Rattle.sp_effects.proofs.edges.link_call.Goals as goal
 

@@ -1,10 +1,10 @@
 use Rattle.std.proofs.Common.{sym, ◌∙◌, subst}
 use Rattle.std.specs.Prelude.{◌≡◌, Some}
+use Rattle.sp_base.proofs.Facts.{on_map as ok_on}
 use Rattle.sp_code.specs.declared.code.Parts.{Parts}
 use Rattle.sp_code.specs.Machine.{layout_of}
 use Rattle.sp_shapes.specs.Stacks.{list_of}
 use Rattle.sp_effects.specs.Edges.{Links, IsCall, CalledAt}
-use Rattle.sp_effects.proofs.Owns.{ok_on}
 use Rattle.sp_effects.proofs.Linking.{no_stack, call_at}
 use Rattle.sp_effects.proofs.edges.link_called.Goals as goal
 

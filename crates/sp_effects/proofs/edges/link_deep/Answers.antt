@@ -1,8 +1,8 @@
 use Rattle.std.proofs.Common.{sym, ◌∙◌}
 use Rattle.std.specs.Prelude.{◌≡◌, Some}
+use Rattle.sp_base.proofs.Facts.{on_map as ok_on}
 use Rattle.sp_shapes.specs.Stacks.{shape_of}
 use Rattle.sp_effects.specs.Edges.{Links, deep_edge}
-use Rattle.sp_effects.proofs.Owns.{ok_on}
 use Rattle.sp_effects.proofs.Linking.{deep_linked}
 use Rattle.sp_effects.proofs.edges.link_deep.Goals as goal
 

@@ -1,10 +1,10 @@
 use Rattle.std.proofs.Common.{ap, sym, ◌∙◌, length, List, Option}
 use Rattle.std.specs.Prelude.{slice_get}
+use Rattle.sp_base.proofs.Facts.{on_map as ok_on}
 use Rattle.sp_code.specs.declared.code.ChildTable.{ChildTable}
 use Rattle.sp_code.specs.declared.code.ForkTable.{ForkTable}
 use Rattle.sp_rules.specs.Areas.{child_of}
 use Rattle.sp_effects.specs.Edges.{Links, OneStarts, StartedAt}
-use Rattle.sp_effects.proofs.Owns.{ok_on}
 use Rattle.sp_effects.proofs.Linking.{starts_at}
 use Rattle.sp_effects.proofs.edges.link_started.Goals as goal
 

@@ -1,6 +1,7 @@
+use Rattle.sp_base.proofs.Facts.{on_map as ok_on}
 use Rattle.sp_effects.specs.Facts.{Tells}
 use Rattle.sp_effects.specs.Own.{IsOf, ForkedAt, OwnAt}
-use Rattle.sp_effects.proofs.Owns.{at_told, ok_on}
+use Rattle.sp_effects.proofs.Owns.{at_told}
 use Rattle.sp_effects.proofs.own.tell_at.Goals as goal
 
 pub returns : goal.returns

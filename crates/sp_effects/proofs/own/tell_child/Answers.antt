@@ -1,7 +1,8 @@
 use Rattle.sp_effects.specs.Facts.{Tells}
 use Rattle.sp_effects.specs.Own.{IsOf, IsHanded, IsAmong}
 use Rattle.std.specs.Prelude.{false}
-use Rattle.sp_effects.proofs.Owns.{child_told, ok_on}
+use Rattle.sp_base.proofs.Facts.{on_map as ok_on}
+use Rattle.sp_effects.proofs.Owns.{child_told}
 use Rattle.sp_effects.proofs.own.tell_child.Goals as goal
 
 pub returns : goal.returns

@@ -1,10 +1,11 @@
 use Rattle.std.proofs.Common.{sym, ◌∙◌}
+use Rattle.sp_base.proofs.Facts.{on_map as ok_on}
 use Rattle.sp_rules.specs.Areas.{Area}
 use Rattle.sp_areas.specs.Only.{LiesOnlyIn}
 use Rattle.sp_shapes.specs.Stacks.{list_of}
 use Rattle.sp_effects.specs.Facts.{Tells}
 use Rattle.sp_effects.specs.Own.{IsOf, DoesBy, ReachedAt}
-use Rattle.sp_effects.proofs.Owns.{not_reached, reached_told, ok_on}
+use Rattle.sp_effects.proofs.Owns.{not_reached, reached_told}
 use Rattle.sp_effects.proofs.own.tell_reached.Goals as goal
 
 pub returns-in-None : goal.returns-in-None

@@ -1,11 +1,12 @@
 use Rattle.std.proofs.Common.{List, ℕ, ◌∙◌, subst}
 use Rattle.std.specs.Prelude.{Some, true, false}
+use Rattle.sp_base.proofs.Facts.{on_map as ok_on}
 use Rattle.sp_rules.specs.Areas.{Area}
 use Rattle.sp_areas.specs.Only.{LiesOnlyIn}
 use Rattle.sp_shapes.specs.Stacks.{list_of}
 use Rattle.sp_effects.specs.Facts.{Tells}
 use Rattle.sp_effects.specs.Own.{IsAmong, IsOf, IsStop, DoesBy, variables_at}
-use Rattle.sp_effects.proofs.Owns.{shaped_told, ok_on}
+use Rattle.sp_effects.proofs.Owns.{shaped_told}
 use Rattle.sp_effects.proofs.own.tell_shaped.Goals as goal
 
 pub returns : goal.returns

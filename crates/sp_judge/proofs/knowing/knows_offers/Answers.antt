@@ -1,10 +1,11 @@
 use Rattle.std.proofs.Common.{◌<◌, ◌≡◌, true, nat_lt, refl, sym, ◌∙◌, subst, arith, ℕ}
 use Rattle.std.proofs.lemmas.Result.{IfOk-weaker}
 use Rattle.std.proofs.lemmas.Bool.Decides.{nat_tests}
+use Rattle.sp_base.proofs.Facts.{item_is}
 use Rattle.sp_journal.specs.declared.entry.Entry.{Entry}
 use Rattle.sp_judge.specs.Bench.{offer_event}
 use Rattle.sp_judge.proofs.Steps.{channel_inside, clocks_inside, last_there, knows_none, knows_own, knows_counted}
-use Rattle.sp_judge.proofs.Steps.{knows_last, item_is}
+use Rattle.sp_judge.proofs.Steps.{knows_last}
 use Rattle.sp_judge.proofs.Halves.{inside, there}
 use Rattle.sp_judge.proofs.knowing.knows_offers.Goals as goal
 

@@ -1,7 +1,7 @@
 use Rattle.std.proofs.Common.{map, rules}
-use Rattle.sp_base.proofs.Facts.{get_of_map}
+use Rattle.sp_base.proofs.Facts.{get_of_map, item_is}
 use Rattle.sp_tree.specs.CheckedOf.{block_of}
-use Rattle.sp_sets.proofs.Joins.{at_index, put_block_is, put_no_block}
+use Rattle.sp_sets.proofs.Joins.{put_block_is, put_no_block}
 use Rattle.sp_sets.proofs.print.put_block.Goals as goal
 
 pub returns-then-b-eq0 : goal.returns-then-b-eq0
@@ -13,5 +13,5 @@ returns c =
     put_block_is c.args.variables.now c.args.sets.now (map block_of c.args.blocks.now) c.args.b
     (block_of c.index-blocks-b.result) c.args.out.now.items _ (search rules)
     (get_of_map block_of c.args.blocks.now c.args.b c.index-blocks-b.result
-    (at_index c.args.blocks.now c.args.b c.index-blocks-b.result c.requires.there c.index-blocks-b.is))
+    (item_is c.args.blocks.now c.args.b c.index-blocks-b.result c.requires.there c.index-blocks-b.is))
     c.in_ok-put_implicit.ensures

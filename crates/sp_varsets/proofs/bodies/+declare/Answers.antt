@@ -1,9 +1,8 @@
 use Rattle.std.proofs.Common.{rules, ◌≡◌, ◌∙◌, length, map, arith, slice_get, Some, None, sym}
-use Rattle.sp_base.proofs.Facts.{get_of_map, length_of_map}
+use Rattle.sp_base.proofs.Facts.{get_of_map, length_of_map, no_get_of_map}
 use Rattle.sp_tree.specs.Bare.{bare, bare_block}
 use Rattle.sp_tree.specs.CheckedOf.{block_of, program_of}
 use Rattle.sp_varsets.proofs.Gathering.{in_put, declares_none, declares_top, declares_more}
-use Rattle.sp_varsets.proofs.Reaching.{none_map}
 use Rattle.sp_varsets.proofs.bodies.+declare.Goals as goal
 
 pub returns : goal.returns
@@ -28,8 +27,8 @@ returns-in-None t c =
     ∙ (sym (length_of_map block_of c.args.checked.now.blocks)
     ∙ sym (length_of_map bare_block (map block_of c.args.checked.now.blocks))) in
     declares_none (bare (program_of c.args.checked.now)) c.args.rows.now c.args.variable c.args.block l
-    (none_map bare_block (map block_of c.args.checked.now.blocks) c.args.block
-    (none_map block_of c.args.checked.now.blocks c.args.block g))
+    (no_get_of_map bare_block (map block_of c.args.checked.now.blocks) c.args.block
+    (no_get_of_map block_of c.args.checked.now.blocks c.args.block g))
 
 pub returns-in-None-parent : goal.returns-in-None-parent
 returns-in-None-parent t c =

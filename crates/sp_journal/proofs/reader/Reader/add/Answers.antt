@@ -1,6 +1,6 @@
 use Rattle.std.proofs.Common.{refl}
+use Rattle.sp_base.proofs.Facts.{on_ok}
 use Rattle.sp_journal.specs.Reader.{known}
-use Rattle.sp_journal.proofs.Facts.{on_ok}
 use Rattle.sp_journal.proofs.Quiet.{quiet}
 use Rattle.sp_journal.proofs.ReadingLaws.{other_reader}
 use Rattle.sp_journal.proofs.reader.Reader.add.Goals as goal

@@ -5,8 +5,8 @@ use Rattle.std.specs.String.{string_bytes}
 use Rattle.std.specs.HashMap.{get_by_text}
 use Rattle.std.proofs.lemmas.Map.Text.{hash_map_updates_text}
 use Rattle.sp_base.specs.Names.{name_text}
+use Rattle.sp_base.proofs.Facts.{on_ok}
 use Rattle.sp_journal.specs.Reader.{family_text, known}
-use Rattle.sp_journal.proofs.Facts.{on_ok}
 use Rattle.sp_journal.proofs.ReadingLaws.{fork_reader}
 use Rattle.sp_journal.proofs.reader.Reader.add_fork.Goals as goal
 

@@ -5,9 +5,9 @@ use Rattle.std.specs.String.{string_bytes}
 use Rattle.std.specs.HashMap.{get_by_text}
 use Rattle.std.proofs.lemmas.Map.Text.{hash_map_updates_text}
 use Rattle.sp_base.specs.Names.{name_text, channel_text}
+use Rattle.sp_base.proofs.Facts.{on_ok}
 use Rattle.sp_journal.specs.Names.{Channel, chan_name}
 use Rattle.sp_journal.specs.Reader.{known}
-use Rattle.sp_journal.proofs.Facts.{on_ok}
 use Rattle.sp_journal.proofs.TextLaws.{channel_is}
 use Rattle.sp_journal.proofs.ReadingLaws.{open_reader}
 use Rattle.sp_journal.proofs.reader.Reader.add_open.Goals as goal

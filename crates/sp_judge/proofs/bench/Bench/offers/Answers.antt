@@ -1,7 +1,8 @@
 use Rattle.std.proofs.Common.{◌≡◌, ◌-◌, ◌<◌, length, slice_set, get_or, Some, None, refl, sym, ap, ◌∙◌, subst, arith}
+use Rattle.sp_base.proofs.Facts.{item_is}
 use Rattle.sp_judge.specs.Clocks.{clock_at, met_at, number_at}
 use Rattle.sp_judge.specs.Bench.{offer_event, then_line}
-use Rattle.sp_judge.proofs.Steps.{made_inside, clocks_inside, channel_inside, inside_over, item_is, waits_there}
+use Rattle.sp_judge.proofs.Steps.{made_inside, clocks_inside, channel_inside, inside_over, waits_there}
 use Rattle.sp_judge.proofs.Steps.{waits_apart, offer_waits, offer_meets}
 use Rattle.sp_judge.proofs.bench.Bench.offers.Goals as goal
 

@@ -1,5 +1,6 @@
-use Rattle.sp_varsets.proofs.Adding.{ok_as, adds_then}
+use Rattle.sp_base.proofs.Facts.{on_ok}
+use Rattle.sp_varsets.proofs.Adding.{adds_then}
 use Rattle.sp_varsets.proofs.uses.Uses.open.Goals as goal
 
 pub returns : goal.returns
-returns c = ok_as c.stop.result c.stop.ensures (adds_then c.in_ok-target.ensures)
+returns c = on_ok c.stop.result c.stop.ensures (adds_then c.in_ok-target.ensures)

@@ -1,6 +1,7 @@
-use Rattle.sp_varsets.proofs.Adding.{ok_as, adds_then, from_empty, merged}
+use Rattle.sp_base.proofs.Facts.{on_ok}
+use Rattle.sp_varsets.proofs.Adding.{adds_then, from_empty, merged}
 use Rattle.sp_varsets.proofs.uses.Uses.receive_through.Goals as goal
 
 pub returns : goal.returns
-returns c = ok_as c.stop.result c.stop.ensures
+returns c = on_ok c.stop.result c.stop.ensures
     (λ s x start e f. adds_then (merged (from_empty e f) c.in_ok-merge.ensures) (adds_then c.in_ok-target.ensures s))

@@ -1,4 +1,5 @@
 use Rattle.std.proofs.Common.{rules, ◌≡◌, map, subst}
+use Rattle.sp_base.proofs.Facts.{on_ok}
 use Rattle.sp_tree.specs.declared.checked.Form.TheFolds as folds
 use Rattle.sp_tree.specs.declared.checked.Stmt.{out-Stmt}
 use Rattle.sp_tree.specs.PlainChecked.{Assign, Call, Sequence, If, NoElse, Else, While, Repeat, For, Case, Parallel}
@@ -8,7 +9,7 @@ use Rattle.sp_tree.specs.Bare.{bare_statement, bare_statements}
 use Rattle.sp_tree.specs.CheckedOf.{expression_of, variable_of, width_of, actual_of, actuals, statement_of}
 use Rattle.sp_tree.specs.CheckedOf.{statement_form_of, statements, sends, receives, arm_of, arms}
 use Rattle.sp_varsets.specs.Walks.{WalksStatement}
-use Rattle.sp_varsets.proofs.Adding.{ok_as, splits_add, spreads_add}
+use Rattle.sp_varsets.proofs.Adding.{splits_add, spreads_add}
 use Rattle.sp_varsets.proofs.Walking.{statement_is, arms_on, arms_end, statement_walked, element_walked, walked_none}
 use Rattle.sp_varsets.proofs.Walking.{walked_first, walked_last, walked_both, walked_else_none, walked_no_statements}
 use Rattle.sp_varsets.proofs.Walking.{statements_on, statements_end}
@@ -18,13 +19,13 @@ pub form-returns-in-Assign : goal.form-returns-in-Assign
 form-returns-in-Assign t c =
     let i : statement_form_of c.args.form.now ≡ Assign (variable_of c.in-Assign.v) (expression_of c.in-Assign.e) =
     search (rules, folds.the_lemmas) in
-    rw i (ok_as c.assign.result c.assign.ensures (λ a. walked_none a))
+    rw i (on_ok c.assign.result c.assign.ensures (λ a. walked_none a))
 
 pub form-returns-in-Call : goal.form-returns-in-Call
 form-returns-in-Call t c =
     let i : statement_form_of c.args.form.now ≡ Call c.in-Call.f (actuals (map actual_of c.in-Call.args)) =
     search (rules, folds.the_lemmas) in
-    rw i (ok_as c.call.result (rw c.items.ensures at c.call.ensures) (λ a. walked_none a))
+    rw i (on_ok c.call.result (rw c.items.ensures at c.call.ensures) (λ a. walked_none a))
 
 pub form-returns-in_ok-expression-in-If-default-default-None :
     goal.form-returns-in_ok-expression-in-If-default-default-None
@@ -32,7 +33,7 @@ form-returns-in_ok-expression-in-If-default-default-None t c =
     let i : statement_form_of c.args.form.now
     ≡ If (expression_of c.in-If-default-default-None.e) (statement_of c.in-If-default-default-None.a) NoElse =
     search (rules, folds.the_lemmas) in
-    rw i (ok_as c.statement.result (rw c.get.ensures at c.statement.ensures)
+    rw i (on_ok c.statement.result (rw c.get.ensures at c.statement.ensures)
     (λ s. walked_else_none (walked_first c.in_ok-expression-in-If-default-default-None.ensures s)))
 
 pub form-returns-in_ok-statement-in-If-default-default-Some :
@@ -46,7 +47,7 @@ form-returns-in_ok-statement-in-If-default-default-Some t c =
     let e1 = subst (λ z. WalksStatement c.args.self.now c.statement-in-If-default-default-Some.new.self
     c.expression-in-If-default-default-Some.new.self c.statement-in-If-default-default-Some.new.into
     (statement_of z)) g1 c.in_ok-statement-in-If-default-default-Some.ensures in
-    rw i (ok_as c.statement-in-If-default-default-Some-2.result c.statement-in-If-default-default-Some-2.ensures
+    rw i (on_ok c.statement-in-If-default-default-Some-2.result c.statement-in-If-default-default-Some-2.ensures
     (λ s. walked_first c.in_ok-expression-in-If-default-default-Some.ensures
     (walked_both e1 (subst (λ z. WalksStatement c.statement-in-If-default-default-Some.new.self
     c.statement-in-If-default-default-Some-2.new.self c.statement-in-If-default-default-Some.new.into
@@ -56,14 +57,14 @@ pub form-returns-in_ok-expression-in-While : goal.form-returns-in_ok-expression-
 form-returns-in_ok-expression-in-While t c =
     let i : statement_form_of c.args.form.now ≡ While (expression_of c.in-While.e) (statement_of c.in-While.s) =
     search (rules, folds.the_lemmas) in
-    rw i (ok_as c.statement-in-While.result (rw c.get-in-While.ensures at c.statement-in-While.ensures)
+    rw i (on_ok c.statement-in-While.result (rw c.get-in-While.ensures at c.statement-in-While.ensures)
     (λ s. walked_first c.in_ok-expression-in-While.ensures s))
 
 pub form-returns-in_ok-expression-in-Repeat : goal.form-returns-in_ok-expression-in-Repeat
 form-returns-in_ok-expression-in-Repeat t c =
     let i : statement_form_of c.args.form.now ≡ Repeat (statement_of c.in-Repeat.s) (expression_of c.in-Repeat.e) =
     search (rules, folds.the_lemmas) in
-    rw i (ok_as c.statement-in-Repeat.result (rw c.get-in-Repeat.ensures at c.statement-in-Repeat.ensures)
+    rw i (on_ok c.statement-in-Repeat.result (rw c.get-in-Repeat.ensures at c.statement-in-Repeat.ensures)
     (λ s. walked_first c.in_ok-expression-in-Repeat.ensures s))
 
 pub form-returns-in_ok-expression-in-For-2 : goal.form-returns-in_ok-expression-in-For-2
@@ -71,7 +72,7 @@ form-returns-in_ok-expression-in-For-2 t c =
     let i : statement_form_of c.args.form.now
     ≡ For c.in-For.variable c.in-For._at (expression_of c.in-For.from) c.in-For._down (expression_of c.in-For.to)
     (statement_of c.in-For.body) = search (rules, folds.the_lemmas) in
-    rw i (ok_as c.statement-in-For.result (rw c.get-in-For.ensures at c.statement-in-For.ensures)
+    rw i (on_ok c.statement-in-For.result (rw c.get-in-For.ensures at c.statement-in-For.ensures)
     (λ s. walked_first c.in_ok-aim-in-For.ensures
     (walked_first c.in_ok-expression-in-For.ensures (walked_first c.in_ok-expression-in-For-2.ensures s))))
 
@@ -79,7 +80,7 @@ pub form-returns-in_ok-expression-in-Case : goal.form-returns-in_ok-expression-i
 form-returns-in_ok-expression-in-Case t c =
     let i : statement_form_of c.args.form.now ≡ Case (expression_of c.in-Case.e) (arms (map arm_of c.in-Case.choices)) =
     search (rules, folds.the_lemmas) in
-    rw i (ok_as c.choices.result (rw c.items-in-Case.ensures at c.choices.ensures)
+    rw i (on_ok c.choices.result (rw c.items-in-Case.ensures at c.choices.ensures)
     (λ s. walked_first c.in_ok-expression-in-Case.ensures s))
 
 pub form-returns-in_ok-statements-in-Parallel : goal.form-returns-in_ok-statements-in-Parallel
@@ -87,7 +88,7 @@ form-returns-in_ok-statements-in-Parallel t c =
     let i : statement_form_of c.args.form.now ≡ Parallel (statements (map statement_of c.in-Parallel.ss)) =
     search (rules, folds.the_lemmas) in
     let e1 = rw c.items-in-Parallel.ensures at c.in_ok-statements-in-Parallel.ensures in
-    rw i (ok_as c.stop.result c.stop.ensures
+    rw i (on_ok c.stop.result c.stop.ensures
     (λ s. walked_first (splits_add c.args.into.now
     (bare_statements (statements (map statement_of c.in-Parallel.ss)))) (walked_last e1 s)))
 
@@ -97,7 +98,7 @@ form-returns-in_ok-element-in-Forall t c =
     ≡ Forall c.in-Forall.index (expression_of c.in-Forall.from) (expression_of c.in-Forall.to)
     (statement_of c.in-Forall.body) = search (rules, folds.the_lemmas) in
     let e1 = rw c.get-in-Forall.ensures at c.in_ok-element-in-Forall.ensures in
-    rw i (ok_as c.stop-in-Forall.result c.stop-in-Forall.ensures
+    rw i (on_ok c.stop-in-Forall.result c.stop-in-Forall.ensures
     (λ s. walked_first (spreads_add c.args.into.now c.in-Forall.index
     (bare_statement (statement_of c.in-Forall.body)))
     (walked_first c.in_ok-expression-in-Forall.ensures
@@ -107,53 +108,53 @@ pub form-returns-in-Assume : goal.form-returns-in-Assume
 form-returns-in-Assume t c =
     let i : statement_form_of c.args.form.now ≡ Assume (expression_of c.in-Assume.e) =
     search (rules, folds.the_lemmas) in
-    rw i (ok_as c.expression-in-Assume.result c.expression-in-Assume.ensures (λ a. walked_none a))
+    rw i (on_ok c.expression-in-Assume.result c.expression-in-Assume.ensures (λ a. walked_none a))
 
 pub form-returns-in-ReadValue : goal.form-returns-in-ReadValue
 form-returns-in-ReadValue t c =
     let i : statement_form_of c.args.form.now ≡ ReadValue (variable_of c.in-ReadValue.v) =
     search (rules, folds.the_lemmas) in
-    rw i (ok_as c.read_value.result c.read_value.ensures (λ a. walked_none a))
+    rw i (on_ok c.read_value.result c.read_value.ensures (λ a. walked_none a))
 
 pub form-returns-in-ReadLine : goal.form-returns-in-ReadLine
 form-returns-in-ReadLine t c =
     let i : statement_form_of c.args.form.now ≡ ReadLine = search (rules, folds.the_lemmas) in
-    rw i (ok_as c.read_line.result c.read_line.ensures (λ a. walked_none a))
+    rw i (on_ok c.read_line.result c.read_line.ensures (λ a. walked_none a))
 
 pub form-returns-in-WriteValue : goal.form-returns-in-WriteValue
 form-returns-in-WriteValue t c =
     let i : statement_form_of c.args.form.now
     ≡ WriteValue (expression_of c.in-WriteValue.e) (width_of c.in-WriteValue.w) =
     search (rules, folds.the_lemmas) in
-    rw i (ok_as c.write_value.result c.write_value.ensures (λ a. walked_none a))
+    rw i (on_ok c.write_value.result c.write_value.ensures (λ a. walked_none a))
 
 pub form-returns-in-WriteText : goal.form-returns-in-WriteText
 form-returns-in-WriteText t c =
     let i : statement_form_of c.args.form.now ≡ WriteText c.in-WriteText._text (width_of c.in-WriteText.w) =
     search (rules, folds.the_lemmas) in
-    rw i (ok_as c.write_text.result c.write_text.ensures (λ a. walked_none (a c.in-WriteText._text)))
+    rw i (on_ok c.write_text.result c.write_text.ensures (λ a. walked_none (a c.in-WriteText._text)))
 
 pub form-returns-in-WriteLine : goal.form-returns-in-WriteLine
 form-returns-in-WriteLine t c =
     let i : statement_form_of c.args.form.now ≡ WriteLine = search (rules, folds.the_lemmas) in
-    rw i (ok_as c.write_line.result c.write_line.ensures (λ a. walked_none a))
+    rw i (on_ok c.write_line.result c.write_line.ensures (λ a. walked_none a))
 
 pub form-returns-in-Open : goal.form-returns-in-Open
 form-returns-in-Open t c =
     let i : statement_form_of c.args.form.now ≡ Open (variable_of c.in-Open.v) = search (rules, folds.the_lemmas) in
-    rw i (ok_as c.open.result c.open.ensures (λ a. walked_none a))
+    rw i (on_ok c.open.result c.open.ensures (λ a. walked_none a))
 
 pub form-returns-in-Send : goal.form-returns-in-Send
 form-returns-in-Send t c =
     let i : statement_form_of c.args.form.now ≡ Send (expression_of c.in-Send.c) (expression_of c.in-Send.e) =
     search (rules, folds.the_lemmas) in
-    rw i (ok_as c.send.result c.send.ensures (λ a. walked_none a))
+    rw i (on_ok c.send.result c.send.ensures (λ a. walked_none a))
 
 pub form-returns-in-Receive : goal.form-returns-in-Receive
 form-returns-in-Receive t c =
     let i : statement_form_of c.args.form.now ≡ Receive (expression_of c.in-Receive.c) (variable_of c.in-Receive.v) =
     search (rules, folds.the_lemmas) in
-    rw i (ok_as c.receive.result c.receive.ensures (λ a. walked_none a))
+    rw i (on_ok c.receive.result c.receive.ensures (λ a. walked_none a))
 
 pub form-returns-in-Sequence : goal.form-returns-in-Sequence
 form-returns-in-Sequence t c =
@@ -199,7 +200,7 @@ pub element-returns : goal.element-returns
 element-returns t c = c.inside.ensures c.new-inner.ensures
 
 pub inside-returns : goal.inside-returns
-inside-returns t c empty = ok_as c.merge.result c.merge.ensures
+inside-returns t c empty = on_ok c.merge.result c.merge.ensures
     (λ u. element_walked c.args.index (statement_of c.args.s.now) empty c.in_ok-statement.ensures c.forget.ensures.aims
     c.forget.ensures.sees c.forget.ensures.runs c.forget.ensures.stops u)
 
@@ -209,6 +210,6 @@ statement-returns t c = c.record.ensures c.new-mine.ensures
 pub record-returns : goal.record-returns
 record-returns t c empty =
     let i = statement_is c.args.s.now in
-    rw i (ok_as c.keep.result c.keep.ensures
+    rw i (on_ok c.keep.result c.keep.ensures
     (λ k. statement_walked (out-Stmt c.args.s.now).number (out-Stmt c.args.s.now).at
     (statement_form_of (out-Stmt c.args.s.now).form) empty c.in_ok-form.ensures c.in_ok-merge.ensures k))

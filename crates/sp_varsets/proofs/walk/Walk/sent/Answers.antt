@@ -1,11 +1,11 @@
+use Rattle.sp_base.proofs.Facts.{on_ok}
 use Rattle.sp_tree.specs.PlainChecked.{Send}
 use Rattle.sp_tree.specs.CheckedOf.{expression_of}
 use Rattle.sp_tree.specs.Bare.{bare_expression}
-use Rattle.sp_varsets.proofs.Adding.{ok_as}
 use Rattle.sp_varsets.proofs.Walking.{statement_walked, walked_none}
 use Rattle.sp_varsets.proofs.walk.Walk.sent.Goals as goal
 
 pub returns : goal.returns
-returns c empty = ok_as c.keep.result c.keep.ensures
+returns c empty = on_ok c.keep.result c.keep.ensures
     (λ k at channel start e f. statement_walked c.args.number at (Send channel (expression_of c.args.value.now)) empty
     (walked_none (c.in_ok-send_through.ensures (bare_expression channel) start e f)) c.in_ok-merge.ensures k)
