@@ -2,11 +2,11 @@
 -- come to all that a way leads to.
 use Rattle.std.proofs.Common.{◌≡◌, ◌⊎◌, inl, inr, ⊎_elim, refl, ap, sym, ◌∙◌, subst, ℕ, zero, suc, ◌+◌, ◌<◌, ◌≤◌, List}
 use Rattle.std.proofs.Common.{[], ◌∷◌, length, Option, Some, None, Bool, true, false, arith}
-use Rattle.std.specs.Prelude.{slice_get, slice_set, not, get_or, Result, Ok, Err, OnOk, IsTrue, ◌↔◌}
+use Rattle.std.specs.Prelude.{slice_get, slice_set, not, get_or, IsTrue, ◌↔◌}
 use Rattle.std.proofs.lemmas.List.{length-set}
 use Rattle.std.proofs.lemmas.List.Sums.{sum_by-set}
 use Rattle.std.proofs.lemmas.Option.{slice_get_within, slice_get-get_or, get_or_from_slice_get, none-some}
-use Rattle.sp_base.proofs.Facts.{less_same_or_more, not_true_and_false, on_map}
+use Rattle.sp_base.proofs.Facts.{less_same_or_more, not_true_and_false}
 use Rattle.sp_code.specs.declared.instr.Instr.{Instr}
 use Rattle.sp_code.specs.declared.instr.Instr.TheVariants as i
 use Rattle.sp_code.specs.declared.code.Parts.{Parts}

@@ -10,8 +10,6 @@ use Rattle.std.proofs.Math.ListN.{get_or-append, length-append}
 use mathlib.Core.Bool.{false≢true}
 use Rattle.std.specs.List.{list_any}
 use Rattle.std.specs.Ordering.{eq_by_cmp, is_eq}
-use Rattle.std.specs.declared.cmp.Ordering.{Ordering}
-use Rattle.std.specs.declared.cmp.Ordering.TheVariants.{Less, Equal, Greater}
 use Rattle.std.specs.FinMap as map
 use Rattle.sp_cell.specs.declared.spot.Spot.{Spot}
 use Rattle.sp_cell.specs.declared.cell.Cell.TheVariants.{Undefined}
@@ -181,3 +179,11 @@ next_pushed p cs =
     (λ q k. elim (known_pieces p.map n 0 cs q k)
     [ inl h ↦ omega (arith, known_below p.map q h) | inr e ↦ omega (arith, e) ]) in
     omega (arith, own, known)
+
+-- the newest of numbers is the last
+pub newest_last : (ms : List ℕ) (n : ℕ) → newest (ms ++ n ∷ []) ≡ n
+newest_last ms n =
+    let len = length-append ms (n ∷ []) in
+    ap (λ j. get_or (ms ++ n ∷ []) j 0) {x = length (ms ++ n ∷ []) - 1} {y = length ms} (omega (arith, len))
+    ∙ get_or-append_right ms (n ∷ []) (length ms) (length ms) 0 refl (omega arith)
+    ∙ ap (λ k. get_or (n ∷ []) k 0) {y = 0} (omega arith)

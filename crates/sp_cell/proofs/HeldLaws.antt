@@ -42,7 +42,7 @@ share_agree (Some Away) b p a = absurd p
 frame_of : (x y : Spot) → x ≡ y → x.frame ≡ y.frame
 frame_of x y e = ap (λ (s : Spot). s.frame) e
 
-same_spot : (x y : Spot) → x.frame ≡ y.frame → x.variable ≡ y.variable → x ≡ y
+pub same_spot : (x y : Spot) → x.frame ≡ y.frame → x.variable ≡ y.variable → x ≡ y
 same_spot x y e v = λ i. record { frame = e i; variable = v i }
 
 -- ---- one child
@@ -279,7 +279,7 @@ not_in_back : (q : Spot) (xs ys : List Spot) → NotIn q (xs ++ ys) → NotIn q 
 not_in_back q [] ys n = n
 not_in_back q (x ∷ xs) ys n = not_in_back q xs ys n.1
 
-not_in_front : (q : Spot) (xs ys : List Spot) → NotIn q (xs ++ ys) → NotIn q xs
+pub not_in_front : (q : Spot) (xs ys : List Spot) → NotIn q (xs ++ ys) → NotIn q xs
 not_in_front q [] ys n = tt
 not_in_front q (x ∷ xs) ys n = (n.0, not_in_front q xs ys n.1)
 

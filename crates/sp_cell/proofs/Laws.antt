@@ -1,15 +1,18 @@
 -- Laws of the map of a store: what is found after an insert, and when two maps are one. The other laws here and the
 -- proofs of the crates above go by them.
-use Rattle.std.specs.Prelude.{◌≡◌, cond, Option, Some, None, ◌≢◌, ◌⊎◌, IsSome}
-use Rattle.std.proofs.Common.{sym, ap, refl, ◌∙◌, inl, inr}
+use Rattle.std.specs.Prelude.{◌≡◌, cond, Option, Some, None, ◌≢◌, ◌⊎◌, IsSome, replicate}
+use Rattle.std.proofs.Common.{sym, ap, refl, ◌∙◌, inl, inr, List, ℕ, ⊎_elim, ◌+◌, ◌∷◌, subst, []}
 use Rattle.std.proofs.lemmas.Cmp.{tied_itself}
 use Rattle.std.specs.Ordering.{is_eq}
 use Rattle.std.specs.declared.cmp.Ordering.{Ordering}
 use Rattle.std.specs.declared.cmp.Ordering.TheVariants.{Less, Equal, Greater}
 use Rattle.std.specs.FinMap as map
 use Rattle.sp_cell.specs.declared.spot.Spot.{Spot}
-use Rattle.sp_cell.specs.Map.{Map, Content, Away, IsHeld, IsPiece, spot_cmp}
+use Rattle.sp_cell.specs.Map.{Map, Content, Away, IsHeld, IsPiece, spot_cmp, IsOwn, Output, Own, Shared}
 use Rattle.sp_cell.proofs.Order.{spot_total, spot_same}
+use Rattle.sp_cell.specs.declared.cell.Cell.{Cell}
+use Rattle.sp_cell.specs.declared.cell.Cell.TheVariants as cell
+use Rattle.sp_cell.specs.Frame.{with_pieces}
 
 pub apart_less : (r : Ordering) → r ≡ Less → r ≡ Equal → ⊥
 apart_less r p q = cc
@@ -81,3 +84,37 @@ insert_twice m s g h = same_map _ _ (λ q. elim (same_or q s) [
   | inl e ↦ rw e (get_here (map.insert m s g) s h ∙ sym (get_here m s h))
   | inr n ↦ get_other (map.insert m s g) s h q n ∙ get_other m s g q n ∙ sym (get_other m s h q n)
 ])
+
+-- what is own is a piece
+pub piece_of_own : (o : Option Content) → IsOwn o → IsPiece o
+piece_of_own None h = h
+piece_of_own (Some (Own cs)) h = tt
+piece_of_own (Some (Shared cs)) h = absurd h
+piece_of_own (Some (Output bs)) h = absurd h
+piece_of_own (Some Away) h = absurd h
+
+-- what is own is not away
+pub own_away : {cs : List Cell} → Some (Own cs) ≢ Some Away
+own_away e = cc e
+
+-- where nothing is away, nothing is once there are new pieces
+pub pieces_not_away : (m : Map) (n v : ℕ) (cs : List ℕ) → ((q : Spot) → map.get m q ≢ Some Away) → (q : Spot)
+    → map.get (with_pieces m n v cs) q ≢ Some Away
+pieces_not_away m n v [] g q = g q
+pieces_not_away m n v (c ∷ cs) g q = pieces_not_away
+    (map.insert m (record { frame = n; variable = v }) (Own (replicate c cell.Undefined))) n (v + 1) cs one q
+  where
+    one : (q : Spot) → map.get (map.insert m (record { frame = n; variable = v })
+        (Own (replicate c cell.Undefined))) q ≢ Some Away
+    one q e = ⊎_elim
+        (λ (i : q ≡ record { frame = n; variable = v }). own_away
+        (sym (get_here m (record { frame = n; variable = v }) (Own (replicate c cell.Undefined)))
+        ∙ ap (λ y. map.get (map.insert m (record { frame = n; variable = v }) (Own (replicate c cell.Undefined))) y)
+        (sym i) ∙ e))
+        (λ (o : q ≢ record { frame = n; variable = v }). g q
+        (sym (get_other m (record { frame = n; variable = v }) (Own (replicate c cell.Undefined)) q o) ∙ e))
+        (same_or q (record { frame = n; variable = v }))
+
+-- what is held is not away
+pub held_not_away : (o : Option Content) → IsHeld o → o ≢ Some Away
+held_not_away o i e = subst IsHeld e i

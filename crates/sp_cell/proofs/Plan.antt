@@ -14,6 +14,7 @@ use Rattle.sp_cell.specs.Fork.{children_of}
 use Rattle.sp_cell.specs.Fork.{prepared_map, prepared, moved_of, shared_of, HasIndex}
 use Rattle.sp_cell.specs.Spots.{In, NotIn, IsDistinct, AllPieces, DistinctByIndex}
 use Rattle.sp_cell.proofs.Laws.{get_other, get_here, known_insert, known_of_piece, same_or, same_map}
+use Rattle.sp_cell.proofs.HeldLaws.{not_in_front}
 
 -- ---- membership by recursion
 
@@ -39,10 +40,6 @@ by_index (s ∷ ss) h (suc i) (suc j) d l b e = by_index ss h.1 i j d (omega ari
 pub distinct_front : (xs ys : List Spot) → IsDistinct (xs ++ ys) → IsDistinct xs
 distinct_front [] ys h = tt
 distinct_front (x ∷ xs) ys h = (not_in_front x xs ys h.0, distinct_front xs ys h.1)
-  where
-    not_in_front : (q : Spot) (xs ys : List Spot) → NotIn q (xs ++ ys) → NotIn q xs
-    not_in_front q [] ys n = tt
-    not_in_front q (x ∷ xs) ys n = (n.0, not_in_front q xs ys n.1)
 
 pub distinct_back : (xs ys : List Spot) → IsDistinct (xs ++ ys) → IsDistinct ys
 distinct_back [] ys h = h

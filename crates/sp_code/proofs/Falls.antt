@@ -28,7 +28,7 @@ use Rattle.sp_code.specs.Turns.{ran_by, ran, started, turn_within, begins}
 use Rattle.sp_code.specs.Ranks.{ways, larger, most, rank, AllBelow, IsRanked, RanksFall, IsRankedAlong}
 use Rattle.sp_code.specs.Budgets.{HasBudget, back, left_by, IsOver}
 
-larger_max : (a b n : ℕ) → a ≤ n → b ≤ n → larger a b ≤ n
+pub larger_max : (a b n : ℕ) → a ≤ n → b ≤ n → larger a b ≤ n
 larger_max a b n h k = go (nat_lt a b)
   where
     go : (t : Bool) → (if t then b else a) ≤ n

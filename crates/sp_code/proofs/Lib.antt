@@ -1,3 +1,4 @@
+pub mod Members
 pub mod Numbered
 pub mod Small
 mod Rows

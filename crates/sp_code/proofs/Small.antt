@@ -5,8 +5,8 @@ use Rattle.sp_base.specs.declared.fault.Fault.{Fault}
 use Rattle.sp_base.specs.declared.limits.Limits.{Limits}
 use Rattle.sp_cell.specs.declared.cell.Cell.TheVariants as cell
 use Rattle.sp_cell.specs.declared.spot.Spot.{Spot}
-use Rattle.sp_cell.specs.Map.{Content, Own, Shared, Output, Away}
-use Rattle.sp_cell.specs.Frame.{above, newest}
+use Rattle.sp_cell.specs.Map.{Content, Own, Shared, Output, Away, output_spot}
+use Rattle.sp_cell.specs.Frame.{above, newest, frames}
 use Rattle.sp_cell.specs.Fork.{index_frame, moved_of, shared_of}
 use Rattle.sp_code.specs.declared.instr.Instr.{Instr}
 use Rattle.sp_code.specs.declared.code.Layout.{Layout}
@@ -40,9 +40,6 @@ output_by (Some (Shared cs)) = None
 output_by (Some (Output bs)) = Some bs
 output_by (Some Away) = None
 
-abbrev pub output_spot : Spot
-output_spot = record { frame = 0; variable = 1 }
-
 abbrev pub shared_by : Option Content → Option Content
 shared_by None = None
 shared_by (Some (Own cs)) = Some (Shared cs)
@@ -53,10 +50,6 @@ shared_by (Some Away) = None
 abbrev pub each : (Spot → Option Content) → List Spot → (Spot → Option Content) → Spot → Option Content
 each new [] at = at
 each new (s ∷ ss) at = each new ss (with_content s (new s) at)
-
-abbrev pub frames_of : List Spot → List ℕ
-frames_of [] = []
-frames_of (s ∷ ss) = s.frame ∷ frames_of ss
 
 abbrev pub with_index : ℕ → Option (ℕ × ℤ) → (Spot → Option Content) → Spot → Option Content
 with_index n None at = at
@@ -96,7 +89,7 @@ small = record {
   child = λ s h. record {
     at = each s.at h.moved
         (with_index (index_frame h) h.index (each (λ p. shared_by (s.at p)) h.shared (λ p. None)));
-    known = index_frame h ∷ frames_of h.moved ++ frames_of h.shared;
+    known = index_frame h ∷ frames h.moved ++ frames h.shared;
     own = [];
     moved = h.moved;
   };

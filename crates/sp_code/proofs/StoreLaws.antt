@@ -10,16 +10,17 @@ use Rattle.sp_base.specs.Order.{tie_of}
 use Rattle.sp_cell.specs.declared.spot.Spot.{Spot}
 use Rattle.sp_cell.specs.declared.spot.Address.{Address}
 use Rattle.sp_cell.specs.Map.{Content, Own, Shared, Output, Away, Map, Plain, IsPiece, IsOutput, HasCells, cells_of}
-use Rattle.sp_cell.specs.Map.{output_of, output_spot, spot_cmp}
+use Rattle.sp_cell.specs.Map.{output_of, output_spot, spot_cmp, IsHeld}
 use Rattle.sp_cell.specs.Frame.{newest, NoneAway}
 use Rattle.sp_cell.proofs.FrameLaws.{is_same}
 use Rattle.sp_cell.proofs.Laws.{known_of_away}
 use Rattle.sp_cell.proofs.Order.{spot_same}
+use Rattle.sp_cell.specs.declared.cell.Cell.{Cell}
 use Rattle.sp_code.specs.Memory.{has_cells, cells_in, is_held, is_there}
 use Rattle.sp_code.specs.PlainStore.{piece_of, is_away, none_away, is_newest, plain}
 
 -- cells that the test finds are there
-piece_holds : (o : Option Content) (offset k : ℕ) → has_cells (piece_of o) offset k ≡ true → IsPiece o
+pub piece_holds : (o : Option Content) (offset k : ℕ) → has_cells (piece_of o) offset k ≡ true → IsPiece o
     × (offset + k ≤ length (cells_of o))
 piece_holds None offset k e = absurd cc
 piece_holds (Some (Own cs)) offset k e = (tt, leb-true (offset + k) (length cs) e)
@@ -83,3 +84,26 @@ may_go p n e =
     let w = and_parts (is_newest p.own n) (none_away p.map n) e in
     let k = and_parts (is_there p.own) (newest p.own == n) w.0 in
     (no_frame p.own k.0, eqb-true (newest p.own) n k.1, none_is_away p.map n w.1)
+
+-- the cells of a piece
+pub piece_cells : (o : Option Content) (cs : List Cell) → piece_of o ≡ Some cs → cells_of o ≡ cs
+piece_cells None cs e = absurd (cc e)
+piece_cells (Some (Own ds)) cs e = cc e
+piece_cells (Some (Shared ds)) cs e = cc e
+piece_cells (Some (Output bs)) cs e = absurd (cc e)
+piece_cells (Some Away) cs e = absurd (cc e)
+
+-- what has cells is a piece, and is held
+pub piece_of_cells : (o : Option Content) (cs : List Cell) → piece_of o ≡ Some cs → IsPiece o
+piece_of_cells None cs e = absurd (cc e)
+piece_of_cells (Some (Own ds)) cs e = tt
+piece_of_cells (Some (Shared ds)) cs e = tt
+piece_of_cells (Some (Output bs)) cs e = absurd (cc e)
+piece_of_cells (Some Away) cs e = absurd (cc e)
+
+pub held_of_cells : (o : Option Content) (cs : List Cell) → piece_of o ≡ Some cs → IsHeld o
+held_of_cells None cs e = absurd (cc e)
+held_of_cells (Some (Own ds)) cs e = tt
+held_of_cells (Some (Shared ds)) cs e = tt
+held_of_cells (Some (Output bs)) cs e = absurd (cc e)
+held_of_cells (Some Away) cs e = absurd (cc e)

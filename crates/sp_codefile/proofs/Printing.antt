@@ -1,14 +1,11 @@
 -- Laws of the text of code as it is written, item by item.
 use Rattle.std.proofs.Common.{◌≡◌, ℕ, suc, ◌+◌, ◌-◌, ◌<◌, List, [], ◌∷◌, ◌++◌, length, take, get_or, refl, sym, ap, ◌∙◌}
-use Rattle.std.proofs.Common.{arith, append_assoc, append-nil, length-append, codes, decimal, All, subst, Result, Ok}
-use Rattle.std.proofs.Common.{Err}
-use Rattle.std.specs.Result.{OnOk}
+use Rattle.std.proofs.Common.{arith, append_assoc, append-nil, length-append, codes, decimal, All, subst}
 use Rattle.sp_code.specs.declared.instr.Instr.{Instr}
 use Rattle.std.proofs.lemmas.List.Elements.{All-more}
 use Rattle.std.specs.List.{flat_map}
 use Rattle.std.proofs.Math.Seq.{take-suc, take-append_seam}
 use Rattle.std.proofs.lemmas.Grind.{flat_map-append}
-use Rattle.sp_base.proofs.Facts.{on_ok}
 use Rattle.sp_code.specs.declared.code.ChildTable.{ChildTable}
 use Rattle.sp_code.specs.Listing.{number_text, child_line, instr_line, instr_text}
 use Rattle.sp_codefile.specs.CodeText.{body, line, index_text, child_text}

@@ -1,18 +1,18 @@
 -- Laws of cutting a line into words.
-use Rattle.std.proofs.Common.{◌≡◌, ◌≢◌, ℕ, suc, ◌+◌, ◌%◌, ◌^◌, ◌<◌, ◌≤◌, ◌==◌, ◌&&◌, nat_le, Bool, true, false, cond, ℤ}
+use Rattle.std.proofs.Common.{◌≡◌, ◌≢◌, ℕ, suc, ◌+◌, ◌^◌, ◌<◌, ◌≤◌, ◌==◌, ◌&&◌, nat_le, Bool, true, false, cond, ℤ}
 use Rattle.std.proofs.Common.{pos, negsuc, List, [], ◌∷◌, ◌++◌, length, refl, sym, ap, ◌∙◌, subst, arith, decimal}
 use Rattle.std.proofs.Common.{codes, All}
 use Rattle.std.specs.Fmt.{signed_decimal}
 use Rattle.std.specs.Int.Signed.{mag}
 use Rattle.std.specs.List.{flat_map}
 use Rattle.std.proofs.lemmas.Bool.Decides.{nat_tests}
-use Rattle.std.proofs.lemmas.Fmt.{decimal_by_steps, decimal_nonempty}
+use Rattle.std.proofs.lemmas.Fmt.{decimal_nonempty}
 use Rattle.std.proofs.lemmas.List.Elements.{All-head, All-tail}
 use Rattle.std.proofs.lemmas.Bool.{eqb-true, ne_eqb, true≢false}
 use Rattle.std.proofs.lemmas.List.{nil_from_length}
 use Rattle.sp_base.proofs.Facts.{and_with_false}
 use Rattle.sp_journal.proofs.Facts.{here}
-use Rattle.sp_journal.proofs.SplitLaws.{Within, within_append, within_wider}
+use Rattle.sp_journal.proofs.SplitLaws.{Within}
 use Rattle.sp_journal.proofs.TextLaws.{digits_within}
 use Rattle.sp_code.specs.Listing.{number_text}
 use Rattle.sp_codefile.specs.CodeText.{IsNumber, IsInteger}

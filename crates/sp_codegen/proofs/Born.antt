@@ -33,6 +33,7 @@ use Rattle.sp_code.specs.Emitted.{children_tables}
 use Rattle.sp_code.specs.Stands.{Stands, HasFork, HasWords, StandsAt, ChildrenAt}
 use Rattle.sp_codegen.specs.Joints.{Joint, sources, machines, from, up_at, HomeIs, Chain}
 use Rattle.sp_tree.specs.Formed.{IsFormed, IsFormedUse, is_parameter, is_answer, among}
+use Rattle.sp_tree.proofs.Members.{member_either}
 use Rattle.sp_codegen.specs.Executions.{Execution}
 use Rattle.sp_codegen.proofs.Joints.{from_short}
 pub use Rattle.sp_codegen.specs.Lives.{Seen}
@@ -42,7 +43,7 @@ use Rattle.sp_codegen.specs.Standing.{spot_at, HomesAre, Paired}
 use Rattle.sp_codegen.proofs.Joints.{paired_from, last_machines, sources_length}
 use Rattle.sp_codegen.proofs.Numbers.{AreKnown, are_known, frame_is}
 use Rattle.sp_codegen.proofs.Closing.{Laid}
-use Rattle.sp_codegen.proofs.Handing.{in_either, spot_no_frame, from_all}
+use Rattle.sp_codegen.proofs.Handing.{spot_no_frame, from_all}
 use Rattle.sp_codegen.proofs.Follows.{slides, Follows, push_follows}
 
 -- ---- the code of each child
@@ -198,9 +199,9 @@ module _ (p : Program) (formed : IsFormed p) (ls : List Layout) (laid : Laid p l
       (subst (λ z. IsMember x z) (formed.formals f b e) c))
       (λ (c : IsMember x (as_list b.answer)). not_among is_answer refl vs (are_known p formed f)
       (subst (λ z. IsMember x z) (formed.answers f b e) c))
-      (in_either x b.formals (as_list b.answer) a))
+      (member_either x b.formals (as_list b.answer) a))
       (λ (a : IsMember x (among is_local vs)). not_among is_local refl vs (are_known p formed f) a)
-      (in_either x (b.formals ++ as_list b.answer) (among is_local vs)
+      (member_either x (b.formals ++ as_list b.answer) (among is_local vs)
       (subst (λ z. IsMember x z) (frame_is p formed f b e) h))
     where
       vs : List (ℕ × Variable)

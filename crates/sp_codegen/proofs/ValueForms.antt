@@ -1,5 +1,5 @@
 -- The forms of what is proved of values and places, and what is known of the parts of a computation.
-use Rattle.std.proofs.Common.{◌≡◌, ℕ, ℤ, List, [], ◌∷◌, Option, Some, None, Bool, true, false, drop, length, refl, sym}
+use Rattle.std.proofs.Common.{◌≡◌, ℕ, ℤ, List, [], ◌∷◌, Option, Some, Bool, true, false, drop, length, refl, sym}
 use Rattle.std.proofs.Common.{ap, ◌∙◌, subst}
 use Rattle.std.specs.Prelude.{slice_get}
 use Rattle.sp_tree.specs.declared.checked.KindOf.{KindOf}
@@ -7,6 +7,7 @@ use Rattle.sp_tree.specs.declared.checked.KindOf.TheVariants as kind
 use Rattle.sp_tree.specs.declared.checked.Role.TheVariants as role
 use Rattle.sp_tree.specs.Plain.{Number, Var, Entire, Index, Selectors, Program, Variable}
 use Rattle.sp_tree.specs.Uses.{Use, Target, Seen}
+use Rattle.sp_tree.specs.Cells.{first_or}
 use Rattle.sp_cell.specs.declared.spot.Address.{Address as Ptr}
 use Rattle.sp_meaning.specs.Model.{Channel}
 use Rattle.sp_meaning.specs.Values.{Value, Ordinal, Chan, get_at}
@@ -55,12 +56,8 @@ abbrev pub IsTrue : Bool → Type 0
 IsTrue true = ⊥
 IsTrue false = Unit {0}
 
-abbrev or_zero : {A : Type 0} → A → Option A → A
-or_zero d None = d
-or_zero d (Some x) = x
-
 pub same_some : {A : Type 0} {o : Option A} (a b : A) → o ≡ Some a → o ≡ Some b → a ≡ b
-same_some a b h k = ap (or_zero a) (sym h ∙ k)
+same_some a b h k = ap (first_or a) (sym h ∙ k)
 
 -- a part of what stands here
 pub within : {g : Setting} {W R : Loc → Type 0} {J : ℕ → Type 0} {sc : List Scope} {js : List Joint}

@@ -9,10 +9,11 @@ use Rattle.std.proofs.lemmas.Bool.{not_from_false, or_left, or_right}
 use Rattle.std.proofs.lemmas.Option.{none-some, same_Some}
 use Rattle.sp_base.proofs.Facts.{less_same_or_more, not_true_and_false}
 use Rattle.sp_tree.specs.Interference.{IsMember, AllDifferent}
+use Rattle.sp_tree.proofs.Members.{member_front, member_back, member_either}
 use Rattle.sp_code.specs.declared.code.ChildTable.{ChildTable}
 use Rattle.sp_rules.specs.Effects.{IsAside, Loaded, handed_to}
 use Rattle.sp_rules.specs.Forks.{IsIllHanded}
-use Rattle.sp_rules.proofs.Lists.{member_front, member_back, member_either, different_front, different_back}
+use Rattle.sp_rules.proofs.Lists.{different_front, different_back}
 use Rattle.sp_rules.proofs.Lists.{different_apart}
 use Rattle.sp_effects.specs.declared.handed.Before.{Before}
 use Rattle.sp_effects.specs.Sets.{has, with_all, with_index, all_new, meets, goes_beyond}

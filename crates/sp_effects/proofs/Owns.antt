@@ -1,7 +1,7 @@
 -- What instructions do themselves is told as facts: what each adds to those before it.
 use Rattle.std.proofs.Common.{◌≡◌, ◌⊎◌, inl, inr, ⊎_elim, refl, ap, sym, ◌∙◌, subst, ℕ, zero, suc, ◌+◌, ◌<◌, List, []}
 use Rattle.std.proofs.Common.{◌∷◌, length, take, Option, Some, None, Bool, true, false, get_or, arith, add-one}
-use Rattle.std.specs.Prelude.{slice_get, Result, Ok, Err, OnOk}
+use Rattle.std.specs.Prelude.{slice_get}
 use Rattle.sp_code.specs.declared.instr.Instr.{Instr}
 use Rattle.sp_code.specs.declared.code.Parts.{Parts}
 use Rattle.sp_rules.specs.Areas.{Area, instr_at, entry}
@@ -20,7 +20,7 @@ use Rattle.sp_shapes.specs.Reached.{reached_at}
 use Rattle.sp_shapes.specs.Stacks.{list_of}
 use Rattle.sp_shapes.proofs.Reaching.{reached_there, stands}
 use Rattle.std.proofs.lemmas.Option.{none-some, same_Some}
-use Rattle.sp_base.proofs.Facts.{below_or_last, on_map}
+use Rattle.sp_base.proofs.Facts.{below_or_last}
 use Rattle.sp_effects.specs.declared.facts.Fact.{Fact}
 use Rattle.sp_effects.specs.declared.facts.Deed.{Deed}
 use Rattle.sp_effects.specs.declared.facts.Deed.TheVariants as deed

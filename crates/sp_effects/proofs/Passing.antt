@@ -7,6 +7,7 @@ use Rattle.std.proofs.lemmas.Bool.{and_from, and_parts, false_from_ne_true, not-
 use Rattle.std.proofs.lemmas.Bool.{or_right}
 use Rattle.sp_base.proofs.Facts.{less_same_or_more, not_true_and_false}
 use Rattle.sp_tree.specs.Interference.{IsMember, AllDifferent}
+use Rattle.sp_tree.proofs.Members.{member_front, member_back, member_either}
 use Rattle.sp_code.specs.declared.code.Formal.{Formal}
 use Rattle.sp_code.specs.declared.code.Formal.TheVariants as formal
 use Rattle.sp_code.specs.declared.code.Layout.{Layout}
@@ -19,7 +20,7 @@ use Rattle.sp_rules.specs.Named.{BreaksV1}
 use Rattle.sp_rules.specs.Reach.{IsArea}
 use Rattle.sp_rules.specs.Shapes.{Shape, O, C, L, A}
 use Rattle.sp_rules.specs.Verdict.{HasStop}
-use Rattle.sp_rules.proofs.Lists.{member_or, member_front, member_back, member_either, different_front, different_apart}
+use Rattle.sp_rules.proofs.Lists.{member_or, different_front, different_apart}
 use Rattle.sp_areas.specs.Blocks.{number_from}
 use Rattle.sp_areas.proofs.BlockLaws.{place_none, place_some}
 use Rattle.sp_shapes.specs.declared.shapes.Shapes.{Shapes}

@@ -46,6 +46,7 @@ use Rattle.sp_types.specs.Tables.{env_of}
 use Rattle.sp_types.specs.TypeWalk.{starts_of, blocks_after}
 use Rattle.sp_types.specs.CheckedTree.{program_checked, checked_variables}
 use Rattle.sp_tree.specs.Bare.{bare}
+use Rattle.sp_tree.proofs.Certified.{answer_is}
 use Rattle.sp_facts.proofs.Headings.{own, in_blocks, among_own, own_join, own_none, own_all, blocks_below, formals_of_}
 use Rattle.sp_facts.proofs.Headings.{formals_fit, answer_of_, answer_fit, indices_fit, same_formals, parts_own}
 use Rattle.sp_facts.proofs.Blocks.{parts_below, parts_scoped, IsOpen}
@@ -276,16 +277,7 @@ module _ (s : syntax.Program) (calm : names_broken s ≡ []) where
       ∙ ap as_list ans in
       let r = own_member is_answer f 0 x named.variables [] e in
       let v = held_at 0 named.variables r.0 r.1 held r.3 in
-      (v.0, subst (λ z. slice_get tree.variables z ≡ Some v.0) (sym r.2) v.1, v.2 ∙ answer_role r.1.role r.4, v.3 ∙ r.5)
-    where
-      answer_role : (r : Role) → is_answer r ≡ true → r ≡ role.Answer
-      answer_role role.Console e = absurd (cc e)
-      answer_role role.Local e = absurd (cc e)
-      answer_role role.Value e = absurd (cc e)
-      answer_role role.Reference e = absurd (cc e)
-      answer_role role.Index e = absurd (cc e)
-      answer_role role.Answer e = refl
-
+      (v.0, subst (λ z. slice_get tree.variables z ≡ Some v.0) (sym r.2) v.1, v.2 ∙ answer_is r.1.role r.4, v.3 ∙ r.5)
   -- ---- the input and the output
 
   pub input : (v : plain.Variable) × (slice_get tree.variables 0 ≡ Some v) × (v.role ≡ role.Console)

@@ -17,6 +17,7 @@ use Rattle.sp_tree.specs.Scans as s
 use Rattle.sp_tree.specs.Scans.{Scans, BreaksHere, BreaksAlong, BreaksLexis, IsTokens, offset}
 use Rattle.sp_grammar.proofs.Rising.{lexeme_length, comment_length}
 use Rattle.sp_grammar.proofs.OneList.{one_comment, one_kind, same_rest, blank_opens, opens, differ, not_blank}
+use Rattle.sp_grammar.proofs.Scanned.{scans_chain}
 use Rattle.sp_scan.specs.Finds as f
 use Rattle.sp_scan.specs.Finds.{IsGap, blank_gap, comment_gap}
 use Rattle.sp_format.specs.declared.context.Context.{Context}
@@ -97,13 +98,6 @@ items_of e (s.comment {bs = bs} {u = u} c x) = let y = items_of e x in (item_fro
 items_of e (s.token {bs = bs} {u = u} k o l x) = let y = items_of e x in
     (item_from (Some k) bs u ∷ y.0, token k o l y.1)
 
-chain : {text bs m r : List ℕ} {ts us : List Token} → Scans text bs m ts → Scans text m r us
-    → Scans text bs r (ts ++ us)
-chain s.nothing y = y
-chain (s.blank b h x) y = s.blank b h (chain x y)
-chain (s.comment c x) y = s.comment c (chain x y)
-chain (s.token k o l x) y = s.token k o l (chain x y)
-
 -- ---- the layout so far
 
 -- Behind some items of the text, which are laid out, come these bytes.
@@ -177,7 +171,7 @@ pub lay_blank : {text rest out : List ℕ} {context : Context} (others : List �
     → is_blank b ≡ true → LaidSoFar text rest out context → LaidSoFar text others out context
 lay_blank {text} {rest} others b e h x = record {
   tokens = x.tokens ++ [];
-  along = chain x.along (subst (λ l. Scans text l others []) (back_of e) (s.blank b h s.nothing));
+  along = scans_chain x.along (subst (λ l. Scans text l others []) (back_of e) (s.blank b h s.nothing));
   all = x.all;
   has_all = x.has_all;
   before = x.before;
@@ -247,7 +241,7 @@ module _ {text rest out others : List ℕ} {context : Context} (after : List ℕ
       w x.before (spelled k (front rest after)) x.context_is in
       record {
         tokens = x.tokens ++ here.tokens;
-        along = chain x.along here.along;
+        along = scans_chain x.along here.along;
         all = x.all;
         has_all = x.has_all;
         before = item_from k rest after ∷ x.before;

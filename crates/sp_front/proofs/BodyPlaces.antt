@@ -15,10 +15,11 @@ use Rattle.sp_tree.specs.Grammar as g
 use Rattle.sp_tree.specs.Grammar.{declared}
 use Rattle.sp_tree.specs.Breaches.{IsTree}
 use Rattle.sp_tree.specs.Viable.{Any}
+use Rattle.sp_tree.proofs.Earlier.{Earlier, not_earlier}
 use Rattle.sp_grammar.specs.Symbols as sym
 use Rattle.sp_grammar.specs.Symbols.{Symbol, Value, Values}
 use Rattle.sp_grammar.specs.Derives.{Derives, takes, skips, DerivesAll, none, and}
-use Rattle.sp_grammar.proofs.Order.{Earlier, rises}
+use Rattle.sp_grammar.proofs.Order.{rises}
 use Rattle.sp_grammar.proofs.Rising.{Rising, rising}
 use Rattle.sp_grammar.proofs.To as to
 use Rattle.sp_types.specs.StatementNumbers.{DiffersFrom, AllDiffer}
@@ -299,10 +300,6 @@ module _ (text : List ℕ) (Ok : ℕ → List Token → Type 0) where
         behind_plain k h (more_variables_bodies x (tail_rises k.tail h))
 
   -- ---- places of different tokens differ
-
-  not_earlier : (p : Place) → Earlier p p → ⊥
-  not_earlier p (inl h) = absurd (omega arith)
-  not_earlier p (inr h) = let k = h.1 in absurd (omega arith)
 
   places_differ : (i j : ℕ) → i ≢ j → i < length text → j < length text → place_at text i ≢ place_at text j
   places_differ i j n h k e = go (less_same_or_more i j)

@@ -1,8 +1,7 @@
 -- What is looked up in the generator's tables.
 use Rattle.std.proofs.Common.{◌≡◌, ℕ, zero, suc, ◌+◌, List, [], ◌∷◌, Option, Some, None, slice_get, map, refl, sym, ap}
 use Rattle.std.proofs.Common.{◌∙◌, arith}
-use Rattle.std.specs.Prelude.{option_map, sum, take}
-use Rattle.std.proofs.lemmas.List.Sums.{sum-map, sum_by-cons}
+use Rattle.std.specs.Prelude.{option_map, take}
 use Rattle.std.proofs.lemmas.Option.{slice_get-map, same_Some}
 use Rattle.sp_base.proofs.Facts.{sum_on}
 use Rattle.sp_tree.specs.declared.checked.KindOf.TheVariants as kind

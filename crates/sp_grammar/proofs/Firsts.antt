@@ -13,13 +13,14 @@ use Rattle.sp_tree.specs.Grammar.{IsProgram}
 use Rattle.sp_tree.specs.Viable.{Any, Shallow, Spells, IsViable, IsShallow, IsFirstBad}
 use Rattle.sp_tree.specs.First.{before, IsFirst}
 use Rattle.sp_tree.specs.Breaches.{nesting, BreaksGrammar}
+use Rattle.sp_tree.proofs.Earlier.{Earlier}
 use Rattle.sp_grammar.specs.Symbols.{Symbol, AProgram}
 use Rattle.sp_grammar.specs.Machine.{Why, Bad, Deep, No, after, Stuck, run}
 use Rattle.sp_grammar.specs.Stops.{refusal_of, Stops}
 use Rattle.sp_grammar.proofs.Wider.{viable_prefix, shallow_prefix, shallow_viable, wider_program}
 use Rattle.sp_grammar.proofs.Viable.{Passes, Splits, splits, is_shallow, bad, deep_viable, deep_not_shallow, no_program}
 use Rattle.sp_grammar.proofs.Viable.{append_nil}
-use Rattle.sp_grammar.proofs.Order.{Earlier, later, no_sooner, rises}
+use Rattle.sp_grammar.proofs.Order.{later, no_sooner, rises}
 use Rattle.sp_grammar.proofs.Rising.{Rising, rising}
 
 -- a token of two lists: in the first, or in the second

@@ -3,6 +3,7 @@ pub mod Run
 pub mod From
 pub mod Behind
 pub mod Looks
+pub mod Scanned
 pub mod To
 pub mod Completes
 pub mod Wider

@@ -13,9 +13,10 @@ use Rattle.sp_base.specs.declared.halt.Refusal.{Refusal}
 use Rattle.sp_base.specs.declared.rule.Rule.{Rule}
 use Rattle.sp_base.specs.declared.rule.Rule.TheVariants as rule
 use Rattle.sp_base.proofs.Facts.{one_value}
-use Rattle.sp_base.specs.Order.{both_tie, IsTie}
+use Rattle.sp_base.specs.Order.{both_tie}
 use Rattle.sp_tree.specs.First.{row, refusal_cmp, before, IsFirst}
 use Rattle.sp_tree.specs.Places.{next_place, place_behind}
+use Rattle.sp_tree.proofs.Earlier.{Earlier, earlier_then}
 
 pub refusal_total : IsTotalOrder refusal_cmp
 refusal_total = then_total (on_total (λ r. r.at.line) nat_cmp_total)
@@ -103,10 +104,6 @@ one_first Breaks a b x y =
     same_refusal a b (neither (refusal_cmp a b) (y.first a x.breaks)
     (ap is_lt (back_of (refusal_total.antisymm b a)) ∙ x.first b y.breaks))
 
--- one place stands before another
-abbrev pub Earlier : Place → Place → Type 0
-Earlier p q = (p.line < q.line) ⊎ ((p.line ≡ q.line) × (p.column < q.column))
-
 -- what stands later is not before
 pub later : (a b : Refusal) → Earlier b.at a.at → before a b ≡ false
 later a b (inl h) = ap (λ o. is_lt (ordering_then o
@@ -134,12 +131,6 @@ no_sooner a b e h =
     (back_of (nat_cmp_is a.at.column b.at.column Equal (ap (λ p. p.column) e)))
     ∙ rows_not (row a.rule) (row b.rule) h
 
-chain : (p q r : Place) → Earlier p q → Earlier q r → Earlier p r
-chain p q r (inl x) (inl y) = inl (omega arith)
-chain p q r (inl x) (inr (e, y)) = inl (omega arith)
-chain p q r (inr (e, x)) (inl y) = inl (omega arith)
-chain p q r (inr (e, x)) (inr (f, y)) = inr (omega arith, omega arith)
-
 step_by : (p : Place) (c : Bool) → (p.line < cond c (p.line + 1) p.line)
     ⊎ ((p.line ≡ cond c (p.line + 1) p.line) × (p.column < cond c 1 (p.column + 1)))
 step_by p true = inl (omega arith)
@@ -151,7 +142,7 @@ step p b = step_by p (b == 10)
 -- each byte leads to a later place
 grows : (p : Place) (b : ℕ) (bs : List ℕ) → Earlier p (place_behind p (b ∷ bs))
 grows p b [] = step p b
-grows p b (c ∷ bs) = chain p (next_place p b) (place_behind p (b ∷ c ∷ bs)) (step p b) (grows (next_place p b) c bs)
+grows p b (c ∷ bs) = earlier_then p (next_place p b) (place_behind p (b ∷ c ∷ bs)) (step p b) (grows (next_place p b) c bs)
 
 pub rises : (text : List ℕ) (p : Place) (i j : ℕ) → i < j → j ≤ length text
     → Earlier (place_behind p (take i text)) (place_behind p (take j text))

@@ -10,7 +10,7 @@ use Rattle.sp_tree.specs.Lexemes.{BraceBody, brace_ends, brace_byte, StarBody, s
 use Rattle.sp_tree.specs.Lexemes.{brace_comment, star_comment, Lexeme, name, word, number, text, sign}
 use Rattle.sp_tree.specs.Scans.{offset, Scans, nothing, blank, comment, token}
 
-run_length : {p : ℕ → Bool} {bs r : List ℕ} → Run p bs r → length r ≤ length bs
+pub run_length : {p : ℕ → Bool} {bs r : List ℕ} → Run p bs r → length r ≤ length bs
 run_length run_ends = omega arith
 run_length (run_goes_on b h x) = omega (arith, run_length x)
 

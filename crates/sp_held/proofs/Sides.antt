@@ -9,6 +9,7 @@ use Rattle.sp_cell.specs.Held.{View, Agree, IsNamed, AgreeOnAll, IsPartition}
 use Rattle.sp_cell.specs.Map.{Plain}
 use Rattle.sp_journal.specs.Queue.{numbers}
 use Rattle.sp_journal.specs.declared.entry.Birth.{Birth}
+use Rattle.sp_cell.proofs.HeldLaws.{same_spot}
 use Rattle.sp_code.specs.Machine.{Config, At}
 use Rattle.sp_code.specs.Memory.{Memory}
 use Rattle.sp_code.specs.Sound.{view_at, views_at, views_of}
@@ -34,9 +35,6 @@ views_are (Joins left c) = refl
 views_are (Laid c) = refl
 views_are Gone = refl
 views_are (Over c) = refl
-
-same_spot : (x y : Spot) → x.frame ≡ y.frame → x.variable ≡ y.variable → x ≡ y
-same_spot x y e v = λ i. record { frame = e i; variable = v i }
 
 module _ (f : ℕ → Condition Plain) (birth : ℕ → Option Birth) (p : AreApart f birth) (older : AreOlder f birth) where
   named : (r : ℕ) (c : Config (Memory Plain)) → config_in (f r) ≡ Some c → IsNamed (viewed c)

@@ -6,11 +6,12 @@ use mathlib.Core.Bool.{false≢true}
 use Rattle.std.specs.FinMap as map
 use Rattle.std.proofs.lemmas.Bool.{cases_eq}
 use Rattle.sp_tree.specs.Interference.{IsMember}
+use Rattle.sp_tree.proofs.Members.{member_back}
 use Rattle.sp_cell.specs.declared.cell.Cell.{Cell}
 use Rattle.sp_cell.specs.declared.spot.Spot.{Spot}
 use Rattle.sp_cell.specs.declared.spot.Address.{Address}
 use Rattle.sp_cell.specs.Frame.{next_frame, newest, popped, without}
-use Rattle.sp_cell.proofs.FrameLaws.{is_same, is_other, known_below, without_here, without_other}
+use Rattle.sp_cell.proofs.FrameLaws.{is_same, is_other, known_below, without_here, without_other, newest_last}
 use Rattle.sp_cell.proofs.Laws.{get_here, get_other, same_or, known_of_held}
 use Rattle.sp_cell.specs.Map.{Content, Own, Plain, IsHeld, output_spot, IsOwn}
 use Rattle.sp_cell.specs.Spots.{In}
@@ -35,8 +36,6 @@ use Rattle.sp_rules.specs.Running.{Base, Lives}
 use Rattle.sp_rules.specs.Standing.{StandsAt}
 use Rattle.sp_rules.specs.Touched.{stored_by}
 use Rattle.sp_rules.specs.Writable.{IsWritable, MayWrite}
-use Rattle.sp_rules.proofs.Holdings.{newest_last}
-use Rattle.sp_rules.proofs.Lists.{member_back}
 use Rattle.sp_rules.proofs.Pieces.{filled_keeps}
 use Rattle.sp_rules.proofs.Writing.{newest_writes, stores}
 use Rattle.sp_held.specs.OwnChange.{AgreesOn, OwnChange}

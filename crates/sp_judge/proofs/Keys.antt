@@ -1,8 +1,8 @@
 -- The tests of names and channels, as equalities.
-use Rattle.std.proofs.Common.{◌≡◌, true, ◌&&◌, ◌==◌, [], ◌∷◌, refl, eqb-true, eq-eqb}
+use Rattle.std.proofs.Common.{◌≡◌, true, ◌==◌, [], refl, eqb-true, eq-eqb}
 use Rattle.std.proofs.lemmas.Bool.{and_from}
-use Rattle.sp_base.proofs.Facts.{false_is_not_true, first_true, second_true}
-use Rattle.sp_journal.specs.Names.{Name, Channel, same_name, same_channel}
+use Rattle.sp_base.proofs.Facts.{first_true, second_true}
+use Rattle.sp_journal.specs.Names.{Channel, same_name, same_channel}
 use Rattle.sp_journal.proofs.NameLaws.{name_itself, name_is}
 
 pub channel_is : (c d : Channel) → same_channel c d ≡ true → c ≡ d

@@ -1,5 +1,5 @@
 -- An event that is a fault: its process is laid down with that fault, and this leads to `Gave`.
-use Rattle.std.proofs.Common.{◌≡◌, ℕ, ◌+◌, ◌<◌, ◌≤◌, nat_lt, true, false, Some, Result, Ok, Err, OnOk, sym, ap, subst}
+use Rattle.std.proofs.Common.{◌≡◌, ℕ, ◌+◌, ◌<◌, ◌≤◌, nat_lt, true, false, Some, Result, OnOk, sym, ap, subst}
 use Rattle.std.proofs.Common.{refl, ◌∙◌, arith}
 use Rattle.sp_base.specs.declared.fault.Fault.{Fault}
 use Rattle.sp_base.proofs.Facts.{on_map}

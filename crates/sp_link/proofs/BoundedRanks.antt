@@ -5,13 +5,7 @@ use Rattle.std.specs.Prelude.{slice_get, nat_lt}
 use Rattle.std.proofs.lemmas.Bool.{cases_lt}
 use Rattle.sp_code.specs.declared.instr.Instr.{Instr}
 use Rattle.sp_code.specs.Ranks.{ways, larger, most, rank, AllBelow, IsRanked}
-
-larger_max : (a b n : ℕ) → a ≤ n → b ≤ n → larger a b ≤ n
-larger_max a b n h k = go (nat_lt a b)
-  where
-    go : (t : Bool) → (if t then b else a) ≤ n
-    go true = k
-    go false = h
+use Rattle.sp_code.proofs.Falls.{larger_max}
 
 larger_left : (a b : ℕ) → a ≤ larger a b
 larger_left a b = go (nat_lt a b) refl

@@ -24,6 +24,7 @@ use Rattle.sp_meaning.specs.Owning.{Aimed, Used, Sound}
 use Rattle.sp_meaning.specs.Run.{Store}
 use Rattle.sp_meaning.proofs.Rights.{Mine}
 use Rattle.sp_meaning.proofs.SoundParts.{element_sound}
+use Rattle.sp_cell.proofs.Laws.{known_of_piece}
 use Rattle.sp_code.specs.declared.code.ChildTable.{ChildTable}
 use Rattle.sp_code.specs.declared.instr.Instr.TheVariants as i
 use Rattle.sp_code.specs.Emitted.{child_table}
@@ -49,7 +50,6 @@ use Rattle.sp_codegen.proofs.Slots.{no_index_console}
 use Rattle.sp_link.proofs.ChildrenStand.{memory_in, reached_formed, consoles}
 use Rattle.sp_link.proofs.Relation.{Ground, Life, Called, Named, Fresh, St, Stands, Handed, execution, run_is}
 use Rattle.sp_link.proofs.Scoping.{is_scoped, index_further}
-use Rattle.sp_link.proofs.Splits.{piece_known}
 
 module _ (G : Ground) (lf : Life) (kids : ℕ → ℕ → Life) (q : Name) where
   abbrev Wr : Loc → Type 0
@@ -143,7 +143,7 @@ module _ (G : Ground) (lf : Life) (kids : ℕ → ℕ → Life) (q : Name) where
         (consoles G lf kids q) sc pl.chain index_held in_scope a h
 
     pub shares_known : (a : Spot) → In a handing.shared → IsSome (fin.get n.store.map a)
-    shares_known a h = piece_known (fin.get n.store.map a) (shares_piece a h)
+    shares_known a h = known_of_piece (fin.get n.store.map a) (shares_piece a h)
 
     pub output_stays : Rd Output → In output_spot handing.shared → ⊥
     output_stays may h = output_unshared G.g G.code w (Named G) (Called G) Wr Rd lf.J lf.low (length lf.below) lf.born

@@ -1,5 +1,5 @@
 -- In the code of a program the frame of each block has room for its parameters (`have_formals`).
-use Rattle.std.proofs.Common.{◌≡◌, inl, inr, ℕ, zero, suc, ◌+◌, ◌==◌, List, [], ◌∷◌, ◌++◌, Option, Some, None, Bool}
+use Rattle.std.proofs.Common.{◌≡◌, ℕ, suc, ◌+◌, ◌==◌, List, [], ◌∷◌, ◌++◌, Option, Some, None, Bool}
 use Rattle.std.proofs.Common.{true, false, if◌then◌else◌, slice_get, refl, sym, ap, ◌∙◌, subst, arith}
 use Rattle.std.specs.Prelude.{map}
 use Rattle.std.specs.Option.{option_map}
@@ -11,6 +11,7 @@ use Rattle.sp_tree.specs.Cells.{variables_of, sizes, cells_by}
 use Rattle.sp_tree.specs.Formed.{IsFormed, is_parameter, among, as_list}
 use Rattle.sp_tree.specs.Interference.{IsMember}
 use Rattle.sp_tree.specs.Plain.{Program, Stmt, Block, Variable}
+use Rattle.sp_tree.proofs.Members.{member_at}
 use Rattle.sp_code.specs.declared.code.Formal.{Formal}
 use Rattle.sp_code.specs.declared.code.Layout.{Layout}
 use Rattle.sp_code.specs.Formals.{HasRoom, BeginsWithFormals, HaveFormals}
@@ -22,11 +23,6 @@ use Rattle.sp_codegen.proofs.Closing.{among_role}
 use Rattle.sp_codegen.proofs.Numbers.{are_known, frame_is}
 
 -- ---- elements of lists
-
-member_at : (xs : List ℕ) (k x : ℕ) → slice_get xs k ≡ Some x → IsMember x xs
-member_at [] k x e = absurd (cc e)
-member_at (z ∷ xs) zero x e = inl (let same : z ≡ x = cc e in sym same)
-member_at (z ∷ xs) (suc k) x e = inr (member_at xs k x e)
 
 module _ (p : Program) where
   -- a layout is that of a block

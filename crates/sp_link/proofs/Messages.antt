@@ -1,14 +1,13 @@
 -- A message goes over: what is sent, in cells, is of its type (`sent_flat`), and the receiver stands with it
 -- (`receiver_stands`).
-use Rattle.std.proofs.Common.{◌≡◌, ◌⊎◌, ℕ, ◌+◌, ◌<◌, ◌≤◌, List, length, Option, Some, None, true, refl, sym, ap, ◌∙◌}
-use Rattle.std.proofs.Common.{subst, arith}
+use Rattle.std.proofs.Common.{◌≡◌, ◌⊎◌, ℕ, ◌<◌, List, length, refl, sym, ap, ◌∙◌}
+use Rattle.std.proofs.Common.{subst}
 use Rattle.std.specs.FinMap as fin
 use Rattle.sp_cell.specs.declared.cell.Cell.{Cell as OneCell}
 use Rattle.sp_cell.specs.declared.spot.Spot.{Spot}
 use Rattle.sp_cell.specs.declared.spot.Address.{Address as Ptr}
 use Rattle.sp_cell.proofs.Laws.{get_here}
-use Rattle.sp_cell.specs.Map.{Content, Own as Owned, Shared, Output as Bytes, Away, Plain, IsOwn, IsPiece, HasCells}
-use Rattle.sp_cell.specs.Map.{cells_of}
+use Rattle.sp_cell.specs.Map.{Own as Owned, Plain, IsOwn, HasCells}
 use Rattle.sp_meaning.specs.Maps.{at_key}
 use Rattle.sp_meaning.specs.Model.{Name, Channel, Takes}
 use Rattle.sp_meaning.specs.Values.{Value, Ordinal, Chan}
@@ -16,10 +15,11 @@ use Rattle.sp_meaning.specs.Own.{Tree, Address, Own, Process, Who, assigned, sam
 use Rattle.sp_meaning.specs.Run.{Store}
 use Rattle.sp_meaning.proofs.Rights.{Mine}
 use Rattle.sp_code.specs.Machine.{Config, At, Entry, Stop, Forks, Opens, Sends, Receives, Ends, Pauses}
-use Rattle.sp_code.specs.Memory.{Memory, put_cells, cells_at, has_cells}
-use Rattle.sp_code.specs.PlainStore.{plain, piece_of}
+use Rattle.sp_code.specs.Memory.{Memory, put_cells, cells_at}
+use Rattle.sp_code.specs.PlainStore.{plain}
 use Rattle.sp_code.specs.Scopes.{Sort, Ordinals, Channels, Many, NoSort, sort, size}
 use Rattle.sp_code.specs.System.{on_store}
+use Rattle.sp_code.proofs.StoreLaws.{piece_holds}
 use Rattle.sp_codegen.specs.Relation.{Stood}
 use Rattle.sp_codegen.specs.Joints.{Joint}
 use Rattle.sp_codegen.specs.Shapes.{Flat, SameShape, leaves}
@@ -89,21 +89,13 @@ owned_ready G Pauses pc st n h = tt
 
 -- ---- room for a message
 
-in_piece : (c : Option Content) (offset k : ℕ) → has_cells (piece_of c) offset k ≡ true → IsPiece c
-    × (offset + k ≤ length (cells_of c))
-in_piece None offset k e = absurd (cc e)
-in_piece (Some (Owned cs)) offset k e = (tt, Prim.grind (arith, e))
-in_piece (Some (Shared cs)) offset k e = (tt, Prim.grind (arith, e))
-in_piece (Some (Bytes bs)) offset k e = absurd (cc e)
-in_piece (Some Away) offset k e = absurd (cc e)
-
 module _ (G : Ground) (lf : Life) (kids : ℕ → ℕ → Life) (q : Name) where
   -- where a message of type k goes there is room for it
   pub room : {w : Who} {since : ℕ} {js : List Joint} {o : Own} {s : Store} {n : Memory Plain}
       → St G lf kids q w since js o s n → (a : Address) (t : Ptr) → PointsTo G.g.program js a t → Mine q a.spot
       ⊎ lf.R a.spot → HasCells n.store.map t (size G.g.program a.kind)
   room {w} {since} {js} {o} {s} {n} st a t p may =
-      in_piece (fin.get n.store.map t.spot) t.offset (size G.g.program a.kind)
+      piece_holds (fin.get n.store.map t.spot) t.offset (size G.g.program a.kind)
       (has_all G.g G.code w (Named G) (Called G) (λ l. Mine q l ⊎ lf.W l) (λ l. Mine q l ⊎ lf.R l) lf.J lf.low
       (length lf.below) lf.born since G.pause lf.moved G.formed st a t p may)
 

@@ -1,18 +1,15 @@
--- The order of names as the program keeps them is that of the meaning (`in_order`), and each is told by its pairs
--- (`one_name`).
+-- The order of names as the program keeps them is that of the meaning (`in_order`).
 use Rattle.std.proofs.Common.{◌≡◌, ℕ, ◌==◌, List, [], ◌∷◌, ◌++◌, Bool, true, false, cond, if◌then◌else◌, refl, sym, ap}
 use Rattle.std.proofs.Common.{◌∙◌, arith}
 use Rattle.std.specs.Prelude.{nat_lt, map, reverse}
-use Rattle.std.proofs.lemmas.List.{reverse-append, reverse-reverse}
+use Rattle.std.proofs.lemmas.List.{reverse-append}
 use Rattle.std.specs.declared.cmp.Ordering.{Ordering}
 use Rattle.std.specs.declared.cmp.Ordering.TheVariants.{Less, Equal, Greater}
 use Rattle.std.specs.Ordering.{nat_cmp, ordering_then}
 use Rattle.std.specs.Cmp.Lexicographic.{slice_cmp}
 use Rattle.sp_base.specs.Order.{pair_cmp, name_cmp}
 use Rattle.sp_base.specs.declared.name.Pair.{Pair}
-use Rattle.sp_base.specs.declared.name.ProcName.{ProcName}
 use Rattle.sp_journal.specs.Names.{Name, pairs_of, proc_name}
-use Rattle.sp_journal.proofs.NameLaws.{names_differ}
 use Rattle.sp_meaning.specs.Ends.{pairs_before, name_before}
 
 abbrev pair : ℕ × ℕ → Pair

@@ -26,6 +26,7 @@ use Rattle.sp_meaning.proofs.Children.{AimedAt, UsedAt}
 use Rattle.sp_meaning.proofs.Rights.{All, Mine}
 use Rattle.sp_meaning.proofs.Within.{part}
 use Rattle.sp_meaning.proofs.SoundParts.{list_of, born_of}
+use Rattle.sp_cell.proofs.Laws.{known_of_piece}
 use Rattle.sp_code.specs.declared.code.ForkTable.{ForkTable}
 use Rattle.sp_code.specs.Machine.{Config, At}
 use Rattle.sp_code.specs.Memory.{Memory}
@@ -48,7 +49,7 @@ use Rattle.sp_link.proofs.OneChanges.{q, pr}
 use Rattle.sp_link.proofs.Pauses.{Entry_of, Meant, Machined, Kept_to, kids}
 use Rattle.sp_code.proofs.Plans.{moved_by, shared_by, moved_in}
 use Rattle.sp_link.proofs.Scoping.{IsScoped, is_scoped}
-use Rattle.sp_link.proofs.Splits.{piece_known, parallel_split, parts_differ}
+use Rattle.sp_link.proofs.Splits.{parallel_split, parts_differ}
 use Rattle.sp_link.proofs.Relation.{Ground, Life, Lives, W_of, R_of, Called, Named, Fresh, Stands, Handed, St, Linked}
 use Rattle.sp_link.proofs.Relation.{execution, run_is}
 use Rattle.sp_link.proofs.Newborns.{newborns_length}
@@ -272,7 +273,7 @@ module _ (G : Ground) (lv : Lives G) (c : Course) (s : StateOf G.g) (u : System 
           (λ y1 used1 own1. in_scope y1 used1) a f
 
       shares_known : (a : Spot) → In a (handing_at ch.entry j ch.statement).shared → IsSome (fin.get n1.store.map a)
-      shares_known a f = piece_known (fin.get n1.store.map a) (shares_piece a f)
+      shares_known a f = known_of_piece (fin.get n1.store.map a) (shares_piece a f)
 
       output_stays : Rd Output → In output_spot (handing_at ch.entry j ch.statement).shared → ⊥
       output_stays may f = output_unshared G.g G.code w1 (Named G) (Called G) Wr Rd (lv v).J (lv v).low

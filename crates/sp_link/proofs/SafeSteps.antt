@@ -38,6 +38,7 @@ use Rattle.sp_code.specs.Sound.{StopsAt, CanSplit, CanJoin, CanPut}
 use Rattle.sp_code.specs.System.{System, store_of, plan_of}
 use Rattle.sp_code.specs.System as sys
 use Rattle.sp_code.proofs.Turning.{turn_same}
+use Rattle.sp_code.proofs.StoreLaws.{held_of_cells}
 use Rattle.sp_codegen.specs.Following.{ForkIs, CargoIs, cells_in}
 use Rattle.sp_codegen.specs.Joints.{Joint}
 use Rattle.sp_codegen.specs.Shapes.{Flat}
@@ -50,7 +51,7 @@ use Rattle.sp_link.proofs.Messages.{sent_flat, owned_ready, room, message_length
 use Rattle.sp_link.proofs.OneChanges.{q, pr, its, here, runs, light, keeps_to}
 use Rattle.sp_link.proofs.Parallels as parallel
 use Rattle.sp_link.proofs.Pauses.{Meant, Machined, Kept_to, kids, turn_is}
-use Rattle.sp_link.proofs.Splits.{cells_held, bytes_held}
+use Rattle.sp_link.proofs.Splits.{bytes_held}
 use Rattle.sp_link.proofs.Relation.{Ground, Life, Lives, Named, St, Ca, Stands, Ready, Joined, Performs_all}
 use Rattle.sp_link.proofs.Relation.{Linked, run_is, ops, execution}
 
@@ -322,12 +323,12 @@ module _ (G : Ground) (lv : Lives G) (c : Course) (s : StateOf G.g) (u : System 
       held_there : (a : Spot) → In a moved_to → IsHeld (fin.get (ended.memory).store.map a)
       held_there a h = ⊎_elim
           (λ x. (let y = stood.position (inr x.0) in
-          subst (λ k. IsHeld (fin.get (ended.memory).store.map k)) (sym x.1) (cells_held _ _ y.2)))
+          subst (λ k. IsHeld (fin.get (ended.memory).store.map k)) (sym x.1) (held_of_cells _ _ y.2)))
           (⊎_elim
           (λ x. (let y = stood.output (inr x.0) in
           subst (λ k. IsHeld (fin.get (ended.memory).store.map k)) (sym x.1) (bytes_held _ _ y.2)))
           (λ x. (let y = stood.held x.0 x.1 x.2 x.3 x.4 in
-          subst (λ k. IsHeld (fin.get (ended.memory).store.map k)) (sym x.5) (cells_held _ _ y.piece))))
+          subst (λ k. IsHeld (fin.get (ended.memory).store.map k)) (sym x.5) (held_of_cells _ _ y.piece))))
           ((zj.children b.child (joins_at.1, yet)).kept a h)
 
       parent_map : (store_of dd).map ≡ zj.held

@@ -11,11 +11,10 @@ use Rattle.sp_tree.specs.Interference.{IsIndexOf, IsMember, KeepsI1}
 use Rattle.sp_tree.specs.Plain.{Program, Variable, Stmt, Stmts, No, And, Parallel}
 use Rattle.sp_tree.specs.Sets.{IsTarget, IsUsed}
 use Rattle.sp_tree.specs.Uses.{Use, Target, Seen, ParallelOf, In_stmt, In_stmts}
-use Rattle.sp_cell.specs.declared.cell.Cell.{Cell as OneCell}
 use Rattle.sp_cell.specs.declared.spot.Spot.{Spot}
 use Rattle.sp_cell.specs.declared.spot.Handing.{Handing}
 use Rattle.sp_cell.specs.Fork.{shared_of}
-use Rattle.sp_cell.specs.Map.{Content, Own as Owned, Shared, Output as Bytes, Away, Plain, IsHeld, IsPiece}
+use Rattle.sp_cell.specs.Map.{Content, Output as Bytes, Plain, IsHeld, IsPiece}
 use Rattle.sp_cell.specs.Spots.{In, IsDistinct}
 use Rattle.sp_meaning.specs.Model.{Name}
 use Rattle.sp_meaning.specs.Own.{Loc, Input, Output, Own, Who}
@@ -28,7 +27,6 @@ use Rattle.sp_code.specs.declared.code.ForkTable.{ForkTable}
 use Rattle.sp_code.specs.Emitted.{child_table, children_tables}
 use Rattle.sp_code.specs.Memory.{Memory}
 use Rattle.sp_code.specs.Places.{after}
-use Rattle.sp_code.specs.PlainStore.{piece_of}
 use Rattle.sp_code.specs.Scopes.{Scope}
 use Rattle.sp_code.specs.Sound.{CanSplit}
 use Rattle.sp_code.specs.Stands.{Stands as StandsIn, HasFork, HasWords, ChildrenAt}
@@ -42,21 +40,11 @@ use Rattle.sp_codegen.proofs.Owners.{no_longer_owner}
 use Rattle.sp_link.proofs.ChildrenStand.{reached_formed, consoles}
 use Rattle.sp_code.proofs.Plans.{in_spots, spots_from, out_of, distinct_spots, moved_by, shared_by, distinct_plan}
 use Rattle.sp_code.proofs.Plans.{index_by}
+use Rattle.sp_code.proofs.StoreLaws.{held_of_cells}
 use Rattle.sp_link.proofs.Relation.{Ground, Life, Called, Named, Fresh, St}
 use Rattle.sp_link.proofs.Scoping.{parts_scoped}
 
 -- ---- contents
-
-pub piece_known : (c : Option Content) → IsPiece c → IsSome c
-piece_known None h = absurd h
-piece_known (Some c) h = refl
-
-pub cells_held : (c : Option Content) (cs : List OneCell) → piece_of c ≡ Some cs → IsHeld c
-cells_held None cs e = absurd (cc e)
-cells_held (Some (Owned ds)) cs e = tt
-cells_held (Some (Shared ds)) cs e = tt
-cells_held (Some (Bytes bs)) cs e = tt
-cells_held (Some Away) cs e = absurd (cc e)
 
 pub bytes_held : (c : Option Content) (bs : List ℕ) → c ≡ Some (Bytes bs) → IsHeld c
 bytes_held c bs e = subst (λ x. IsHeld x) (sym e) tt
@@ -179,11 +167,11 @@ module _ (G : Ground) (lf : Life) (kids : ℕ → ℕ → Life) (q : Name) where
             lf.moved G.formed G.laid G.free f.reads G.moves G.shares G.sets t whole pl.sound unread child new_name table
             refl refl value 0 a → IsHeld (fin.get n.store.map a)
         by (inl b) = let z = t.position (right Input b.1.0 (inl b.1.1) b.1.2) in
-            subst (λ c. IsHeld (fin.get n.store.map c)) (sym b.0) (cells_held _ _ z.2)
+            subst (λ c. IsHeld (fin.get n.store.map c)) (sym b.0) (held_of_cells _ _ z.2)
         by (inr (inl b)) = let z = t.output (right Output b.1.0 (inl b.1.1) b.1.2) in
             subst (λ c. IsHeld (fin.get n.store.map c)) (sym b.0) (bytes_held _ _ z.2)
         by (inr (inr b)) = let z = t.held b.0 b.1 b.2 b.3 b.5 in
-            subst (λ c. IsHeld (fin.get n.store.map c)) (sym b.6) (cells_held _ _ z.piece)
+            subst (λ c. IsHeld (fin.get n.store.map c)) (sym b.6) (held_of_cells _ _ z.piece)
 
     -- ---- the plan
 

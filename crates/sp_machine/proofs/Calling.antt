@@ -15,9 +15,9 @@ use Rattle.sp_cell.specs.declared.cell.Cell.{Cell}
 use Rattle.sp_cell.specs.declared.cell.Cell.TheVariants as cell
 use Rattle.sp_cell.specs.declared.spot.Spot.{Spot}
 use Rattle.sp_cell.specs.declared.spot.Address.{Address}
-use Rattle.sp_cell.specs.Map.{Content, Own, Map, Plain, IsPiece, IsOwn, HasCells, cells_of}
+use Rattle.sp_cell.specs.Map.{Content, Own, Map, Plain, IsOwn, HasCells, cells_of}
 use Rattle.sp_cell.specs.Frame.{with_pieces, pushed, next_frame}
-use Rattle.sp_cell.proofs.Laws.{get_other, get_here}
+use Rattle.sp_cell.proofs.Laws.{get_other, get_here, piece_of_own}
 use Rattle.sp_code.specs.declared.code.Formal.{Formal}
 use Rattle.sp_code.specs.declared.code.Formal.TheVariants as formal
 use Rattle.sp_code.specs.declared.code.Layout.{Layout}
@@ -164,15 +164,8 @@ pub fill_end : (os : List Operand) (s : Plain) (n i : ℕ) → length os ≤ i
     → filled plain n i (entries_of (drop i os)) s ≡ s
 fill_end os s n i h = ap (λ (x : List Operand). filled plain n i (entries_of x) s) (drop_all i os h)
 
-own_piece : (o : Option Content) → IsOwn o → IsPiece o
-own_piece None h = h
-own_piece (Some (Own cs)) h = tt
-own_piece (Some (Rattle.sp_cell.specs.Map.Shared cs)) h = absurd h
-own_piece (Some (Rattle.sp_cell.specs.Map.Output bs)) h = absurd h
-own_piece (Some Rattle.sp_cell.specs.Map.Away) h = absurd h
-
 pub own_has : (mm : Map) (q : Spot) (c : ℕ) → HasOwn mm q c → HasCells mm (record { spot = q; offset = 0 }) c
-own_has mm q c h = (own_piece (map.get mm q) h.0, omega (arith, h.1))
+own_has mm q c h = (piece_of_own (map.get mm q) h.0, omega (arith, h.1))
 
 -- ---- the pieces of a new frame
 

@@ -227,7 +227,7 @@ impl State {
         })
     }
 
-    #[tactic(auto, using(sp_code::proofs::StoreLaws::cells_same, crate::proofs::Resuming::own_held))]
+    #[tactic(auto, using(sp_code::proofs::StoreLaws::cells_same, sp_cell::proofs::Laws::piece_of_own))]
     fn resume(&mut self, answer: Answer)
         requires { CanResume answer self.old }
         ensures { self.new ≡ resumed answer self.old }

@@ -1,5 +1,5 @@
 -- Numbers, names and channels are told apart by their tests.
-use Rattle.std.proofs.Common.{◌≡◌, true, ◌&&◌, ◌==◌, [], ◌∷◌, refl, ap, subst, eqb-true, eq-eqb, ◌≢◌, ◌⊎◌, inl, inr, ℕ}
+use Rattle.std.proofs.Common.{◌≡◌, true, ◌==◌, [], refl, ap, subst, eqb-true, eq-eqb, ◌≢◌, ◌⊎◌, inl, inr, ℕ}
 use Rattle.std.proofs.Common.{Bool, false, sym, ◌∙◌}
 use Rattle.std.proofs.lemmas.Bool.{and_from}
 use Rattle.sp_base.proofs.Facts.{first_true, second_true}

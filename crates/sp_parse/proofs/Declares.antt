@@ -14,9 +14,10 @@ use Rattle.sp_grammar.specs.Table as row
 use Rattle.sp_grammar.specs.Table.{Entry, Row, entry, rows, look, gap, build, kind_is}
 use Rattle.sp_grammar.specs.Machine.{allows}
 use Rattle.sp_grammar.specs.Derives.{Begins as MayBegin, Derives, takes, skips, DerivesAll, none, and}
+use Rattle.sp_grammar.proofs.From.{kind_is-true}
 use Rattle.sp_parse.specs.declared.source.Source.{Source}
 use Rattle.sp_parse.specs.Reads.{Within, Ready, AllFit, breaks, HasRead, Halts, Begins, BeginsWith, Passes, SoFar}
-use Rattle.sp_parse.proofs.Steps.{has_read, take, kind_is-true, step_takes, step_fails}
+use Rattle.sp_parse.proofs.Steps.{has_read, take, step_takes, step_fails}
 use Rattle.sp_parse.proofs.Rows.{after_two}
 use Rattle.sp_parse.proofs.SoFar.{ends, skipped}
 

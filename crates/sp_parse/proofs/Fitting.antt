@@ -1,5 +1,5 @@
 -- The tokens of a text that breaks no rule of characters lie in it, and their numbers are integers.
-use Rattle.std.proofs.Common.{◌≡◌, ℕ, suc, ◌-◌, ◌<◌, ◌≤◌, Bool, true, List, [], ◌∷◌, ◌++◌, length, map, take, drop}
+use Rattle.std.proofs.Common.{◌≡◌, ℕ, ◌-◌, ◌<◌, ◌≤◌, Bool, List, [], ◌∷◌, ◌++◌, length, take, drop}
 use Rattle.std.proofs.Common.{refl, sym as back_of, ap, ◌∙◌, subst, arith, length-append, append_assoc}
 use Rattle.std.proofs.lemmas.Bool.Decides.{nat_tests}
 use Rattle.std.proofs.Math.Seq.{drop-append_seam}
@@ -9,7 +9,6 @@ use Rattle.sp_base.specs.declared.rule.Rule.TheVariants as rule
 use Rattle.sp_tree.specs.declared.token.Token.{Token}
 use Rattle.sp_tree.specs.declared.token.Kind.{Kind}
 use Rattle.sp_tree.specs.declared.token.Kind.TheVariants as kind
-use Rattle.sp_tree.specs.Characters.{is_digit, lower}
 use Rattle.sp_tree.specs.Places.{place_at}
 use Rattle.sp_tree.specs.Spelling.{spelling, number_of, digits_value}
 use Rattle.sp_tree.specs.Lexemes.{Run, run_ends, run_goes_on, TextBody, text_ends, two_quotes, text_byte, BraceBody}
@@ -18,6 +17,7 @@ use Rattle.sp_tree.specs.Lexemes.{star_comment, Lexeme, Longest, lowered}
 use Rattle.sp_tree.specs.Lexemes as l
 use Rattle.sp_tree.specs.Scans.{Scans, nothing, blank, comment, token, offset, token_from, BreaksLexis, IsTokens}
 use Rattle.sp_grammar.proofs.Rising.{lexeme_length}
+use Rattle.sp_grammar.proofs.Scanned.{scans_chain, lower_number}
 use Rattle.sp_parse.specs.Reads.{AllFit}
 
 -- the second list is the end of the first
@@ -66,31 +66,6 @@ dropped text bs h =
     let n : offset text bs ≡ length h.0 = omega (arith, ap length h.1, length-append h.0 bs) in
     ap (λ n. drop n text) n ∙ ap (drop (length h.0)) h.1 ∙ drop-append_seam h.0 bs
 
--- digits have no case
-digit_lower : (b : ℕ) → is_digit b ≡ true → lower b ≡ b
-digit_lower b h = grind (arith, nat_tests)
-
-digits_lower : {bs r : List ℕ} → Run is_digit bs r
-    → map lower (take (length bs - length r) bs) ≡ take (length bs - length r) bs
-digits_lower {bs} run_ends = let n : length bs - length bs ≡ 0 = omega arith in
-    ap (λ n. map lower (take n bs)) n ∙ ap (λ n. take n bs) (back_of n)
-digits_lower {bs = b ∷ bs} {r} (run_goes_on b' h x) =
-    let n : suc (length bs) - length r ≡ suc (length bs - length r) = omega (arith, tail_length (run_tail x)) in
-    ap (λ n. map lower (take n (b ∷ bs))) n ∙ (λ i. digit_lower b h i ∷ digits_lower x i)
-    ∙ ap (λ n. take n (b ∷ bs)) (back_of n)
-
-number_lower : {bs r : List ℕ} → Lexeme kind.Number bs r → lowered bs r ≡ take (length bs - length r) bs
-number_lower {bs = b ∷ bs} {r} (l.number b' h x) = digits_lower (run_goes_on b h x)
-number_lower {bs = []} {r = r} x = elim x [ ]
-
--- a part of a text behind another
-append_scans : {text bs u r : List ℕ} {ts us : List Token} → Scans text bs u ts → Scans text u r us
-    → Scans text bs r (ts ++ us)
-append_scans nothing y = y
-append_scans (blank b h x) y = blank b h (append_scans x y)
-append_scans (comment c x) y = comment c (append_scans x y)
-append_scans (token k o g x) y = token k o g (append_scans x y)
-
 module _ (text : List ℕ) (kept : (r : Rule) (at : Place) → BreaksLexis text r at → ⊥) where
   spelled : (k : Kind) (bs u : List ℕ) → Tail text bs → Tail bs u
       → spelling text (token_from text k bs u) ≡ take (length bs - length u) bs
@@ -118,16 +93,16 @@ module _ (text : List ℕ) (kept : (r : Rule) (at : Place) → BreaksLexis text 
   number_fits k bs u before a along g p =
       let n : Longest kind.Number bs u = subst (λ k. Longest k bs u) p g in
       let e : number_of text (token_from text k bs u) ≡ digits_value 0 (lowered bs u) =
-      ap (digits_value 0) (spelled k bs u a (lexeme_tail g.spelled) ∙ back_of (number_lower n.spelled)) in
+      ap (digits_value 0) (spelled k bs u a (lexeme_tail g.spelled) ∙ back_of (lower_number n.spelled)) in
       omega (arith, e, small bs u before along n)
 
   fit : {bs r : List ℕ} {ts : List Token} (before : List Token) → Tail text bs → Scans text text bs before
       → Scans text bs r ts → AllFit text ts
   fit before a along nothing = tt
   fit {bs = b ∷ bs} before a along (blank b' h x) =
-      fit (before ++ []) (behind a (b ∷ [], refl)) (append_scans along (blank b h nothing)) x
+      fit (before ++ []) (behind a (b ∷ [], refl)) (scans_chain along (blank b h nothing)) x
   fit {bs} before a along (comment {u = u} c x) =
-      fit (before ++ []) (behind a (comment_tail c)) (append_scans along (comment c nothing)) x
+      fit (before ++ []) (behind a (comment_tail c)) (scans_chain along (comment c nothing)) x
   fit {bs} before a along (token {u = u} k o g x) = (
     record {
       order = omega (arith, lexeme_length g.spelled);
@@ -135,7 +110,7 @@ module _ (text : List ℕ) (kept : (r : Rule) (at : Place) → BreaksLexis text 
       number = λ p. number_fits k bs u before a along g p;
     },
     fit (before ++ token_from text k bs u ∷ []) (behind a (lexeme_tail g.spelled))
-        (append_scans along (token k o g nothing)) x,
+        (scans_chain along (token k o g nothing)) x,
   )
 
 pub all_fit : (text : List ℕ) (ts : List Token) → IsTokens text ts → AllFit text ts

@@ -22,6 +22,7 @@ use Rattle.sp_grammar.specs.Table as row
 use Rattle.sp_grammar.specs.Table.{FactorRow, SimpleRow, Row, Entry, entry, rows, look, kind_is, build}
 use Rattle.sp_grammar.specs.Table.{factor_rows, simple_rows, factor_value, simple_value}
 use Rattle.sp_grammar.specs.Derives.{Derives, DerivesAll, none, and}
+use Rattle.sp_grammar.proofs.Looks.{look_relation, look_adding, look_multiplying}
 use Rattle.sp_parse.specs.declared.source.Source.{Source}
 use Rattle.sp_parse.specs.Productions.{production, single}
 use Rattle.sp_parse.specs.Reads.{Within, Ready, breaks, HasRead, Halts, Reads, Begins, BeginsWith, SoFar, ReadsSoFar}
@@ -29,29 +30,6 @@ use Rattle.sp_parse.specs.Operators.{IsSign, Operator, NoOperator, Operates}
 use Rattle.sp_parse.proofs.Steps.{has_read, one, take, step_ends, below}
 use Rattle.sp_parse.proofs.SoFar.{skipped, ends, halts_on, halts_chain, goes_on, starts, chain, nothing_yet}
 use Rattle.sp_parse.proofs.Rows.{look_map, after_two, split_join, copy_leads, copy_derives, halts_same, row_halts}
-
--- rows of factors, of terms and of simple expressions
-look_relation : (d : ℕ) {k : Kind} {o : BinaryOp} (c : g.IsRelational k o)
-    → look (rows (sym.ARelation d)) k ≡ Some (entry _ _ (row.relation {d = d} c))
-look_relation d g.equal = refl
-look_relation d g.unequal = refl
-look_relation d g.less = refl
-look_relation d g.at_most = refl
-look_relation d g.greater = refl
-look_relation d g.at_least = refl
-
-look_adding : (d : ℕ) {k : Kind} {o : BinaryOp} (c : g.IsAdding k o)
-    → look (rows (sym.MoreTerms d)) k ≡ Some (entry _ _ (row.next_term {d = d} c))
-look_adding d g.plus = refl
-look_adding d g.minus = refl
-look_adding d g.or = refl
-
-look_multiplying : (d : ℕ) {k : Kind} {o : BinaryOp} (c : g.IsMultiplying k o)
-    → look (rows (sym.MoreFactors d)) k ≡ Some (entry _ _ (row.next_factor {d = d} c))
-look_multiplying d g.times = refl
-look_multiplying d g.quotient = refl
-look_multiplying d g.modulo = refl
-look_multiplying d g.and = refl
 
 -- operators
 pub operator_halts : (Is : Kind → BinaryOp → Type 0) (tail : ℕ → Symbol) (source : Source) (ts : List Token)

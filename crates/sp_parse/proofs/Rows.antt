@@ -16,11 +16,12 @@ use Rattle.sp_grammar.specs.Table.{Entry, Row, entry, rows, look, gap, build, ki
 use Rattle.sp_grammar.specs.Table.{factor_rows, simple_rows, simple_factor, expression, negated}
 use Rattle.sp_grammar.specs.Machine.{allows}
 use Rattle.sp_grammar.specs.Derives.{Begins as MayBegin, Derives, takes, skips, DerivesAll, none, and}
+use Rattle.sp_grammar.proofs.From.{kind_is-true}
 use Rattle.sp_parse.specs.declared.source.Source.{Source}
 use Rattle.sp_parse.specs.Productions.{production}
 use Rattle.sp_parse.specs.Reads.{Within, Ready, breaks, HasRead, Halts, Reads, Begins, BeginsOther, BeginsWith}
 use Rattle.sp_parse.specs.Operators.{Operator, is_some, BeginsFactor, BeginsSimple}
-use Rattle.sp_parse.proofs.Steps.{has_read, take, kind_is-true, step_takes, step_fails, step_deep, step_skips}
+use Rattle.sp_parse.proofs.Steps.{has_read, take, step_takes, step_fails, step_deep, step_skips}
 
 -- the kind that a test found
 pub kind_at : {b : Bool} (t : Token) (k : Kind) → b ≡ kind_is k t.kind → b ≡ true → t.kind ≡ k

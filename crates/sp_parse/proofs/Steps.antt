@@ -1,7 +1,6 @@
 -- Single steps of the machine, and what a part that is read says of it.
 use Rattle.std.proofs.Common.{◌≡◌, ℕ, ◌<◌, ◌≤◌, Bool, true, false, cond, List, [], ◌∷◌, ◌++◌, length, Option, Some}
 use Rattle.std.proofs.Common.{None, Ok, Err, ◌⊎◌, inl, inr, refl, sym as back_of, ap, ◌∙◌, subst, arith, eq-eqb}
-use borrow.Author.Tests.{eqb-true}
 use Rattle.std.proofs.lemmas.Bool.Decides.{nat_tests}
 use Rattle.std.specs.Borrow.{Bor}
 use Rattle.sp_base.specs.declared.halt.Halt.{Halt}
@@ -17,6 +16,7 @@ use Rattle.sp_grammar.specs.Table.{Entry, Row, entry, rows, look, gap, build, ki
 use Rattle.sp_grammar.specs.Machine.{Why, Bad, Deep, Take, Skip, Fail, allows, skips_if, acts, act, End, Stuck, run}
 use Rattle.sp_grammar.specs.Derives.{Begins as MayBegin, Derives, takes, skips, DerivesAll, none, and}
 use Rattle.sp_grammar.proofs.Run.{at_act, act_takes, act_skips, leads_all}
+use Rattle.sp_grammar.proofs.From.{kind_is-true}
 use Rattle.sp_parse.specs.declared.source.Source.{Source}
 use Rattle.sp_parse.specs.Reads.{Within, Ready, breaks, refused_by, HasRead, Halts, Begins, BeginsOther}
 use Rattle.sp_parse.specs.Reads.{BeginsWith, Passes, Expected}
@@ -112,15 +112,6 @@ pub step_ends : (source : Source) (s : Symbol) (q : List Symbol)
     { rule = rule.G2; at = place_at source.text.now (length source.text.now) })
 unfolding breaks
 step_ends source s q = refl
-
--- kinds that pass the test are the same
-pub kind_is-true : (a b : Kind) → kind_is a b ≡ true → a ≡ b
-kind_is-true kind.Name kind.Name h = refl
-kind_is-true kind.Number kind.Number h = refl
-kind_is-true kind.Text kind.Text h = refl
-kind_is-true (kind.Word a) (kind.Word b) h = ap kind.Word (eqb-true a b h)
-kind_is-true (kind.Sign a) (kind.Sign b) h = ap kind.Sign (eqb-true a b h)
-kind_is-true a b h = absurd cc
 
 pub kind_is-same : (k : Kind) → kind_is k k ≡ true
 kind_is-same kind.Name = refl

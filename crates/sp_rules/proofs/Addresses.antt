@@ -5,6 +5,7 @@ use Rattle.std.proofs.Common.{Option, Some, None, Bool, true, false, if◌then�
 use Rattle.std.specs.Prelude.{slice_get, nat_lt}
 use Rattle.std.proofs.lemmas.Option.{same_Some}
 use Rattle.sp_tree.specs.Interference.{IsMember}
+use Rattle.sp_tree.proofs.Members.{member_front, member_back, member_at}
 use Rattle.sp_code.specs.declared.code.Formal.{Formal}
 use Rattle.sp_code.specs.declared.code.Formal.TheVariants as formal
 use Rattle.sp_code.specs.declared.code.Layout.{Layout}
@@ -22,7 +23,6 @@ use Rattle.sp_rules.specs.Reach.{IsArea, IsBrought, Leads, Brings, Reaches, Pass
 use Rattle.sp_rules.specs.Shapes.{Shape, O, C, L, A, Shaped, Wrong, To, shaped, answered, take_o, take_c, take_a}
 use Rattle.sp_rules.specs.Shapes.{take_value, take_same, take_cells, take_all, take_none, two_to_one, one_to_one}
 use Rattle.sp_rules.specs.Shapes.{one_gone, two_gone, read_as, filled, begins, goes_round, addressed}
-use Rattle.sp_rules.proofs.Lists.{member_front, member_back}
 use Rattle.sp_rules.proofs.Scoping.{layout_variable, declared_here, member_home, index_declared, index_in}
 use Rattle.sp_rules.proofs.Walking.{passes}
 
@@ -268,11 +268,6 @@ module _ (c : Parts) (k : Keeps c) where
     at_home (g ∷ hs) (suc up) x h e m = member_back x (variables_in c.layouts g) (all_variables c.layouts hs)
         (at_home hs up x h e m)
 
-    listed : (xs : List ℕ) (n x : ℕ) → slice_get xs n ≡ Some x → IsMember x xs
-    listed [] n x e = absurd (cc e)
-    listed (y ∷ xs) zero x e = inl (sym (same_Some _ _ e))
-    listed (y ∷ xs) (suc n) x e = inr (listed xs n x e)
-
     number_is : (x : ℕ) (o : Option Formal) (s : Option ℕ) (f : Found) → found_by x o s ≡ Some f → f.number ≡ x
     number_is x None None f e = absurd (cc e)
     number_is x None (Some n) f e = sym (ap (λ (z : Found). z.number) (same_Some _ _ e))
@@ -287,7 +282,7 @@ module _ (c : Parts) (k : Keeps c) where
             → given None o (λ x. found_by x (slice_get l.formals n) (slice_get l.sizes n)) ≡ Some f
             → IsMember f.number l.variables
         go None is e = absurd (cc e)
-        go (Some x) is e = listed l.variables n f.number (is
+        go (Some x) is e = member_at l.variables n f.number (is
             ∙ ap Some (sym (number_is x (slice_get l.formals n) (slice_get l.sizes n) f e)))
 
     in_home : (h : Home) (var : ℕ) (f : Found) → found_at c.layouts h var ≡ Some f → (is_plain f.naming ≡ true)

@@ -1,11 +1,12 @@
 -- A child begins with what it is handed: that and its index stand at spots that it holds, no two at one.
 use Rattle.std.proofs.Common.{◌≡◌, ◌≢◌, ◌⊎◌, inl, inr, ⊎_elim, ℕ, zero, suc, ◌≤◌, ◌<◌, ℤ, pos, List, [], ◌∷◌, length}
-use Rattle.std.proofs.Common.{Option, Some, None, refl, sym, ap, ◌∙◌, subst, arith, if◌then◌else◌}
+use Rattle.std.proofs.Common.{Some, None, refl, sym, ap, ◌∙◌, subst, arith, if◌then◌else◌}
 use Rattle.std.specs.Prelude.{◌+ℤ◌}
 use Rattle.std.specs.FinMap as map
 use Rattle.std.proofs.lemmas.Option.{same_Some}
 use Rattle.sp_base.proofs.Facts.{below_two_or_not}
 use Rattle.sp_tree.specs.Interference.{IsMember, AllDifferent}
+use Rattle.sp_tree.proofs.Members.{member_front, member_back, member_either}
 use Rattle.sp_cell.specs.declared.cell.Cell.{Cell}
 use Rattle.sp_cell.specs.declared.cell.Cell.TheVariants as cell
 use Rattle.sp_cell.specs.declared.spot.Spot.{Spot}
@@ -14,7 +15,7 @@ use Rattle.sp_cell.specs.Fork.{lent, with_index, index_frame, child_map}
 use Rattle.sp_cell.specs.Frame.{above, frames}
 use Rattle.sp_cell.proofs.FrameLaws.{is_same, is_other}
 use Rattle.sp_cell.proofs.Laws.{get_here, known_of_held}
-use Rattle.sp_cell.specs.Map.{Map, Content, Own, Shared, Output, Away, IsOutput, output_spot, cells_of}
+use Rattle.sp_cell.specs.Map.{Map, Own, IsOutput, output_spot}
 use Rattle.sp_cell.proofs.Partition.{below_above, child_moved, child_shared}
 use Rattle.sp_cell.proofs.Plan.{get_taken_out}
 use Rattle.sp_cell.specs.Spots.{In, NotIn}
@@ -27,17 +28,11 @@ use Rattle.sp_rules.specs.Chains.{Chain, all_variables, stands, extends}
 use Rattle.sp_rules.specs.Extents.{extent, size_in, size_at, or_further}
 use Rattle.sp_rules.specs.Forks.{handed_to}
 use Rattle.sp_rules.specs.Holding.{Has, Allowed, input_spot}
-use Rattle.sp_rules.proofs.Lists.{member_front, member_back, member_either, different_apart}
+use Rattle.sp_rules.proofs.Lists.{different_apart}
 use Rattle.sp_rules.proofs.Chains.{last_up, spot_is, size_is}
 use Rattle.sp_rules.proofs.Forking.{cells_of_position}
 use Rattle.sp_code.proofs.Plans.{spots_from, in_spots, out_of}
-
-cells_are : (o : Option Content) (cs : List Cell) → piece_of o ≡ Some cs → cells_of o ≡ cs
-cells_are None cs e = absurd (cc e)
-cells_are (Some (Own ds)) cs e = same_Some _ _ e
-cells_are (Some (Shared ds)) cs e = same_Some _ _ e
-cells_are (Some (Output bs)) cs e = absurd (cc e)
-cells_are (Some Away) cs e = absurd (cc e)
+use Rattle.sp_code.proofs.StoreLaws.{piece_cells}
 
 above_bound : (ss : List Spot) (n : ℕ) → ((q : Spot) → In q ss → q.frame < n) → above (frames ss) ≤ n
 above_bound [] n h = omega arith
@@ -98,9 +93,9 @@ module _ (ls : List Layout) (ha : List Home) (fs : List Frame) (chain : Chain ha
       → piece_of (map.get m q) ≡ Some cs → piece_of (map.get child q) ≡ Some cs
   same_cells x q cs i e p = ⊎_elim
       (λ j. ap piece_of (child_moved m h q (moved_at x q j e)
-      (known_of_held (map.get m q) (Rattle.sp_rules.proofs.Forking.held_of_cells (map.get m q) cs p))) ∙ p)
+      (known_of_held (map.get m q) (Rattle.sp_code.proofs.StoreLaws.held_of_cells (map.get m q) cs p))) ∙ p)
       (λ j. ap piece_of (child_shared m h q (shared_at x q j e) (not_moved x q j e))
-      ∙ ap Some (cells_are (map.get m q) cs p))
+      ∙ ap Some (piece_cells (map.get m q) cs p))
       (member_either x t.moved t.shared i)
 
   module _ (gs : List Frame)

@@ -221,7 +221,7 @@ module _ (ls : List Layout) (ha : List Home) (k : ℕ) (l : Layout) (fs : List F
         in_outer : (IsMember y l.variables → ⊥) → IsMember y (l.variables ++ all_variables ls (drop k ha))
             → IsMember y (all_variables ls (drop k ha))
         in_outer n h = ⊎_elim (λ a. absurd (n a)) (λ a. a)
-            (Rattle.sp_rules.proofs.Lists.member_either y l.variables (all_variables ls (drop k ha)) h)
+            (Rattle.sp_tree.proofs.Members.member_either y l.variables (all_variables ls (drop k ha)) h)
 
         small : (y : ℕ) → y < 2 → (gs hs : List Frame) → spot_of ls gs y ≡ spot_of ls hs y
         small zero lt gs hs = refl

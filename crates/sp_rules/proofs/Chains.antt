@@ -9,10 +9,12 @@ use Rattle.sp_code.specs.Memory.{Home, OfBlock, OfIndex, Frame, last_frames, fra
 use Rattle.sp_code.specs.System.{spot_in, or_outward, spot_from, spot_of_layout, spot_at, first_number, spot_of}
 use Rattle.sp_rules.specs.Chains.{Chain, variables_of, variables_in, all_variables, along, stands, extends}
 use Rattle.sp_rules.specs.Extents.{extent, extent_in, extent_at, extent_of_layout, extent_from, or_further}
-use Rattle.sp_rules.proofs.Lists.{member_back, different_back, different_apart, place_none, drop_again}
+use Rattle.sp_rules.proofs.Lists.{different_back, different_apart, drop_again}
 use Rattle.std.specs.Prelude.{nat_lt}
 use Rattle.std.proofs.lemmas.Bool.{ltb-true}
 use Rattle.std.proofs.lemmas.List.{length-drop, drop-drop}
+use Rattle.sp_tree.proofs.Members.{member_back}
+use Rattle.sp_code.proofs.Members.{place_none}
 
 pub up_is_drop : (k : ℕ) (fs : List Frame) → (j : ℕ) × (frames_up k fs ≡ drop j fs)
 up_is_drop zero fs = (0, refl)

@@ -6,6 +6,7 @@ use Rattle.std.specs.Prelude.{slice_get, IsSome}
 use Rattle.std.proofs.lemmas.Bool.{eqb-true, true_from_ne_false}
 use Rattle.sp_base.proofs.Facts.{below_two_or_not, first_true}
 use Rattle.sp_tree.specs.Interference.{IsMember}
+use Rattle.sp_tree.proofs.Members.{member_front, member_back, member_either}
 use Rattle.sp_code.specs.declared.code.Layout.{Layout}
 use Rattle.sp_code.specs.declared.code.ChildTable.{ChildTable}
 use Rattle.sp_code.specs.declared.code.Parts.{Parts}
@@ -27,7 +28,6 @@ use Rattle.sp_rules.specs.Reach.{IsIn, IsArea}
 use Rattle.sp_rules.specs.Shapes.{Shape, O, C, L, A, below}
 use Rattle.sp_rules.specs.Touched.{stored_by, loaded_by, topmost, addresses, numbered}
 use Rattle.sp_rules.proofs.Addresses.{AllP, addresses_around, found_around}
-use Rattle.sp_rules.proofs.Lists.{member_front, member_back, member_either}
 use Rattle.sp_rules.proofs.Scoping.{found_layout, area_drop, homes_step, is_block_of, inner}
 use Rattle.sp_rules.proofs.Walking.{passes}
 

@@ -5,6 +5,7 @@ use Rattle.std.specs.Prelude.{IsSome, slice_get}
 use Rattle.std.specs.FinMap as map
 use Rattle.std.proofs.lemmas.Option.{same_Some}
 use Rattle.sp_tree.specs.Interference.{IsMember}
+use Rattle.sp_tree.proofs.Members.{member_front, member_back}
 use Rattle.sp_cell.specs.declared.cell.Cell.{Cell}
 use Rattle.sp_cell.specs.declared.cell.Cell.TheVariants as cell
 use Rattle.sp_cell.specs.declared.spot.Spot.{Spot}
@@ -12,7 +13,7 @@ use Rattle.sp_cell.specs.declared.spot.Handing.{Handing}
 use Rattle.sp_cell.specs.Fork.{lent, away, with_index, index_frame, child_map, moved_of, shared_of}
 use Rattle.sp_cell.specs.Frame.{above, frames, HasNextFrame}
 use Rattle.sp_cell.proofs.FrameLaws.{known_below}
-use Rattle.sp_cell.proofs.Laws.{known_of_held, known_of_piece, get_here, get_other, same_or}
+use Rattle.sp_cell.proofs.Laws.{known_of_held, known_of_piece, get_here, get_other, same_or, own_away, held_not_away}
 use Rattle.sp_cell.specs.Map.{Map, Content, Own, Shared, Output, Away, Plain, IsHeld, IsPiece, IsOutput, output_spot}
 use Rattle.sp_cell.specs.Map.{cells_at, spot_cmp}
 use Rattle.sp_cell.proofs.Partition.{parent_moved, child_moved, child_rest}
@@ -37,7 +38,6 @@ use Rattle.sp_rules.proofs.Births.{IsRight, born, born_with_index, chain_new, st
 use Rattle.sp_rules.proofs.Forking.{has_held, KeepsForks, can_split}
 use Rattle.sp_rules.proofs.Holdings.{head, next_low}
 use Rattle.sp_rules.proofs.Keeping.{Keeps, all_keeps, keeps_lent}
-use Rattle.sp_rules.proofs.Lists.{member_front, member_back}
 use Rattle.sp_code.proofs.Plans.{spots_from}
 
 above_low : (ss : List Spot) (n : ℕ) → ((q : Spot) → In q ss → q.frame < n) → above (frames ss) ≤ n
@@ -128,9 +128,6 @@ module _ (g : Setting) {Area : Type 0} (H : Area → List Home) (E : Area → �
         (λ (f : s.frame ≡ index_frame h). omega (arith, f, index_low)) r)
         (child_known s k)
 
-    held_away : (o : Option Content) → IsHeld o → o ≢ Some Away
-    held_away o i e = subst IsHeld e i
-
     shared_away : {cs : List Cell} → Some (Shared cs) ≢ Some Away
     shared_away e = cc e
 
@@ -144,10 +141,6 @@ module _ (g : Setting) {Area : Type 0} (H : Area → List Home) (E : Area → �
         (λ (w : s ≢ record { frame = f; variable = i.0 }). o
         (sym (get_other m (record { frame = f; variable = i.0 }) (Own (cell.Ordinal i.1 ∷ [])) s w) ∙ e))
         (same_or s (record { frame = f; variable = i.0 }))
-      where
-        own_away : {cs : List Cell} → Some (Own cs) ≢ Some Away
-        own_away e = cc e
-
     none_lent : (s : Spot) → map.get (lent n.store.map h.shared map.empty) s ≢ Some Away
     none_lent s e = ⊎_elim
         (λ i. shared_away (sym (get_lent_in n.store.map h.shared map.empty s i) ∙ e))
@@ -159,7 +152,7 @@ module _ (g : Setting) {Area : Type 0} (H : Area → List Home) (E : Area → �
 
     child_away : (s : Spot) → map.get (child_map n.store.map h) s ≢ Some Away
     child_away s e = ⊎_elim
-        (λ i. held_away (map.get n.store.map s) (moved_held s i)
+        (λ i. held_not_away (map.get n.store.map s) (moved_held s i)
         (sym (child_moved n.store.map h s i (known_of_held (map.get n.store.map s) (moved_held s i))) ∙ e))
         (λ o. none_index h.index (lent n.store.map h.shared map.empty) (index_frame h) s (none_lent s)
         (sym (get_taken_out n.store.map h.moved

@@ -6,6 +6,7 @@ use Rattle.std.specs.FinMap as map
 use Rattle.std.proofs.lemmas.Bool.{cases_eq}
 use Rattle.std.proofs.lemmas.Option.{same_Some}
 use Rattle.sp_tree.specs.Interference.{IsMember, AllDifferent}
+use Rattle.sp_tree.proofs.Members.{member_front, member_back}
 use Rattle.sp_cell.specs.declared.cell.Cell.{Cell}
 use Rattle.sp_cell.specs.declared.spot.Spot.{Spot}
 use Rattle.sp_cell.specs.Fork.{moved_of, shared_of}
@@ -22,24 +23,11 @@ use Rattle.sp_code.specs.System.{spot_of, plan_from, child_or}
 use Rattle.sp_code.specs.Tables.{child_at}
 use Rattle.sp_rules.specs.Forks.{handed_to}
 use Rattle.sp_rules.specs.Holding.{Has, Allowed}
-use Rattle.sp_rules.proofs.Lists.{member_front, member_back, different_front, different_apart}
+use Rattle.sp_rules.proofs.Lists.{different_front, different_apart}
 use Rattle.sp_code.proofs.Plans.{spots_from, out_of, one, distinct_spots, distinct_plan, moved_by, shared_by}
+use Rattle.sp_code.proofs.StoreLaws.{piece_of_cells, held_of_cells}
 
 -- ---- contents
-
-pub held_of_cells : (o : Option Content) (cs : List Cell) → piece_of o ≡ Some cs → IsHeld o
-held_of_cells None cs e = absurd (cc e)
-held_of_cells (Some (Own ds)) cs e = tt
-held_of_cells (Some (Shared ds)) cs e = tt
-held_of_cells (Some (Output bs)) cs e = absurd (cc e)
-held_of_cells (Some Away) cs e = absurd (cc e)
-
-pub piece_of_cells : (o : Option Content) (cs : List Cell) → piece_of o ≡ Some cs → IsPiece o
-piece_of_cells None cs e = absurd (cc e)
-piece_of_cells (Some (Own ds)) cs e = tt
-piece_of_cells (Some (Shared ds)) cs e = tt
-piece_of_cells (Some (Output bs)) cs e = absurd (cc e)
-piece_of_cells (Some Away) cs e = absurd (cc e)
 
 pub cells_of_position : (o : Option Content) (n : ℕ) → position_in (piece_of o) ≡ Some n → (cs : List Cell)
     × (piece_of o ≡ Some cs)

@@ -1,46 +1,30 @@
 -- What a process of verified code holds, kept by what its instructions do to its memory: a write, a move of the input's
 -- position, printing, a call and a return.
 use Rattle.std.proofs.Common.{◌≡◌, ◌≢◌, ◌⊎◌, inl, inr, ⊎_elim, ℕ, ◌+◌, ◌-◌, ◌≤◌, ◌<◌, ◌==◌, ◌&&◌, List, [], ◌∷◌, ◌++◌}
-use Rattle.std.proofs.Common.{length, take, get_or, Option, Some, None, Bool, true, false, refl, sym, ap, ◌∙◌, subst}
+use Rattle.std.proofs.Common.{length, take, Option, Some, None, Bool, true, false, refl, sym, ap, ◌∙◌, subst}
 use Rattle.std.proofs.Common.{arith}
 use Rattle.std.specs.Prelude.{IsSome, not}
 use Rattle.std.specs.List.{list_all}
 use Rattle.std.proofs.lemmas.List.{length-append}
-use Rattle.std.proofs.lemmas.List.{get_or-append_right}
 use Rattle.std.specs.FinMap as map
 use Rattle.sp_base.proofs.Facts.{take_front}
 use Rattle.sp_tree.specs.Interference.{IsMember}
+use Rattle.sp_tree.proofs.Members.{member_front, member_back, member_either}
 use Rattle.sp_cell.specs.declared.spot.Spot.{Spot}
-use Rattle.sp_cell.specs.Frame.{above, next_frame, newest, popped, without}
-use Rattle.sp_cell.proofs.FrameLaws.{known_below, above_known, is_same, without_here, without_other}
-use Rattle.sp_cell.proofs.Laws.{get_other, get_here, same_or, known_of_held, known_insert}
+use Rattle.sp_cell.specs.Frame.{next_frame, newest, popped, without}
+use Rattle.sp_cell.proofs.FrameLaws.{known_below, above_known, is_same, without_here, without_other, newest_last}
+use Rattle.sp_cell.proofs.Laws.{get_other, get_here, same_or, known_of_held, known_insert, held_not_away}
 use Rattle.sp_cell.specs.Map.{Map, Content, Own, Shared, Output, Away, Plain, IsHeld, output_spot}
 use Rattle.sp_code.specs.declared.code.Layout.{Layout}
 use Rattle.sp_code.specs.Memory.{Home, Frame}
 use Rattle.sp_code.specs.PlainStore.{plain, is_away, none_away}
+use Rattle.sp_code.proofs.Members.{above_members, member_above}
 use Rattle.sp_rules.specs.Chains.{Chain}
 use Rattle.sp_rules.specs.Holding.{Allowed, AllAllowed, AreOwn, Holding, input_spot}
-use Rattle.sp_rules.proofs.Lists.{member_front, member_back, member_either}
 use Rattle.sp_rules.proofs.Forking.{has_held}
 use Rattle.sp_rules.proofs.Keeping.{Keeps, all_keeps, keeps_same}
 
 -- ---- lists of numbers
-
-pub newest_last : (ms : List ℕ) (n : ℕ) → newest (ms ++ n ∷ []) ≡ n
-newest_last ms n =
-    let len = length-append ms (n ∷ []) in
-    ap (λ j. get_or (ms ++ n ∷ []) j 0) {x = length (ms ++ n ∷ []) - 1} {y = length ms} (omega (arith, len))
-    ∙ get_or-append_right ms (n ∷ []) (length ms) (length ms) 0 refl (omega arith)
-    ∙ ap (λ k. get_or (n ∷ []) k 0) {y = 0} (omega arith)
-
-above_members : (ns : List ℕ) (b : ℕ) → ((n : ℕ) → IsMember n ns → n < b) → above ns ≤ b
-above_members [] b h = omega arith
-above_members (n ∷ ns) b h = omega (arith, h n (inl refl), above_members ns b (λ k i. h k (inr i)))
-
-pub member_above : (ns : List ℕ) (n : ℕ) → IsMember n ns → n < above ns
-member_above [] n i = absurd i
-member_above (x ∷ ns) n (inl e) = omega (arith, e)
-member_above (x ∷ ns) n (inr i) = omega (arith, member_above ns n i)
 
 module _ (ls : List Layout) {Area : Type 0} (H : Area → List Home) (E : Area → ℕ → Type 0) where
   own_low : (base : ℕ) (us : List Area) (fs : List Frame) (ns : List ℕ) → AreOwn ls H E base us fs ns → (n : ℕ)
@@ -128,11 +112,8 @@ module _ (ls : List Layout) {Area : Type 0} (H : Area → List Home) (E : Area �
           before q k = ⊎_elim (λ (e : q ≡ s). subst (λ z. IsSome (map.get p.map z)) (sym e) was)
               (λ (o : q ≢ s). subst (λ z. IsSome z) (get_other p.map s c q o) k) (same_or q s)
 
-          away_held : (o : Option Content) → IsHeld o → o ≢ Some Away
-          away_held o i e = subst IsHeld e i
-
           not_away : (q : Spot) → map.get (map.insert p.map s c) q ≡ Some Away → (q ≡ s) ⊎ (q ≢ s) → ⊥
-          not_away q e (inl i) = away_held (Some c) held (sym (get_here p.map s c)
+          not_away q e (inl i) = held_not_away (Some c) held (sym (get_here p.map s c)
               ∙ ap (λ z. map.get (map.insert p.map s c) z) (sym i) ∙ e)
           not_away q e (inr o) = h.none_away q (sym (get_other p.map s c q o) ∙ e)
 

@@ -8,6 +8,7 @@ use Rattle.std.proofs.lemmas.Bool.{eqb-true, and_parts}
 use Rattle.std.proofs.lemmas.Option.{same_Some, slice_get_within}
 use Rattle.sp_base.proofs.Facts.{is_none_plus, is_plus_none, item_there, next_goes_left}
 use Rattle.sp_tree.specs.Interference.{IsMember, AllDifferent}
+use Rattle.sp_tree.proofs.Members.{member_front, member_either}
 use Rattle.sp_cell.specs.Map.{Plain}
 use Rattle.sp_code.specs.declared.code.Formal.{Formal}
 use Rattle.sp_code.specs.declared.code.Formal.TheVariants as formal
@@ -34,7 +35,6 @@ use Rattle.sp_rules.specs.Touched.{addresses, stored_by}
 use Rattle.sp_rules.proofs.Addresses.{addresses_around, around_real}
 use Rattle.sp_rules.proofs.Effects.{effects_around, may_effect, called_homes, handed_around, at_p}
 use Rattle.sp_code.specs.Tables.{child_at as table_child, child_by, first_index}
-use Rattle.sp_rules.proofs.Lists.{member_front, member_either}
 use Rattle.sp_rules.proofs.Pieces.{HaveRoom}
 use Rattle.sp_rules.proofs.Pushes.{KeepsCalls}
 use Rattle.sp_rules.proofs.Scoping.{found_layout, area_different}

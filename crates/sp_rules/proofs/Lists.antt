@@ -1,13 +1,14 @@
 -- Lists of numbers, frames and their ends.
 use Rattle.std.proofs.Common.{◌≡◌, ◌⊎◌, inl, inr, ⊎_elim, ℕ, zero, suc, ◌+◌, ◌-◌, ◌≤◌, ◌<◌, ◌==◌, List, [], ◌∷◌, ◌++◌}
-use Rattle.std.proofs.Common.{length, drop, Some, None, Bool, true, false, refl, sym, ap, ◌∙◌, subst, arith}
+use Rattle.std.proofs.Common.{length, drop, Some, Bool, true, false, refl, sym, ap, ◌∙◌, subst, arith}
 use Rattle.std.proofs.Common.{if◌then◌else◌}
 use Rattle.std.specs.Prelude.{slice_get}
 use Rattle.std.proofs.lemmas.Bool.{eqb-true}
 use Rattle.std.proofs.lemmas.List.{length-drop, drop_all}
 use Rattle.sp_base.proofs.Facts.{within_or_past}
 use Rattle.sp_tree.specs.Interference.{IsMember, AllDifferent}
-use Rattle.sp_cell.proofs.FrameLaws.{is_same, is_other}
+use Rattle.sp_tree.proofs.Members.{member_front, member_back}
+use Rattle.sp_cell.proofs.FrameLaws.{is_same}
 use Rattle.sp_code.specs.System.{place_of}
 
 pub member_or : (x : ℕ) (ys : List ℕ) → IsMember x ys ⊎ (IsMember x ys → ⊥)
@@ -18,20 +19,6 @@ member_or x (y ∷ ys) = go (x == y) refl (member_or x ys)
     go true e m = inl (inl (eqb-true x y e))
     go false e (inl m) = inl (inr m)
     go false e (inr m) = inr (λ h. ⊎_elim (λ (i : x ≡ y). absurd (cc (sym e ∙ is_same x y i))) m h)
-
-pub member_front : (x : ℕ) (ys zs : List ℕ) → IsMember x ys → IsMember x (ys ++ zs)
-member_front x [] zs h = absurd h
-member_front x (y ∷ ys) zs (inl e) = inl e
-member_front x (y ∷ ys) zs (inr h) = inr (member_front x ys zs h)
-
-pub member_back : (x : ℕ) (ys zs : List ℕ) → IsMember x zs → IsMember x (ys ++ zs)
-member_back x [] zs h = h
-member_back x (y ∷ ys) zs h = inr (member_back x ys zs h)
-
-pub member_either : (x : ℕ) (ys zs : List ℕ) → IsMember x (ys ++ zs) → IsMember x ys ⊎ IsMember x zs
-member_either x [] zs h = inr h
-member_either x (y ∷ ys) zs (inl e) = inl (inl e)
-member_either x (y ∷ ys) zs (inr h) = ⊎_elim (λ k. inl (inr k)) (λ k. inr k) (member_either x ys zs h)
 
 pub different_back : (ys zs : List ℕ) → AllDifferent (ys ++ zs) → AllDifferent zs
 different_back [] zs d = d
@@ -47,11 +34,6 @@ different_apart x (y ∷ ys) zs d (inl e) k = d.0 (subst (λ z. IsMember z (ys +
 different_apart x (y ∷ ys) zs d (inr h) k = different_apart x ys zs d.1 h k
 
 -- ---- places of variables
-
-pub place_none : (x n : ℕ) (ys : List ℕ) → (IsMember x ys → ⊥) → place_of x n ys ≡ None
-place_none x n [] h = refl
-place_none x n (y ∷ ys) h = ap (λ b. if b then Some n else place_of x (suc n) ys) (is_other x y (λ e. h (inl e)))
-    ∙ place_none x (suc n) ys (λ k. h (inr k))
 
 pub place_some : (x n : ℕ) (ys : List ℕ) → IsMember x ys → (k : ℕ) × (place_of x n ys ≡ Some (n + k))
     × (slice_get ys k ≡ Some x)

@@ -8,18 +8,18 @@ use Rattle.std.specs.FinMap as map
 use Rattle.std.proofs.lemmas.Option.{same_Some}
 use Rattle.sp_cell.specs.declared.cell.Cell.{Cell}
 use Rattle.sp_cell.specs.declared.spot.Address.{Address}
-use Rattle.sp_cell.proofs.Laws.{known_of_held}
+use Rattle.sp_cell.proofs.Laws.{known_of_held, piece_of_own}
 use Rattle.sp_cell.specs.Lists.{overwritten}
-use Rattle.sp_cell.specs.Map.{Map, Content, Own, Shared, Output, Away, Plain, IsOwn, IsPiece, cells_of, output_spot}
+use Rattle.sp_cell.specs.Map.{Map, Content, Own, Shared, Output, Away, Plain, IsOwn, cells_of, output_spot}
 use Rattle.sp_code.specs.Machine.{Config, At}
 use Rattle.sp_code.specs.Memory.{Setting, Home, Frame, Memory, cells_in, cells_at, put_cell, put_cells}
 use Rattle.sp_code.specs.PlainStore.{plain, piece_of}
 use Rattle.sp_code.specs.Sound.{CanPut}
 use Rattle.sp_code.specs.System.{spot_of, on_store}
+use Rattle.sp_code.proofs.StoreLaws.{held_of_cells}
 use Rattle.sp_rules.specs.Extents.{extent}
 use Rattle.sp_rules.specs.Holding.{Allowed, input_spot}
 use Rattle.sp_rules.specs.Running.{Base, HasConsole, Lives, Aims}
-use Rattle.sp_rules.proofs.Forking.{held_of_cells}
 use Rattle.sp_rules.proofs.Holdings.{head, holding_set}
 use Rattle.sp_rules.proofs.Keeping.{keeps_put}
 
@@ -106,16 +106,9 @@ module _ (g : Setting) {Area : Type 0} (H : Area → List Home) (E : Area → �
     can_put cs r own = record {
       own = own;
       in_range =
-          (piece_there (map.get n.store.map p.spot) own, room (map.get n.store.map p.spot) t.piece);
+          (piece_of_own (map.get n.store.map p.spot) own, room (map.get n.store.map p.spot) t.piece);
     }
       where
-        piece_there : (o : Option Content) → IsOwn o → IsPiece o
-        piece_there None h = absurd h
-        piece_there (Some (Own ds)) h = tt
-        piece_there (Some (Shared ds)) h = absurd h
-        piece_there (Some (Output bs)) h = absurd h
-        piece_there (Some Away) h = absurd h
-
         cells_there : (o : Option Content) → piece_of o ≡ Some t.cells → cells_of o ≡ t.cells
         cells_there None e = absurd (cc e)
         cells_there (Some (Own ds)) e = same_Some _ _ e

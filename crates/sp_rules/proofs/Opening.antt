@@ -8,12 +8,12 @@ use Rattle.std.specs.FinMap as map
 use Rattle.std.proofs.lemmas.Option.{same_Some, slice_get_within}
 use Rattle.sp_base.proofs.Facts.{below_two_or_not, item_there}
 use Rattle.sp_tree.specs.Interference.{IsMember}
-use Rattle.sp_cell.specs.declared.cell.Cell.{Cell}
+use Rattle.sp_tree.proofs.Members.{member_either}
 use Rattle.sp_cell.specs.declared.cell.Cell.TheVariants as cell
 use Rattle.sp_cell.specs.declared.spot.Spot.{Spot}
 use Rattle.sp_cell.specs.Frame.{with_pieces, root_map}
 use Rattle.sp_cell.proofs.FrameLaws.{known_pieces}
-use Rattle.sp_cell.proofs.Laws.{get_here, get_other, same_or}
+use Rattle.sp_cell.proofs.Laws.{get_here, get_other, same_or, own_away, pieces_not_away}
 use Rattle.sp_cell.specs.Map.{Map, Plain, Content, Own, Output, Away, IsOutput, output_spot, spot_cmp}
 use Rattle.sp_code.specs.declared.code.Layout.{Layout}
 use Rattle.sp_code.specs.Machine.{Config, layout_of}
@@ -34,31 +34,11 @@ use Rattle.sp_rules.specs.Running.{Lives}
 use Rattle.sp_rules.proofs.Chains.{spot_is, size_is}
 use Rattle.sp_rules.proofs.Effects.{effects_around}
 use Rattle.sp_rules.proofs.Firsts.{first_stands}
-use Rattle.sp_rules.proofs.Lists.{member_either, place_some}
+use Rattle.sp_rules.proofs.Lists.{place_some}
 use Rattle.sp_code.proofs.Pieces.{pieces_at}
 use Rattle.sp_rules.proofs.Scoping.{found_layout, programs, chained}
 
 -- ---- the map
-
-own_away : {cs : List Cell} → Some (Own cs) ≢ Some Away
-own_away e = cc e
-
-pieces_away : (m : Map) (n v : ℕ) (cs : List ℕ) → ((q : Spot) → map.get m q ≢ Some Away) → (q : Spot)
-    → map.get (with_pieces m n v cs) q ≢ Some Away
-pieces_away m n v [] g q = g q
-pieces_away m n v (c ∷ cs) g q = pieces_away
-    (map.insert m (record { frame = n; variable = v }) (Own (replicate c cell.Undefined))) n (v + 1) cs one q
-  where
-    one : (q : Spot) → map.get (map.insert m (record { frame = n; variable = v })
-        (Own (replicate c cell.Undefined))) q ≢ Some Away
-    one q e = ⊎_elim
-        (λ (i : q ≡ record { frame = n; variable = v }). own_away
-        (sym (get_here m (record { frame = n; variable = v }) (Own (replicate c cell.Undefined)))
-        ∙ ap (λ y. map.get (map.insert m (record { frame = n; variable = v }) (Own (replicate c cell.Undefined))) y)
-        (sym i) ∙ e))
-        (λ (o : q ≢ record { frame = n; variable = v }). g q
-        (sym (get_other m (record { frame = n; variable = v }) (Own (replicate c cell.Undefined)) q o) ∙ e))
-        (same_or q (record { frame = n; variable = v }))
 
 pieces_below : (m : Map) (n v : ℕ) (cs : List ℕ) (q : Spot) → q.variable < v
     → map.get (with_pieces m n v cs) q ≡ map.get m q
@@ -325,7 +305,7 @@ module _ (g : Setting) (k : Keeps g.code) (e : KeepsEffects g.code (Does g.code)
       own = refl;
       deep = refl;
       known = λ q h. inr (known_low q h);
-      none_away = pieces_away with_console 0 2 (sizes_of (layout_of g.code.layouts 0)) console_away;
+      none_away = pieces_not_away with_console 0 2 (sizes_of (layout_of g.code.layouts 0)) console_away;
       moved = λ q i. absurd i;
       old = λ q i j. i;
       console = λ c. ((λ i. i), inl input_known);

@@ -17,9 +17,7 @@ use Rattle.sp_code.specs.declared.code.Formal.TheVariants as formal
 use Rattle.sp_code.specs.Machine.{Entry, Number, Chan, Pointer, Cells, Link, Reply, fit_formals}
 use Rattle.sp_code.specs.Memory.{cell_at, cells_in, filled, put_cell, put_cells, cells_at}
 use Rattle.sp_code.specs.PlainStore.{plain, piece_of}
-
-abbrev at_frame : ℕ → ℕ → Spot
-at_frame n v = record { frame = n; variable = v }
+use Rattle.sp_code.proofs.Pieces.{spot_at as at_frame}
 
 -- there is a piece of so many cells
 pub record HasLength (o : Option Content) (n : ℕ) : Type 0 where

@@ -5,14 +5,15 @@ use Rattle.std.specs.Prelude.{IsSome, replicate, slice_get}
 use Rattle.std.proofs.lemmas.List.{length-append, length-replicate}
 use Rattle.std.specs.FinMap as map
 use Rattle.sp_tree.specs.Interference.{IsMember, AllDifferent}
+use Rattle.sp_tree.proofs.Members.{member_front, member_back, member_either}
 use Rattle.sp_cell.specs.declared.cell.Cell.{Cell}
 use Rattle.sp_cell.specs.declared.cell.Cell.TheVariants as cell
 use Rattle.sp_cell.specs.declared.spot.Spot.{Spot}
 use Rattle.sp_cell.specs.declared.spot.Address.{Address}
 use Rattle.sp_cell.specs.Frame.{next_frame, with_pieces}
 use Rattle.sp_cell.proofs.FrameLaws.{known_below}
-use Rattle.sp_cell.proofs.Laws.{get_other, get_here, same_or, known_of_held}
-use Rattle.sp_cell.specs.Map.{Map, Own, Away, Plain, IsHeld, output_spot, owned}
+use Rattle.sp_cell.proofs.Laws.{get_other, get_here, same_or, known_of_held, own_away, pieces_not_away}
+use Rattle.sp_cell.specs.Map.{Own, Away, Plain, IsHeld, output_spot, owned}
 use Rattle.sp_cell.specs.Spots.{In}
 use Rattle.sp_code.specs.declared.code.Formal.TheVariants as formal
 use Rattle.sp_code.specs.declared.code.Layout.{Layout}
@@ -25,7 +26,6 @@ use Rattle.sp_rules.specs.Holding.{Allowed, AllAllowed, Holding, input_spot}
 use Rattle.sp_rules.proofs.Calls.{chain_new, callee}
 use Rattle.sp_rules.proofs.Holdings.{head, rebound, next_low}
 use Rattle.sp_rules.proofs.Keeping.{all_keeps, keeps_same}
-use Rattle.sp_rules.proofs.Lists.{member_front, member_back, member_either}
 use Rattle.sp_code.proofs.Pieces.{pieces_other, pieces_at}
 use Rattle.sp_rules.proofs.Pieces.{HasLength, HaveRoom, filled_sized, filled_keeps}
 
@@ -76,30 +76,10 @@ module _ (ls : List Layout) {Area : Type 0} (H : Area → List Home) (E : Area �
     pub own : s.own ≡ p.own ++ N ∷ []
     pub moved : s.moved ≡ p.moved
 
-  not_away : (m : Map) (n v : ℕ) (cs : List ℕ) → ((q : Spot) → map.get m q ≢ Some Away) → (q : Spot)
-      → map.get (with_pieces m n v cs) q ≢ Some Away
-  not_away m n v [] g q = g q
-  not_away m n v (c ∷ cs) g q = not_away
-      (map.insert m (record { frame = n; variable = v }) (Own (replicate c cell.Undefined))) n (v + 1) cs one q
-    where
-      differ : {cs : List Cell} → Some (Own cs) ≢ Some Away
-      differ e = cc e
-
-      one : (q : Spot) → map.get (map.insert m (record { frame = n; variable = v })
-          (Own (replicate c cell.Undefined))) q ≢ Some Away
-      one q e = ⊎_elim
-          (λ (i : q ≡ record { frame = n; variable = v }). differ
-          (sym (get_here m (record { frame = n; variable = v }) (Own (replicate c cell.Undefined)))
-          ∙ ap (λ y. map.get (map.insert m (record { frame = n; variable = v })
-          (Own (replicate c cell.Undefined))) y) (sym i) ∙ e))
-          (λ (o : q ≢ record { frame = n; variable = v }). g q
-          (sym (get_other m (record { frame = n; variable = v }) (Own (replicate c cell.Undefined)) q o) ∙ e))
-          (same_or q (record { frame = n; variable = v }))
-
   fair_pushed : Fair (plain.pushed p l.sizes)
   fair_pushed = record {
     other = λ q o. pieces_other p.map N 0 l.sizes q o;
-    away = not_away p.map N 0 l.sizes h.none_away;
+    away = pieces_not_away p.map N 0 l.sizes h.none_away;
     own = refl;
     moved = refl;
   }
@@ -110,7 +90,7 @@ module _ (ls : List Layout) {Area : Type 0} (H : Area → List Home) (E : Area �
     other = λ q o. get_other s.map (record { frame = N; variable = i }) (Own cs) q
         (λ e. o (ap (λ (z : Spot). z.frame) e)) ∙ g.other q o;
     away = λ q e. ⊎_elim
-        (λ (j : q ≡ record { frame = N; variable = i }). differ
+        (λ (j : q ≡ record { frame = N; variable = i }). own_away
         (sym (get_here s.map (record { frame = N; variable = i }) (Own cs))
         ∙ ap (λ y. map.get (owned s.map (record { frame = N; variable = i }) cs) y) (sym j) ∙ e))
         (λ (o : q ≢ record { frame = N; variable = i }). g.away q
@@ -119,10 +99,6 @@ module _ (ls : List Layout) {Area : Type 0} (H : Area → List Home) (E : Area �
     own = g.own;
     moved = g.moved;
   }
-    where
-      differ : {cs : List Cell} → Some (Own cs) ≢ Some Away
-      differ e = cc e
-
   fair : Fair store
   fair = filled_keeps N Fair fair_written 0 es (plain.pushed p l.sizes) fair_pushed
 

@@ -8,6 +8,7 @@ use Rattle.std.specs.FinMap as map
 use Rattle.std.proofs.lemmas.Option.{same_Some, slice_get_within}
 use Rattle.sp_base.proofs.Facts.{item_there}
 use Rattle.sp_tree.specs.Interference.{IsMember, AllDifferent}
+use Rattle.sp_tree.proofs.Members.{member_at}
 use Rattle.sp_cell.specs.Map.{Plain, Content, Own, Shared, Output, Away, IsOutput, output_of, output_spot}
 use Rattle.sp_code.specs.declared.code.Formal.{Formal}
 use Rattle.sp_code.specs.declared.code.Layout.{Layout}
@@ -39,19 +40,14 @@ in_split x [] zs h = inr h
 in_split x (y ∷ ys) zs (inl e) = inl (inl e)
 in_split x (y ∷ ys) zs (inr h) = ⊎_elim (λ k. inl (inr k)) (λ k. inr k) (in_split x ys zs h)
 
-listed : (xs : List ℕ) (n x : ℕ) → slice_get xs n ≡ Some x → IsMember x xs
-listed [] n x e = absurd (cc e)
-listed (y ∷ xs) zero x e = inl (sym (same_Some _ _ e))
-listed (y ∷ xs) (suc n) x e = inr (listed xs n x e)
-
 -- different numbers stand at one place each
 one_place : (xs : List ℕ) (n m x : ℕ) → AllDifferent xs → slice_get xs n ≡ Some x → slice_get xs m ≡ Some x → n ≡ m
 one_place [] n m x d e f = absurd (cc e)
 one_place (y ∷ xs) zero zero x d e f = refl
 one_place (y ∷ xs) zero (suc m) x d e f = absurd
-    (d.0 (subst (λ z. IsMember z xs) (sym (same_Some _ _ e)) (listed xs m x f)))
+    (d.0 (subst (λ z. IsMember z xs) (sym (same_Some _ _ e)) (member_at xs m x f)))
 one_place (y ∷ xs) (suc n) zero x d e f = absurd
-    (d.0 (subst (λ z. IsMember z xs) (sym (same_Some _ _ f)) (listed xs n x e)))
+    (d.0 (subst (λ z. IsMember z xs) (sym (same_Some _ _ f)) (member_at xs n x e)))
 one_place (y ∷ xs) (suc n) (suc m) x d e f = ap suc (one_place xs n m x d.1 e f)
 
 -- the size behind those of the formals
@@ -166,14 +162,14 @@ module _ (g : Setting) (k : Keeps g.code) (e : KeepsEffects g.code (Does g.code)
 
     mine_there : IsMember variable.0 (variables_of (layout_of g.code.layouts f))
     mine_there = subst (λ o. IsMember variable.0 (variables_of o)) (sym at)
-        (listed l.variables (length l.formals) variable.0 variable.1)
+        (member_at l.variables (length l.formals) variable.0 variable.1)
 
     block : (l.block == 0) ≡ false
     block = ap (λ z. z == 0) (found_layout g.code.layouts f l at).0 ∙ inner
 
     place : place_of variable.0 (first_number l) l.variables ≡ Some (length l.formals)
     place =
-        let w = place_some variable.0 0 l.variables (listed l.variables (length l.formals) variable.0 variable.1) in
+        let w = place_some variable.0 0 l.variables (member_at l.variables (length l.formals) variable.0 variable.1) in
         ap (λ t. place_of variable.0 (if t then 2 else 0) l.variables) block ∙ w.1
         ∙ ap Some (zero-add w.0 ∙ one_place l.variables w.0 (length l.formals) variable.0 different w.2 variable.1)
 

@@ -10,9 +10,9 @@ use Rattle.sp_cell.specs.declared.cell.Cell.{Cell}
 use Rattle.sp_cell.specs.declared.spot.Spot.{Spot}
 use Rattle.sp_cell.specs.Fork.{taken}
 use Rattle.sp_cell.proofs.FrameLaws.{is_same}
-use Rattle.sp_cell.proofs.Laws.{known_of_held}
+use Rattle.sp_cell.proofs.Laws.{known_of_held, held_not_away}
 use Rattle.sp_cell.specs.Map.{Map, Content, Away, Plain, IsHeld, IsOutput, output_spot}
-use Rattle.sp_cell.proofs.Plan.{in_or, not_both, get_taken_in, get_taken_out, in_front, in_back}
+use Rattle.sp_cell.proofs.Plan.{in_or, not_both, get_taken_in, get_taken_out, in_front, in_back, distinct_back}
 use Rattle.sp_cell.specs.Spots.{In, NotIn, IsDistinct}
 use Rattle.sp_code.specs.Machine.{Config, At}
 use Rattle.sp_code.specs.Memory.{Setting, Home, Memory, position_in}
@@ -32,10 +32,6 @@ once : (q : Spot) (xs ys : List Spot) → IsDistinct (xs ++ ys) → In q xs → 
 once q [] ys d i j = i
 once q (x ∷ xs) ys d (inl e) j = not_both x (xs ++ ys) (in_back x xs ys (subst (λ s. In s ys) e j)) d.0
 once q (x ∷ xs) ys d (inr i) j = once q xs ys d.1 i j
-
-back_distinct : (xs ys : List Spot) → IsDistinct (xs ++ ys) → IsDistinct ys
-back_distinct [] ys d = d
-back_distinct (x ∷ xs) ys d = back_distinct xs ys d.1
 
 module _ (g : Setting) {Area : Type 0} (H : Area → List Home) (E : Area → ℕ → Type 0) (T : List Area
     → Config (Memory Plain) → Type 0) (Room Cells : ℕ → ℕ → Type 0) where
@@ -78,7 +74,7 @@ module _ (g : Setting) {Area : Type 0} (H : Area → List Home) (E : Area → �
 
     pub distinct_rest : (rs : List ℕ) → IsDistinct (all rs) → IsDistinct (all (without r rs))
     distinct_rest [] d = d
-    distinct_rest (x ∷ rs) d = go (r == x) (distinct_rest rs (back_distinct (base x).moved (all rs) d))
+    distinct_rest (x ∷ rs) d = go (r == x) (distinct_rest rs (distinct_back (base x).moved (all rs) d))
       where
         cut : (xs : List Spot) → IsDistinct (xs ++ all rs) → IsDistinct (all (without r rs))
             → IsDistinct (xs ++ all (without r rs))
@@ -91,14 +87,14 @@ module _ (g : Setting) {Area : Type 0} (H : Area → List Home) (E : Area → �
         )
 
         go : (t : Bool) → IsDistinct (all (without r rs)) → IsDistinct (all (cond t rs (x ∷ without r rs)))
-        go true h = back_distinct (base x).moved (all rs) d
+        go true h = distinct_back (base x).moved (all rs) d
         go false h = cut (base x).moved d h
 
     pub apart_rest : (rs : List ℕ) (q : Spot) → IsMember r rs → IsDistinct (all rs) → In q (base r).moved
         → In q (all (without r rs)) → ⊥
     apart_rest [] q m d i j = m
     apart_rest (x ∷ rs) q m d i j = go (r == x) refl m j
-        (λ m k. apart_rest rs q m (back_distinct (base x).moved (all rs) d) i k)
+        (λ m k. apart_rest rs q m (distinct_back (base x).moved (all rs) d) i k)
       where
         go : (t : Bool) → r == x ≡ t → IsMember r (x ∷ rs) → In q (all (cond t rs (x ∷ without r rs)))
             → (IsMember r rs → In q (all (without r rs)) → ⊥) → ⊥
@@ -255,9 +251,6 @@ module _ (g : Setting) {Area : Type 0} (H : Area → List Home) (E : Area → �
             (subst (λ x. Has g.code.layouts (base r).frames c.store.map x output_spot) (output_at h con)
             (is output_spot h))
 
-    held_away : (o : Option Content) → IsHeld o → o ≢ Some Away
-    held_away o i e = subst IsHeld e i
-
     either : (q : Spot) (P : Option Content → Type 0) → (In q c.store.moved → P (map.get c.store.map q))
         → (NotIn q c.store.moved → P (map.get j.whole q)) → P (map.get whole q)
     either q P x y = ⊎_elim (λ i. subst P (sym (whole_in q i)) (x i)) (λ o. subst P (sym (whole_out q o)) (y o))
@@ -275,7 +268,7 @@ module _ (g : Setting) {Area : Type 0} (H : Area → List Home) (E : Area → �
         deep = hold.deep;
         known = λ q k. hold.known q (⊎_elim (λ i. known_whole q i) (λ o. subst (λ z. IsSome z) (whole_out q o) k)
             (in_or q c.store.moved));
-        none_away = λ q. either q (λ o. o ≢ Some Away) (λ i. held_away (map.get c.store.map q) (l.holding.moved q i))
+        none_away = λ q. either q (λ o. o ≢ Some Away) (λ i. held_not_away (map.get c.store.map q) (l.holding.moved q i))
             (λ o. hold.none_away q);
         moved = λ q m. either q IsHeld (λ i. l.holding.moved q i) (λ o. hold.moved q m);
         old = hold.old;

@@ -9,6 +9,7 @@ use Rattle.std.proofs.lemmas.List.{length-drop}
 use Rattle.std.proofs.lemmas.Option.{none-some, same_Some}
 use Rattle.sp_base.proofs.Facts.{is_none_plus, next_goes_left}
 use Rattle.sp_tree.specs.Interference.{IsMember, AllDifferent}
+use Rattle.sp_tree.proofs.Members.{member_front, member_either}
 use Rattle.sp_cell.specs.declared.spot.Address.{Address}
 use Rattle.sp_cell.proofs.FrameLaws.{is_same, is_other}
 use Rattle.sp_code.specs.declared.code.Formal.{Formal}
@@ -32,7 +33,7 @@ use Rattle.sp_rules.specs.Named.{is_plain, is_reference, is_block, is_none, Lies
 use Rattle.sp_rules.specs.Named.{declared, declared_in, declared_by}
 use Rattle.sp_rules.specs.Keeps.{Keeps}
 use Rattle.sp_rules.specs.Chains.{Chain, variables_of, variables_in, all_variables, stands, extends}
-use Rattle.sp_rules.proofs.Lists.{member_front, member_either, place_some}
+use Rattle.sp_rules.proofs.Lists.{place_some}
 use Rattle.sp_rules.proofs.Chains.{last_up, up_length, spot_is, size_is, stands_up, extends_up}
 use Rattle.sp_rules.proofs.Turns.{Scoped}
 

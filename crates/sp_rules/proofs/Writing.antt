@@ -7,6 +7,7 @@ use Rattle.std.specs.FinMap as map
 use Rattle.std.proofs.lemmas.Option.{same_Some}
 use Rattle.sp_base.proofs.Facts.{below_two_or_not}
 use Rattle.sp_tree.specs.Interference.{IsMember}
+use Rattle.sp_tree.proofs.Members.{member_front, member_either}
 use Rattle.sp_cell.specs.declared.spot.Spot.{Spot}
 use Rattle.sp_cell.specs.declared.spot.Address.{Address}
 use Rattle.sp_cell.specs.Frame.{next_frame}
@@ -47,7 +48,7 @@ use Rattle.sp_rules.proofs.Forking.{has_held}
 use Rattle.sp_rules.proofs.Holdings.{head}
 use Rattle.sp_rules.proofs.Holds.{call_given}
 use Rattle.sp_rules.proofs.Instances.{keeps_calls, actual_stored, outer_effect}
-use Rattle.sp_rules.proofs.Lists.{member_or, member_front, member_either}
+use Rattle.sp_rules.proofs.Lists.{member_or}
 use Rattle.sp_rules.proofs.Pieces.{filled_keeps}
 use Rattle.sp_rules.proofs.Pushes.{KeepsCalls}
 

@@ -2,7 +2,6 @@
 use Rattle.std.proofs.Common.{◌≡◌, ℕ, zero, suc, List, [], ◌∷◌, Some, None, slice_get, slice_set, map}
 use Rattle.std.proofs.Common.{refl, ap, sym}
 use Rattle.std.specs.Option.{option_map}
-use Rattle.sp_base.proofs.Facts.{no_get_of_map, get_of_map}
 use Rattle.sp_tree.specs.Cells.{first_or}
 use Rattle.sp_meaning.specs.Values.{Value, Undefined, Parts, Then, values, item, with_item}
 use Rattle.sp_meaning.specs.Values.{set_at}

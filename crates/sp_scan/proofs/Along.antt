@@ -222,10 +222,6 @@ pub strips_done : (bytes front rest left : List ℕ) → StripsSoFar bytes front
     → bytes ≡ front ++ rest
 strips_done bytes front rest left s e = s.from rest (sym (ap (λ l. l ++ rest) e))
 
-pub run_shorter : {p : ℕ → Bool} {bs r : List ℕ} → Run p bs r → length r ≤ length bs
-run_shorter run_ends = omega arith
-run_shorter (run_goes_on b e x) = omega (arith, run_shorter x)
-
 -- the value of digits, digit by digit
 pub record ValueSoFar (digits rest : List ℕ) (value : ℕ) : Type 0 where
   pub same : digits_value 0 digits ≡ digits_value value rest

@@ -15,13 +15,14 @@ use Rattle.sp_tree.specs.Lexemes.{BraceBody, brace_ends, brace_byte, StarBody, s
 use Rattle.sp_tree.specs.Lexemes.{brace_comment, star_comment, opens_comment, Longest}
 use Rattle.sp_tree.specs.Scans.{offset, Scans, nothing, blank, comment, token, BreaksHere, BreaksAlong, LongText}
 use Rattle.sp_tree.specs.Scans.{BreaksLexis, IsTokens}
+use Rattle.sp_tree.proofs.Earlier.{Earlier}
 use Rattle.sp_grammar.proofs.Rising.{lexeme_length, comment_length}
-use Rattle.sp_grammar.proofs.Order.{Earlier, later, no_sooner, rises}
+use Rattle.sp_grammar.proofs.Order.{later, no_sooner, rises}
 use Rattle.sp_grammar.proofs.OneList.{Tail, here, there, tail_length, tail_same, lexeme_tail, one_comment, same_rest}
 use Rattle.sp_grammar.proofs.OneList.{blank_opens, opens, differ, not_blank}
+use Rattle.sp_grammar.proofs.Scanned.{scans_chain, taken_more, taken_none}
 use Rattle.sp_scan.specs.Finds.{Item, IsGap, blank_gap, comment_gap, FirstHere}
 use Rattle.sp_scan.proofs.Along.{line_by, column_by}
-use Rattle.sp_scan.proofs.Tokens.{taken_more, taken_none}
 
 -- what is left
 tail_chain : {a b c : List ℕ} → Tail b a → Tail c b → Tail c a
@@ -53,13 +54,6 @@ scans_tail nothing = here
 scans_tail (blank b h x) = there (scans_tail x)
 scans_tail (comment c x) = tail_chain (comment_tail c) (scans_tail x)
 scans_tail (token k o l x) = tail_chain (lexeme_tail l.spelled) (scans_tail x)
-
-scans_chain : {text bs m r : List ℕ} {ts us : List Token} → Scans text bs m ts → Scans text m r us
-    → Scans text bs r (ts ++ us)
-scans_chain nothing y = y
-scans_chain (blank b h x) y = blank b h (scans_chain x y)
-scans_chain (comment c x) y = comment c (scans_chain x y)
-scans_chain (token k o l x) y = token k o l (scans_chain x y)
 
 -- from the longer of two rests to the shorter one
 goes_on : {text bs r q : List ℕ} {ts us : List Token} → Scans text bs r ts → Scans text bs q us → length q ≤ length r

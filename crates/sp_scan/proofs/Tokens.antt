@@ -1,17 +1,15 @@
 -- The longest token at a place.
-use Rattle.std.proofs.Common.{◌≡◌, ◌≢◌, ℕ, suc, ◌+◌, ◌-◌, ◌<◌, ◌≤◌, true, false, List, [], ◌∷◌, ◌++◌, length}
-use Rattle.std.proofs.Common.{length-append, map, take, Option, Some, None, ◌⊎◌, inl, inr, refl, sym, ap, ◌∙◌, subst}
+use Rattle.std.proofs.Common.{◌≡◌, ◌≢◌, ℕ, ◌+◌, ◌-◌, ◌<◌, ◌≤◌, true, false, List, [], ◌∷◌, ◌++◌, length}
+use Rattle.std.proofs.Common.{length-append, Option, Some, None, ◌⊎◌, inl, inr, refl, sym, ap, ◌∙◌, subst}
 use Rattle.std.proofs.Common.{arith}
 use Rattle.std.specs.Prelude.{slice_get}
 use Rattle.std.specs.Bool.{IsTrue}
-use Rattle.std.proofs.lemmas.Bool.Decides.{nat_tests}
-use Rattle.sp_scan.proofs.Along.{run_shorter}
 use Rattle.std.proofs.lemmas.Option.{slice_get_within}
 use Rattle.std.proofs.lemmas.Bool.{cases_lt}
 use Rattle.sp_tree.specs.declared.token.Kind.{Kind}
 use Rattle.sp_tree.specs.declared.token.Kind.TheVariants as kind
-use Rattle.sp_tree.specs.Characters.{lower, is_letter, is_digit, is_name_byte}
-use Rattle.sp_tree.specs.Lexemes.{signs, Run, run_ends, run_goes_on, TextBody, text_ends, two_quotes, text_byte}
+use Rattle.sp_tree.specs.Characters.{is_letter, is_digit, is_name_byte}
+use Rattle.sp_tree.specs.Lexemes.{signs, Run, TextBody, text_ends, two_quotes, text_byte}
 use Rattle.sp_tree.specs.Lexemes.{BraceBody, StarBody, Comment, brace_comment, star_comment, lowered, Lexeme, name}
 use Rattle.sp_tree.specs.Lexemes.{word, number, text, sign, Longest}
 use Rattle.sp_tree.specs.Scans.{NoToken}
@@ -235,27 +233,3 @@ within v h = split (cases_lt 9223372036854775807 v)
     split : (9223372036854775807 < v) ⊎ (v ≤ 9223372036854775807) → v ≤ 9223372036854775807
     split (inl l) = absurd (no_truth (h l))
     split (inr l) = l
-
--- digits are their own lower case
-lower_digit : (b : ℕ) → is_digit b ≡ true → lower b ≡ b
-lower_digit b h = grind (arith, nat_tests)
-
-pub taken_more : (b : ℕ) (bs r : List ℕ) → length r ≤ length bs
-    → take (length (b ∷ bs) - length r) (b ∷ bs) ≡ b ∷ take (length bs - length r) bs
-taken_more b bs r l = let e : length (b ∷ bs) - length r ≡ suc (length bs - length r) = omega arith in
-    ap (λ n. take n (b ∷ bs)) e
-
-pub taken_none : (r : List ℕ) → take (length r - length r) r ≡ []
-taken_none r = let e : length r - length r ≡ 0 = omega arith in ap (λ n. take n r) e
-
-lower_run : {bs r : List ℕ} → Run is_digit bs r
-    → map lower (take (length bs - length r) bs) ≡ take (length bs - length r) bs
-lower_run {r = r} run_ends = ap (map lower) (taken_none r) ∙ sym (taken_none r)
-lower_run {r = r} (run_goes_on {bs = bs} b h x) =
-    ap (map lower) (taken_more b bs r (run_shorter x)) ∙ (λ i. lower_digit b h i ∷ lower_run x i)
-    ∙ sym (taken_more b bs r (run_shorter x))
-
-pub lower_number : {bs r : List ℕ} → Lexeme kind.Number bs r → lowered bs r ≡ take (length bs - length r) bs
-lower_number {r = r} (number {bs = bs} b h x) =
-    ap (map lower) (taken_more b bs r (run_shorter x)) ∙ (λ i. lower_digit b h i ∷ lower_run x i)
-    ∙ sym (taken_more b bs r (run_shorter x))

@@ -1,8 +1,7 @@
 -- What the code finds is the first of all broken rules of names of a program.
-use Rattle.std.proofs.Common.{◌≡◌, refl, ap, sym, ◌∙◌, ℕ, List, [], ◌∷◌, ◌++◌, Option, Some, None, Bool, true, false}
+use Rattle.std.proofs.Common.{◌≡◌, refl, sym, ℕ, List, [], ◌∷◌, Option, Some, None, Bool, true, false}
 use Rattle.std.proofs.Common.{if◌then◌else◌, ◌&&◌}
 use Rattle.sp_base.specs.declared.place.Place.{Place}
-use Rattle.sp_base.specs.declared.halt.Refusal.{Refusal}
 use Rattle.sp_tree.specs.declared.checked.Role.{Role}
 use Rattle.sp_tree.specs.declared.meaning.Passing.{Passing}
 use Rattle.sp_tree.specs.declared.syntax.Name.{Name}
@@ -19,7 +18,7 @@ use Rattle.sp_tree.specs.declared.meaning.Meaning.TheVariants as meaning
 use Rattle.sp_tree.specs.declared.meaning.Sort.TheVariants as sort
 use Rattle.sp_tree.specs.NameRules.{Site, broken, aims, same_place}
 use Rattle.sp_tree.specs.NameWalk as w
-use Rattle.sp_tree.specs.NameFirst.{Onward, none_more, both, at_site, together, all_at, names_first, names_broken}
+use Rattle.sp_tree.specs.NameFirst.{none_more, both, at_site, together, all_at, names_first, names_broken}
 use Rattle.sp_tree.specs.PlainSyntax.{Expression, At, ExpressionForm, Number, Quoted, Read, Apply, Unary, Binary}
 use Rattle.sp_tree.specs.PlainSyntax.{Variable, Entire, Selector, Index, Field, Selectors, Whole, Select, Argument}
 use Rattle.sp_tree.specs.PlainSyntax.{Pass, Width, NoWidth, Within, Arguments, NoArgument, AndArgument, Statement, Does}
@@ -27,6 +26,7 @@ use Rattle.sp_tree.specs.PlainSyntax.{Form, Empty, Assign, Call, Sequence, If, W
 use Rattle.sp_tree.specs.PlainSyntax.{Forall, Assume, Other, NoElse, Else, Statements, NoStatement, AndThen, Arm, On}
 use Rattle.sp_tree.specs.PlainSyntax.{Arms, NoArm, Or, Branches, NoBranch, Beside, Part, Const, Kind, Var, Proc, Parts}
 use Rattle.sp_tree.specs.PlainSyntax.{NoPart, Declare, Program}
+use Rattle.sp_tree.proofs.Gathering.{lesser_none, Leads, no_more, follows}
 
 -- what holds of two ways to gather, at nothing, at a site and of two parts, holds of them at each tree
 module _ {M N : Type 0} (none : M) (join : M → M → M) (site : Env → Site → M) (none2 : N) (join2 : N → N → N)
@@ -264,30 +264,12 @@ module _ {M N : Type 0} (none : M) (join : M → M → M) (site : Env → Site �
   program_leads p = and _ _ _ _ (files_leads [] p.heading)
       (and _ _ _ _ (parts_leads _ _ p.block.parts) (statement_leads _ _ p.block.body))
 
-taken_append : (xs ys : List Refusal) (given : Found) → taken (xs ++ ys) given ≡ taken ys (taken xs given)
-taken_append [] ys given = refl
-taken_append (x ∷ xs) ys given = taken_append xs ys (lesser given (Some x))
-
-lesser_none : (a : Found) → a ≡ lesser a None
-lesser_none None = refl
-lesser_none (Some x) = refl
-
 taken_listed : (f given : Found) → taken (listed f) given ≡ lesser given f
 taken_listed None given = lesser_none given
 taken_listed (Some r) given = refl
 
--- a list leads to what goes on from it
-abbrev Leads : List Refusal → Onward → Type 0
-Leads rs f = (given : Found) → taken rs given ≡ f given
-
 at_one : (env : Env) (s : Site) → Leads (all_at env s) (at_site env s)
 at_one env s given = taken_listed (broken env s) given
-
-no_more : Leads [] none_more
-no_more given = refl
-
-follows : (xs ys : List Refusal) (f g : Onward) → Leads xs f → Leads ys g → Leads (together xs ys) (both f g)
-follows xs ys f g p q given = taken_append xs ys given ∙ q (taken xs given) ∙ ap g (p given)
 
 -- the first broken rule is the first of all
 pub first_of_all : (p : Program) → names_first p ≡ taken (names_broken p) None

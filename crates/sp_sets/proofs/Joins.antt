@@ -2,7 +2,6 @@
 use Rattle.std.proofs.Common.{◌≡◌, ℕ, zero, suc, ◌+◌, ◌<◌, List, [], ◌∷◌, ◌++◌, Option, Some, None, slice_get, refl}
 use Rattle.std.proofs.Common.{sym, ap, ap₂, ◌∙◌, subst, append_assoc, arith}
 use Rattle.std.specs.Prelude.{◌≢◌, codes, length, get_or}
-use Rattle.sp_base.proofs.Facts.{item_is}
 use Rattle.sp_sets.specs.Forks.{tree_lines}
 use Rattle.sp_sets.specs.Orders.{IsInOrder, line_cmp}
 use Rattle.sp_sets.specs.SetsText.{IsBoth, IsImplicit, IsLine, IsLineAt, IsOfBlock, IsSetsText, IsVariables, Joined}

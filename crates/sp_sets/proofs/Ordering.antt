@@ -14,7 +14,7 @@ use Rattle.std.proofs.lemmas.List.Elements.{All-from_get_or, recursion_from_All}
 use Rattle.std.proofs.lemmas.List.Sorted.{ranks_by, sorted_far, sum_by-IsPermutation}
 use Rattle.std.proofs.lemmas.List.Sums.{sum_by-cons}
 use Rattle.sp_base.specs.declared.place.Place.{Place}
-use Rattle.sp_base.specs.Order.{both_tie, IsTie}
+use Rattle.sp_base.specs.Order.{both_tie}
 use Rattle.sp_sets.specs.declared.line.Line.{Line}
 use Rattle.sp_sets.specs.Orders.{IsInOrder, line_cmp, part_number, place_cmp, stand, variable_cmp}
 use Rattle.sp_tree.specs.declared.checked.Variable.{Variable}

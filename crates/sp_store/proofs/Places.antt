@@ -23,7 +23,7 @@ use Rattle.sp_store.specs.Layout.{content, pairs, layout, IsPlace, IsGap, AllKno
 use Rattle.sp_cell.specs.Spots.{DistinctByIndex}
 use Rattle.sp_cell.specs.Frame.{above, frames, without}
 use Rattle.sp_cell.proofs.FrameLaws.{above_at, without_here, without_other}
-use Rattle.sp_cell.proofs.Laws.{same_map}
+use Rattle.sp_cell.proofs.Laws.{same_map, apart_less, apart_greater}
 use Rattle.std.proofs.lemmas.List.{get_or_default, get_or-take, get_or-drop, length-take-le, length-drop, length-take}
 use Rattle.std.proofs.lemmas.List.{length-append}
 
@@ -31,12 +31,6 @@ index_le : (r : Ordering) → ordering_index r ≤ 2
 index_le Less = omega arith
 index_le Equal = omega arith
 index_le Greater = omega arith
-
-apart_less : (r : Ordering) → r ≡ Less → r ≡ Equal → ⊥
-apart_less r p q = cc
-
-apart_greater : (r : Ordering) → r ≡ Greater → r ≡ Equal → ⊥
-apart_greater r p q = cc
 
 both : (a b : Bool) → T a → T b → T (a && b)
 both true b p q = q

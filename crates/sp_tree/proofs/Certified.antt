@@ -91,7 +91,7 @@ index_is role.Reference h = absurd (cc h)
 index_is role.Index h = refl
 index_is role.Answer h = absurd (cc h)
 
-answer_is : (r : Role) → is_answer r ≡ true → r ≡ role.Answer
+pub answer_is : (r : Role) → is_answer r ≡ true → r ≡ role.Answer
 answer_is role.Console h = absurd (cc h)
 answer_is role.Local h = absurd (cc h)
 answer_is role.Value h = absurd (cc h)

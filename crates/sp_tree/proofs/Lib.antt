@@ -1,3 +1,6 @@
+pub mod Earlier
+pub mod Gathering
+pub mod Members
 pub mod UsesOf
 pub mod Certified
 pub mod Closure

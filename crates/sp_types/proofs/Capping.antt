@@ -5,7 +5,6 @@ use Rattle.std.specs.Prelude.{option_map, min, sum, slice_get, nat_lt, nat_eq, i
 use Rattle.std.proofs.Math.Nat.{mul-le-mul_right, mul_comm, le_of_lt}
 use Rattle.std.proofs.lemmas.Option.{slice_get-map}
 use Rattle.std.proofs.lemmas.List.{map-append}
-use Rattle.std.proofs.lemmas.List.Sums.{sum-map, sum_by-cons}
 use Rattle.std.proofs.lemmas.Bool.Decides.{leb_tells, nat_tests}
 use Rattle.sp_base.specs.declared.place.Place.{Place}
 use Rattle.sp_tree.specs.declared.checked.KindOf.{KindOf}

@@ -1,7 +1,6 @@
 -- The first broken rule of types is the first of all that are broken.
-use Rattle.std.proofs.Common.{◌≡◌, ◌+◌, refl, ap, sym, ◌∙◌, ℕ, List, [], ◌∷◌, ◌++◌, Option, Some, None}
+use Rattle.std.proofs.Common.{◌≡◌, ◌+◌, refl, sym, ℕ, List, [], ◌∷◌, Option, Some, None}
 use Rattle.sp_base.specs.declared.place.Place.{Place}
-use Rattle.sp_base.specs.declared.halt.Refusal.{Refusal}
 use Rattle.sp_tree.specs.declared.checked.Variable as checked
 use Rattle.sp_tree.specs.declared.operators.StandardFn.{StandardFn}
 use Rattle.sp_tree.specs.declared.meaning.StandardProcedure.{StandardProcedure}
@@ -13,8 +12,8 @@ use Rattle.sp_tree.specs.declared.named.NamedKind.{NamedKind}
 use Rattle.sp_tree.specs.declared.named.NamedKindForm.{NamedKindForm}
 use Rattle.sp_tree.specs.declared.named.NamedKindForm.TheVariants as form
 use Rattle.sp_tree.specs.declared.named.NamedAnswer.{NamedAnswer}
-use Rattle.sp_tree.specs.Found.{Found, lesser, taken, listed}
-use Rattle.sp_tree.specs.NameFirst.{Onward, none_more, both, together}
+use Rattle.sp_tree.specs.Found.{Found, taken, listed}
+use Rattle.sp_tree.specs.NameFirst.{none_more, both, together}
 use Rattle.sp_tree.specs.PlainNamed.{Expression, At, ExpressionForm, Number, Quoted, Constant, Read, Apply, Standard}
 use Rattle.sp_tree.specs.PlainNamed.{Unary, Binary, Variable, Entire, Selector, Index, Field, Selectors, Whole, Select}
 use Rattle.sp_tree.specs.PlainNamed.{Argument, Pass, Width, NoWidth, Within, Arguments, NoArgument, AndArgument}
@@ -25,30 +24,13 @@ use Rattle.sp_types.specs.declared.tables.Ordinal.{Ordinal}
 use Rattle.sp_types.specs.Tables.{Env, const_value, counted, indexed, numbers_of, constants_of, env_of}
 use Rattle.sp_types.specs.Kinds.{expression_kind}
 use Rattle.sp_tree.specs.Cells.{sizes}
+use Rattle.sp_tree.proofs.Gathering.{lesser_none, Leads, no_more, follows}
 use Rattle.sp_types.specs.TypeWalk as w
 use Rattle.sp_types.specs.TypeFirst.{at_node, types_broken, types_first}
-
-taken_append : (xs ys : List Refusal) (given : Found) → taken (xs ++ ys) given ≡ taken ys (taken xs given)
-taken_append [] ys given = refl
-taken_append (x ∷ xs) ys given = taken_append xs ys (lesser given (Some x))
-
-lesser_none : (a : Found) → a ≡ lesser a None
-lesser_none None = refl
-lesser_none (Some x) = refl
-
--- a list leads to what goes on from it
-abbrev Leads : List Refusal → Onward → Type 0
-Leads rs f = (given : Found) → taken rs given ≡ f given
 
 at_one : (r : Found) → Leads (listed r) (at_node r)
 at_one None given = lesser_none given
 at_one (Some r) given = refl
-
-no_more : Leads [] none_more
-no_more given = refl
-
-follows : (xs ys : List Refusal) (f g : Onward) → Leads xs f → Leads ys g → Leads (together xs ys) (both f g)
-follows xs ys f g p q given = taken_append xs ys given ∙ q (taken xs given) ∙ ap g (p given)
 
 -- what holds of two ways to gather, at nothing, at a node and of two parts, holds of them at each tree
 module _ {M N : Type 0} (none : M) (join : M → M → M) (site : Found → M) (none2 : N) (join2 : N → N → N)

@@ -16,6 +16,7 @@ use Rattle.sp_tree.specs.PlainNamed.{Other, NoElse, Else, Statements, NoStatemen
 use Rattle.sp_tree.specs.PlainNamed.{Branches, NoBranch, Beside, Block, Program}
 use Rattle.sp_tree.specs.PlainChecked as c
 use Rattle.sp_tree.specs.CheckedOf as of_
+use Rattle.sp_tree.proofs.Earlier.{Earlier, earlier_then, not_earlier}
 use Rattle.sp_types.specs.declared.tables.Ordinal.{Ordinal}
 use Rattle.sp_types.specs.Tables.{Env, char_of, counted, indexed, env_of}
 use Rattle.sp_types.specs.Kinds.{expression_kind}
@@ -301,22 +302,9 @@ apart a b d e (x ∷ xs) o h = (one o, apart a b d e xs o h.2)
 
 -- ---- the order of places
 
-abbrev Earlier : Place → Place → Type 0
-Earlier p q = (p.line < q.line) ⊎ ((p.line ≡ q.line) × (p.column < q.column))
-
 tells : (p q : Place) → Decides (earlier p q) (Earlier p q)
 tells p q = Decides-or _ _ (Decides-ltb p.line q.line)
     (Decides-and _ _ (Decides-eqb p.line q.line) (Decides-ltb p.column q.column))
-
-earlier_then : (p q r : Place) → Earlier p q → Earlier q r → Earlier p r
-earlier_then p q r (inl a) (inl b) = inl (omega (arith, a, b))
-earlier_then p q r (inl a) (inr b) = inl (omega (arith, a, b.0))
-earlier_then p q r (inr a) (inl b) = inl (omega (arith, a.0, b))
-earlier_then p q r (inr a) (inr b) = inr (a.0 ∙ b.0, omega (arith, a.1, b.1))
-
-not_itself : (p : Place) → Earlier p p → ⊥
-not_itself p (inl a) = absurd (omega (arith, a))
-not_itself p (inr a) = absurd (omega (arith, a.1))
 
 ordered : (p q : Place) → p ≢ q → Earlier p q ⊎ Earlier q p
 ordered p q d = by (less_same_or_more p.line q.line) (less_same_or_more p.column q.column)
@@ -383,7 +371,7 @@ own_share : (x : Place × ℕ) → share x.0 x ≡ 0
 own_share x = by (earlier x.0 x.0) refl
   where
     by : (t : Bool) → earlier x.0 x.0 ≡ t → (if t then x.1 else 0) ≡ 0
-    by true e = absurd (not_itself x.0 ((tells x.0 x.0).0 e))
+    by true e = absurd (not_earlier x.0 ((tells x.0 x.0).0 e))
     by false e = refl
 
 later_share : (x : Place × ℕ) (q : Place) → Earlier x.0 q → share q x ≡ x.1

@@ -3,7 +3,7 @@ use Rattle.std.proofs.Common.{◌≡◌, ◌↔◌, ◌⊎◌, ℕ, zero, suc, �
 use Rattle.std.proofs.Common.{length, get_or, refl, sym, ap, subst, ◌∙◌, arith, inl, inr, ◌+◌, add-one, Result, Ok, Err}
 use Rattle.std.proofs.Common.{OnOk, eqb-true, eq-eqb}
 use Rattle.std.proofs.lemmas.Bool.{or_cases}
-use Rattle.sp_base.proofs.Facts.{or_from_either, on_ok}
+use Rattle.sp_base.proofs.Facts.{or_from_either}
 use Rattle.sp_tree.specs.declared.checked.Actual.{Actual}
 use Rattle.sp_tree.specs.declared.checked.Selector.{Selector}
 use Rattle.sp_tree.specs.PlainChecked as p

@@ -1,9 +1,9 @@
 -- What rows lead to is what paths of calls reach.
 use Rattle.std.proofs.Common.{◌≡◌, ◌↔◌, ℕ, zero, suc, ◌<◌, true, false, not, ◌&&◌, List, [], ◌∷◌, map, length}
-use Rattle.std.proofs.Common.{slice_get, refl, sym, subst, ◌∙◌, arith, inl, inr, Some, None}
+use Rattle.std.proofs.Common.{slice_get, refl, sym, subst, ◌∙◌, inl, inr, Some, None}
 use Rattle.std.proofs.lemmas.Option.{slice_get_within}
 use Rattle.std.proofs.lemmas.Bool.{false_from_ne_true}
-use Rattle.sp_base.proofs.Facts.{and_not_from, and_not_parts, get_of_map, no_get_of_map, item_there}
+use Rattle.sp_base.proofs.Facts.{and_not_from, and_not_parts, get_of_map, item_there}
 use Rattle.sp_tree.specs.PlainChecked as p
 use Rattle.sp_tree.specs.Bare.{bare_statement, bare_block, bare}
 use Rattle.sp_tree.specs.Plain.{Actuals, Program, Block}

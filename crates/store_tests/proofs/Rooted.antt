@@ -1,5 +1,5 @@
 -- What the tests know of a store that was just made.
-use Rattle.std.proofs.Common.{◌≡◌, ◌≢◌, ◌+◌, ◌≤◌, ◌<◌, ◌⊎◌, ℕ, zero, suc, Bool, true, false, refl, List, [], ◌∷◌}
+use Rattle.std.proofs.Common.{◌≡◌, ◌≢◌, ◌≤◌, ◌<◌, ◌⊎◌, ℕ, zero, suc, Bool, true, false, refl, List, [], ◌∷◌}
 use Rattle.std.proofs.Common.{replicate, Option, None, Some, IsSome, sym, ap, subst, ◌∙◌, arith, inl, inr}
 use mathlib.Core.Bool.{false≢true}
 use Rattle.std.specs.FinMap as map
@@ -7,9 +7,9 @@ use Rattle.sp_cell.specs.declared.cell.Cell.TheVariants.{Undefined}
 use Rattle.sp_cell.specs.declared.spot.Spot.{Spot}
 use Rattle.sp_cell.specs.declared.spot.Handing.{Handing}
 use Rattle.sp_cell.specs.Fork.{moved_of, shared_of, HasIndex}
-use Rattle.sp_cell.specs.Frame.{next_frame, root_map, with_pieces, without}
+use Rattle.sp_cell.specs.Frame.{next_frame, root_map, without}
 use Rattle.sp_cell.proofs.FrameLaws.{above_known, known_pieces, without_here, without_other}
-use Rattle.sp_cell.proofs.Laws.{get_here, get_other, same_or}
+use Rattle.sp_cell.proofs.Laws.{get_here, get_other, same_or, pieces_not_away}
 use Rattle.sp_cell.specs.Map.{Map, Content, Own, Output, Away, Plain, spot_cmp}
 use Rattle.sp_cell.specs.Spots.{In}
 use Rattle.std.proofs.lemmas.Bool.{cases_eq}
@@ -50,13 +50,6 @@ none_insert m s h n f q e = elim (same_or q s) [
 own_here : (cs : List ℕ) (n : ℕ) → Some (Own (replicate n Undefined)) ≢ Some Away
 own_here cs n e = cc
 
-pub none_pieces : (m : Map) (n v : ℕ) (cs : List ℕ) → ((q : Spot) → map.get m q ≢ Some Away) → (q : Spot)
-    → map.get (with_pieces m n v cs) q ≢ Some Away
-none_pieces m n v [] f q = f q
-none_pieces m n v (c ∷ cs) f q = none_pieces
-    (map.insert m (record { frame = n; variable = v }) (Own (replicate c Undefined))) n (v + 1) cs
-    (none_insert m (record { frame = n; variable = v }) (Own (replicate c Undefined)) (own_here cs c) f) q
-
 none_here : (o : Option Content) → o ≡ None → o ≢ Some Away
 none_here o e f = let z = sym e ∙ f in absurd (false≢true (ap is_some_of z))
   where
@@ -72,7 +65,7 @@ none_without m n f q = elim (cases_eq q.frame n)
 pub none_root : (p : Plain) (sizes : List ℕ) → p ≡ record { map = root_map sizes; own = []; moved = [] } → (q : Spot)
     → map.get p.map q ≢ Some Away
 none_root p sizes e = subst (λ (x : Plain). (q : Spot) → map.get x.map q ≢ Some Away) (sym e)
-    (none_pieces _ 0 2 sizes (none_insert _ _ (Output []) (λ f. cc)
+    (pieces_not_away _ 0 2 sizes (none_insert _ _ (Output []) (λ f. cc)
     (none_insert map.empty _ _ (λ f. cc) (λ q. none_here _ (map.get-empty spot_cmp q)))))
 
 -- ---- many children that share one spot

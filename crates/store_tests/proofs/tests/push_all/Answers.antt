@@ -5,7 +5,7 @@ use Rattle.sp_cell.specs.declared.spot.Spot.{Spot}
 use Rattle.sp_cell.specs.Frame.{next_frame, pushed}
 use Rattle.sp_cell.proofs.FrameLaws.{next_pushed}
 use Rattle.sp_cell.specs.Map.{Plain, Away}
-use Rattle.store_tests.proofs.Rooted.{none_pieces}
+use Rattle.sp_cell.proofs.Laws.{pieces_not_away}
 use Rattle.store_tests.proofs.tests.push_all.Goals as goal
 
 pub loop-preserved : goal.loop-preserved
@@ -20,5 +20,5 @@ loop-preserved c =
       frames = subst (λ (x : Plain). length x.own ≡ length c.args.store.now.own + (c.loop.counter + 1)) (sym is)
           (omega (arith, len, c.loop.invariant.frames));
       here = subst (λ (x : Plain). (q : Spot) → map.get x.map q ≢ Some Away) (sym is)
-          (none_pieces p.map (next_frame p) 0 (1 ∷ []) c.loop.invariant.here);
+          (pieces_not_away p.map (next_frame p) 0 (1 ∷ []) c.loop.invariant.here);
     }
