@@ -14,6 +14,7 @@ use Rattle.sp_code.specs.Memory.{Home}
 use Rattle.sp_rules.specs.Areas.{Area, Body, Child, homes, child_of, instr_at, table_named}
 use Rattle.sp_rules.specs.Reach.{IsIn}
 use Rattle.sp_rules.specs.Named.{Names, is_in, has_variable, some_has}
+use Rattle.sp_rules.proofs.Readiness.{in_split}
 use Rattle.sp_areas.specs.declared.homes.Homes.{Homes}
 use Rattle.sp_areas.specs.declared.tree.Frame.{Frame}
 use Rattle.sp_areas.specs.Homes.{AreHomes}
@@ -153,11 +154,6 @@ in_left x (y ∷ xs) ys (inr i) = inr (in_left x xs ys i)
 in_right : (x : ℕ) (xs ys : List ℕ) → IsIn x ys → IsIn x (xs ++ ys)
 in_right x [] ys i = i
 in_right x (y ∷ xs) ys i = inr (in_right x xs ys i)
-
-in_split : (x : ℕ) (xs ys : List ℕ) → IsIn x (xs ++ ys) → IsIn x xs ⊎ IsIn x ys
-in_split x [] ys i = inr i
-in_split x (y ∷ xs) ys (inl e) = inl (inl e)
-in_split x (y ∷ xs) ys (inr i) = ⊎_elim (λ h. inl (inr h)) (λ h. inr h) (in_split x xs ys i)
 
 module _ (ls : List Layout) (xs ys : List ℕ) (hs : List Home) where
   pub unknown_first : (t : Bool) → Decides t (HasUnknown ls xs hs) → t ≡ true

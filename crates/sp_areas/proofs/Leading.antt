@@ -15,6 +15,7 @@ use Rattle.sp_code.specs.Machine.{layout_of}
 use Rattle.sp_code.specs.Memory.{Home, OfBlock}
 use Rattle.sp_rules.specs.Areas.{given, parent_of, is_root, leads_by, homes_by}
 use Rattle.sp_rules.specs.Named as named
+use Rattle.sp_rules.proofs.Scoping.{none_homes}
 use Rattle.sp_areas.specs.declared.tree.Frame.TheVariants as frame
 use Rattle.sp_areas.specs.declared.tree.Grown.{Grown}
 use Rattle.sp_areas.specs.declared.tree.Node.{Node}
@@ -116,10 +117,6 @@ no_parent l e = go l.parent refl e
     go None s e = s
     go (Some b) s e = absurd (cc e)
 
-no_homes : (k : ℕ) (ls : List Layout) → homes_by k ls None ≡ []
-no_homes zero ls = refl
-no_homes (suc k) ls = refl
-
 module _ (ls : List Layout) (os : List (Option ℕ)) (lists : ℕ → List Home) (size : ℕ) (l : Layout) (o : Option ℕ) where
   -- the new node's layout is led
   led_new : ((j n : ℕ) (m : Layout) → node_at os j ≡ Some n → slice_get ls j ≡ Some m → (n < size) × IsLed ls lists m n)
@@ -136,7 +133,7 @@ module _ (ls : List Layout) (os : List (Option ℕ)) (lists : ℕ → List Home)
           let none = no_parent l (sym (ap is_root (ap (layout_of ls) (sym (eqb-true l.block 0 z)) ∙ f)) ∙ r) in
           en ∙ ap (λ u. OfBlock l.block ∷ around_list lists u) e
           ∙ sym (ap (λ (hs : List Home). OfBlock l.block ∷ hs) (ap (λ u. homes_by k ls (parent_of ls u)) none
-          ∙ no_homes k ls))
+          ∙ none_homes k ls))
   led_new each (InParent z n e p) new en (suc k) h = (
     ap (λ (t : Bool). if t then true else leads_by k ls (parent_of ls l.parent)) z ∙ ap (leads_by k ls) up
         ∙ before.0,

@@ -8,14 +8,14 @@ use Rattle.std.proofs.lemmas.List.Sums.{sum_by-set}
 use Rattle.std.proofs.lemmas.Option.{slice_get_within, slice_get-get_or, get_or_from_slice_get, none-some}
 use Rattle.sp_base.proofs.Facts.{less_same_or_more, not_true_and_false}
 use Rattle.sp_code.specs.declared.instr.Instr.{Instr}
-use Rattle.sp_code.specs.declared.instr.Instr.TheVariants as i
 use Rattle.sp_code.specs.declared.code.Parts.{Parts}
 use Rattle.sp_areas.specs.declared.owners.Owner.{Owner}
 use Rattle.sp_areas.specs.declared.owners.Owner.TheVariants as owner
 use Rattle.sp_rules.specs.Areas.{Area, given, instr_at}
-use Rattle.sp_rules.specs.Reach.{IsIn, nexts}
+use Rattle.sp_rules.specs.Reach.{IsIn}
 use Rattle.sp_rules.specs.Named.{LiesIn}
 use Rattle.sp_rules.specs.Rules.{free_nexts, Wanders, BreaksV9, ComesBack}
+use Rattle.sp_rules.proofs.Ranked.{free_in}
 use Rattle.sp_areas.specs.Alone.{flag_at}
 use Rattle.sp_areas.specs.Least.{IsLeast}
 use Rattle.sp_areas.specs.Owners.{Owns, AreOwners, is_same, listed}
@@ -60,11 +60,6 @@ module _ (c : Parts) (os : List Owner) (are : AreOwners c os) (p : ℕ) where
       go (Some o) s = ap (λ w. given false w (λ o. not (is_same o owner.Nobody))) s ∙ by o (are.1 p o s)
 
 -- ---- ways
-
-free_in : (p q : ℕ) (o : Option Instr) → IsIn q (free_nexts p o) → IsIn q (nexts p o)
-free_in p q (Some i.Tick) h = absurd h
-free_in p q (Some (i.Call b up)) h = absurd h
-free_in p q _ h = h
 
 module _ (c : Parts) where
   -- what leads on is there

@@ -18,6 +18,7 @@ use Rattle.sp_cell.proofs.Laws.{known_of_held, known_of_piece}
 use Rattle.sp_cell.proofs.Partition.{parent_moved, parent_shared, parent_rest, child_moved, child_shared, child_rest}
 use Rattle.sp_cell.proofs.Partition.{below_above}
 use Rattle.sp_cell.proofs.Plan.{in_or, not_both, in_front, in_back, distinct_back, get_taken_in, get_taken_out}
+use Rattle.sp_cell.proofs.Plan.{not_in_front}
 use Rattle.sp_cell.specs.Spots.{In, NotIn, IsDistinct, AllHeld, AllPieces, AllAway}
 
 -- ---- one variable
@@ -278,10 +279,6 @@ all_children P Q m f new (h ∷ hs) a g = (
 not_in_back : (q : Spot) (xs ys : List Spot) → NotIn q (xs ++ ys) → NotIn q ys
 not_in_back q [] ys n = n
 not_in_back q (x ∷ xs) ys n = not_in_back q xs ys n.1
-
-pub not_in_front : (q : Spot) (xs ys : List Spot) → NotIn q (xs ++ ys) → NotIn q xs
-not_in_front q [] ys n = tt
-not_in_front q (x ∷ xs) ys n = (n.0, not_in_front q xs ys n.1)
 
 distinct_apart : (xs ys : List Spot) → IsDistinct (xs ++ ys) → (q : Spot) → In q xs → NotIn q ys
 distinct_apart [] ys d q i = absurd i

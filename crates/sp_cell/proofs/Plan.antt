@@ -14,7 +14,10 @@ use Rattle.sp_cell.specs.Fork.{children_of}
 use Rattle.sp_cell.specs.Fork.{prepared_map, prepared, moved_of, shared_of, HasIndex}
 use Rattle.sp_cell.specs.Spots.{In, NotIn, IsDistinct, AllPieces, DistinctByIndex}
 use Rattle.sp_cell.proofs.Laws.{get_other, get_here, known_insert, known_of_piece, same_or, same_map}
-use Rattle.sp_cell.proofs.HeldLaws.{not_in_front}
+
+pub not_in_front : (q : Spot) (xs ys : List Spot) → NotIn q (xs ++ ys) → NotIn q xs
+not_in_front q [] ys n = tt
+not_in_front q (x ∷ xs) ys n = (n.0, not_in_front q xs ys n.1)
 
 -- ---- membership by recursion
 

@@ -36,7 +36,7 @@ use Rattle.sp_codefile.proofs.LayoutLaws.{c5, c6, c7, c8, layout_behind, layout_
 use Rattle.sp_codefile.proofs.LayoutLaws.{layout_answer, behind_sizes, layout_sizes, behind_variables, layout_variables}
 use Rattle.sp_codefile.proofs.LayoutLaws.{behind_formals, child_behind, child_table, behind_child, child_number}
 use Rattle.sp_codefile.proofs.LayoutLaws.{behind_entry, child_entry_cut, behind_moves, child_moved, behind_shares}
-use Rattle.sp_codefile.proofs.LayoutLaws.{child_shared}
+use Rattle.sp_codefile.proofs.LayoutLaws.{child_shared, no_formal}
 use Rattle.sp_codefile.proofs.LeadLaws.{Leads, no_parts, from_nothing}
 use Rattle.sp_codefile.proofs.ReadLaws.{GoesOn, none_goes_on, goes_on_next, none_left, no_parts_code}
 use Rattle.sp_codefile.proofs.KindLaws.{kind_of_item, kind_is, bytes_back, instr_behind}
@@ -95,15 +95,11 @@ formal_same (formal.Value n) (formal.Reference m) e h = absurd (let a : 118 ≡ 
 formal_same (formal.Reference n) (formal.Value m) e h = absurd (let a : 114 ≡ 118 = ap first_byte e in omega arith)
 formal_same (formal.Reference n) (formal.Reference m) e h = ap formal.Reference h
 
-some_formal : (f : Formal) (more : List ℕ) → formal_text f ++ more ≡ [] → ⊥
-some_formal (formal.Value n) more e = cc
-some_formal (formal.Reference n) more e = cc
-
 formals_same : (fs gs : List Formal) → All FormalFits fs → All FormalFits gs
     → flat_map formal_text fs ≡ flat_map formal_text gs → fs ≡ gs
 formals_same [] [] a b e = refl
-formals_same [] (g ∷ gs) a b e = absurd (some_formal g (flat_map formal_text gs) (sym e))
-formals_same (f ∷ fs) [] a b e = absurd (some_formal f (flat_map formal_text fs) e)
+formals_same [] (g ∷ gs) a b e = absurd (no_formal g (flat_map formal_text gs) (sym e))
+formals_same (f ∷ fs) [] a b e = absurd (no_formal f (flat_map formal_text fs) e)
 formals_same (f ∷ fs) (g ∷ gs) a b e =
     let p = cells_fit f (All-head FormalFits f fs a) in
     let q = cells_fit g (All-head FormalFits g gs b) in

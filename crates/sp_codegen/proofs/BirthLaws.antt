@@ -41,7 +41,7 @@ use Rattle.sp_codegen.specs.Meets.{code_run}
 use Rattle.sp_codegen.specs.Parents.{ChildIs, Joins, GivesBack}
 use Rattle.sp_codegen.specs.Relation.{Placed}
 use Rattle.sp_codegen.specs.Standing.{Stand}
-use Rattle.sp_codegen.proofs.Begins.{child_begins, index_child_begins}
+use Rattle.sp_codegen.proofs.Begins.{child_begins, index_child_begins, memory_in}
 use Rattle.sp_codegen.proofs.Birth.{low_small}
 use Rattle.sp_codegen.proofs.Born.{child_follows}
 use Rattle.sp_codegen.proofs.Closing.{Laid}
@@ -50,10 +50,6 @@ use Rattle.sp_codegen.proofs.Follows.{push_follows, slides}
 use Rattle.sp_codegen.proofs.Joining.{all_joined, stand_same, joining_more, handed_joining, joined_joining}
 use Rattle.sp_codegen.proofs.LifeLaws.{reads_all}
 use Rattle.sp_codegen.proofs.Root.{j0, root_stands, root_placed}
-
--- the memory of a process
-abbrev memory_in : Config (Memory Plain) → Memory Plain
-memory_in (At pc st n) = n
 
 module _ (g : Setting) (moves shares : Stmt → List ℕ) (pause : ℕ) (tree : IsCompilable g.program moves shares) where
   blocks : BlocksAt g.program moves shares (program_code g.program moves shares) (IsQuiet g.program)

@@ -5,7 +5,7 @@ use Rattle.std.specs.Prelude.{slice_get}
 use Rattle.sp_tree.specs.declared.checked.KindOf.{KindOf}
 use Rattle.sp_tree.specs.declared.checked.KindOf.TheVariants as kind
 use Rattle.sp_tree.specs.declared.checked.Role.TheVariants as role
-use Rattle.sp_tree.specs.Plain.{Number, Var, Entire, Index, Selectors, Program, Variable}
+use Rattle.sp_tree.specs.Plain.{Number, Entire, Index, Selectors, Program, Variable}
 use Rattle.sp_tree.specs.Uses.{Use, Target, Seen}
 use Rattle.sp_tree.specs.Cells.{first_or}
 use Rattle.sp_cell.specs.declared.spot.Address.{Address as Ptr}
@@ -39,12 +39,6 @@ NotNone Many = Unit {0}
 NotNone Ordinals = Unit {0}
 NotNone Channels = Unit {0}
 NotNone NoSort = ⊥
-
-abbrev pub var_of : Var → ℕ
-var_of (Entire x ss) = x
-
-abbrev pub selectors_of : Var → Selectors
-selectors_of (Entire x ss) = ss
 
 abbrev pub IsMany : Sort → Type 0
 IsMany Many = Unit {0}

@@ -14,6 +14,7 @@ use Rattle.sp_meaning.specs.Owning.{stands, stands_at, stands_by, console, Gave}
 use Rattle.sp_meaning.specs.Eval.{Place, At, Fixed, Given, ValueOf, PlaceOf, Calls, standard_op, input_op, address_of}
 use Rattle.sp_meaning.specs.Eval.{value, form_value, place, selected, actuals, address, ordinal_of}
 use Rattle.sp_meaning.specs.Run.{Store}
+use Rattle.sp_meaning.proofs.Within.{variable_of, selectors_of}
 use Rattle.sp_code.specs.Machine.{Entry, Config}
 use Rattle.sp_code.specs.Machine as m
 use Rattle.sp_code.specs.Turns.{Comes}
@@ -25,7 +26,7 @@ use Rattle.sp_codegen.specs.Joints.{Joint, sources}
 use Rattle.sp_codegen.specs.Executions.{Execution}
 use Rattle.sp_codegen.specs.Relation.{Stood, GivensAre}
 use Rattle.sp_codegen.proofs.Runs.{stays, gives_bind, gives_known, gives_give}
-use Rattle.sp_codegen.proofs.ValueForms.{pushed, var_of, selectors_of, same_some, within, G, P, at_one, Top, St}
+use Rattle.sp_codegen.proofs.ValueForms.{pushed, same_some, within, G, P, at_one, Top, St}
 use Rattle.sp_codegen.proofs.ValueForms.{rest_of, left_known, PlaceTop, PlaceIs, MayRead, may_see, may_aim, kind_known}
 use Rattle.sp_codegen.proofs.OperatorValues.{worked_gives, as_ordinal_gives, with_ordinal, unary_gives, binary_gives}
 use Rattle.sp_codegen.proofs.OperatorValues.{standard_gives, input_gives}
@@ -121,9 +122,9 @@ module _ {M : Type 0} (ex : Execution M) where
 
     pub place_gives : (call : Calls) → CallsMeet call
         → (v : Var) (k : ℕ) (sc : List Scope) (q : ℕ) (stack : List Entry) (js : List Joint) (o : Own) (s : Store)
-        (n : M) → rel.Stand js o s n → P ex sc js (In_selectors (selectors_of v)) → MayRead ex sc js (var_of v)
+        (n : M) → rel.Stand js o s n → P ex sc js (In_selectors (selectors_of v)) → MayRead ex sc js (variable_of v)
         → PlaceAt p moves shares (Stands code) (HasFork code) (HasWords code) hush sc q v k
-        → G ex js (m.At q stack n) o s (after_var q v) (PlaceTop ex stack) (PlaceIs ex js (var_of v) k) (place g call v)
+        → G ex js (m.At q stack n) o s (after_var q v) (PlaceTop ex stack) (PlaceIs ex js (variable_of v) k) (place g call v)
     place_gives call ok (Entire x ss) k sc q stack js o s n t pl may h =
         gives_bind ops rel w code (var_gives ex sc q x h.0 stack n t pl.chain may h.1)
         (λ z a o1 s1 n1 t1 pi. selected_gives call ok ss x h.0 k sc (q + 1) stack z a js o1 s1 n1 t1 pl pi h.2)
@@ -183,7 +184,7 @@ module _ {M : Type 0} (ex : Execution M) where
       → PlaceAt p moves shares (Stands code) (HasFork code) (HasWords code) hush sc q v k
       → IsTarget p moves shares (Stands code) (HasFork code) (HasWords code) hush v
       → G ex js (m.At q stack n) o s (after_var q v) (λ (b : Address) (u : Ptr). m.Pointer u ∷ stack)
-      (λ b u. (b.kind ≡ k) × rel.Points js b u × R b.spot × (stands p (sources js) (var_of v) ≡ Some b.spot))
+      (λ b u. (b.kind ≡ k) × rel.Points js b u × R b.spot × (stands p (sources js) (variable_of v) ≡ Some b.spot))
       (address g call v)
   address_gives call ok (Entire x ss) k sc q stack js o s n t pl h ht =
       gives_bind ops rel w code (place_gives call ok (Entire x ss) k sc q stack js o s n t (within (λ u. inr) pl)

@@ -1,6 +1,6 @@
 -- Rule V6 at one child: what the test finds is what the rule says.
 use Rattle.std.proofs.Common.{◌≡◌, ◌⊎◌, inl, inr, ⊎_elim, refl, sym, ap, subst, ◌∙◌, ℕ, ◌+◌, ◌<◌, ◌==◌, List, [], ◌∷◌}
-use Rattle.std.proofs.Common.{◌++◌, Option, Some, None, Bool, true, false, ◌&&◌, ◌||◌, length, arith, eqb-true}
+use Rattle.std.proofs.Common.{Option, Some, None, Bool, true, false, ◌&&◌, ◌||◌, length, arith, eqb-true}
 use Rattle.std.specs.Prelude.{not, slice_get, IsSome}
 use Rattle.std.specs.List.{list_any}
 use Rattle.std.specs.Option.{is_some}
@@ -15,6 +15,7 @@ use Rattle.sp_rules.specs.Effects.{IsAside, Loaded, handed_to}
 use Rattle.sp_rules.specs.Forks.{IsIllHanded}
 use Rattle.sp_rules.proofs.Lists.{different_front, different_back}
 use Rattle.sp_rules.proofs.Lists.{different_apart}
+use Rattle.sp_rules.proofs.Scoping.{different_join}
 use Rattle.sp_effects.specs.declared.handed.Before.{Before}
 use Rattle.sp_effects.specs.Sets.{has, with_all, with_index, all_new, meets, goes_beyond}
 use Rattle.sp_effects.specs.Handed.{FailsAlone, StoresBeyond, LoadsBeyond, ClashesBefore, SomeHas, clashes, fails_alone}
@@ -25,13 +26,6 @@ use Rattle.sp_effects.proofs.Members.{meets_from, meets_is, new_from, new_is, on
 
 -- ---- lists
 
-pub different_join : (ys zs : List ℕ) → AllDifferent ys → AllDifferent zs
-    → ((x : ℕ) → IsMember x ys → IsMember x zs → ⊥) → AllDifferent (ys ++ zs)
-different_join [] zs d e h = e
-different_join (y ∷ ys) zs d e h = (
-  λ m. ⊎_elim (λ i. d.0 i) (λ i. h y (inl refl) i) (member_either y ys zs m),
-  different_join ys zs d.1 e
-      (λ x m n. h x (inr m) n),
 )
 
 has_output : (xs : List ℕ) → list_any (λ y. y == 1) xs ≡ true → IsMember 1 xs

@@ -9,12 +9,13 @@ use Rattle.sp_code.specs.declared.instr.Instr.{Instr}
 use Rattle.sp_code.specs.declared.code.ChildTable.{ChildTable}
 use Rattle.sp_code.specs.declared.code.ForkTable.{ForkTable}
 use Rattle.sp_code.specs.declared.code.Parts.{Parts}
-use Rattle.sp_rules.specs.Areas.{Area, Child, instr_at, table_named, table_at, child_of, child_at}
+use Rattle.sp_rules.specs.Areas.{Area, Child, table_named, table_at, child_of, child_at}
 use Rattle.sp_rules.specs.Reach.{IsArea}
 use Rattle.sp_rules.specs.Named.{BreaksV1, TableUnnamed, LiesIn, Names, IsChild}
 use Rattle.sp_areas.specs.declared.owners.Owner.{Owner}
 use Rattle.sp_areas.specs.declared.owners.Owner.TheVariants as owner
 use Rattle.sp_areas.specs.Owners.{AreOwners, Owns}
+use Rattle.sp_areas.proofs.Owned.{named_within}
 
 pub table_there : (fs : List ForkTable) (t k : ℕ) (ch : ChildTable) → child_of (slice_get fs t) k ≡ Some ch
     → (tb : ForkTable) × (slice_get fs t ≡ Some tb) × (slice_get tb.children k ≡ Some ch)
@@ -56,13 +57,6 @@ name_in t (o ∷ os) = go (is_name t (table_named (Some o))) (name_in t os)
     go (inl e) s = inl (zero, e)
     go (inr f) (inl r) = inl (suc r.0, r.1)
     go (inr f) (inr g) = inr (no f g)
-
-named_within : (c : Parts) (t p : ℕ) → Names c t p → p < length c.instrs
-named_within c t p n = go (instr_at c p) refl n
-  where
-    go : (o : Option Instr) → instr_at c p ≡ o → table_named o ≡ Some t → p < length c.instrs
-    go None e n = absurd (none-some t n)
-    go (Some i) e n = slice_get_within c.instrs p i e
 
 -- a child by the instruction that makes it
 pub record IsOf (c : Parts) (t k : ℕ) (ch : ChildTable) : Type 0 where

@@ -25,6 +25,7 @@ use Rattle.sp_areas.specs.declared.owners.Owner.TheVariants as owner
 use Rattle.sp_areas.specs.Owners.{AreOwners, Owns}
 use Rattle.sp_rules.proofs.Walking.{passes}
 use Rattle.sp_rules.proofs.EffectLaws.{does_effect, child_effect, called_effect, effects_within, stops_within}
+use Rattle.sp_areas.proofs.Owned.{name_of}
 use Rattle.sp_effects.specs.declared.edges.Edge.{Edge}
 use Rattle.sp_effects.specs.declared.edges.Edge.TheVariants as edge
 use Rattle.sp_effects.specs.declared.facts.Fact.{Fact}
@@ -37,7 +38,7 @@ use Rattle.sp_effects.specs.Effects.{Comes}
 use Rattle.sp_effects.specs.Closing.{is_own, is_index, fact_along, Leads, FollowsBy, Closes, ClosesBy, IsDeed}
 use Rattle.sp_effects.specs.Closing.{AreFacts}
 use Rattle.sp_effects.specs.Variables.{AreOwn, owns}
-use Rattle.sp_effects.proofs.Linking.{name_of, entry_within}
+use Rattle.sp_effects.proofs.Linking.{entry_within}
 use Rattle.sp_effects.proofs.Owned.{begins, in_own, own_in}
 
 -- ---- areas by their first instructions

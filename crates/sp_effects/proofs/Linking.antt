@@ -1,8 +1,8 @@
 -- Edges are put into their rows one after the other: at one operand, at the children of a table, at each instruction,
 -- and at all of them.
 use Rattle.std.proofs.Common.{◌≡◌, ◌≢◌, ◌⊎◌, inl, inr, ⊎_elim, refl, ap, sym, ◌∙◌, subst, ℕ, zero, suc, ◌+◌, ◌-◌, ◌<◌}
-use Rattle.std.proofs.Common.{◌==◌, List, [], ◌∷◌, ◌++◌, length, Option, Some, None, Bool, true, false, if◌then◌else◌}
-use Rattle.std.proofs.Common.{arith, eqb-true}
+use Rattle.std.proofs.Common.{List, [], ◌∷◌, ◌++◌, length, Option, Some, None}
+use Rattle.std.proofs.Common.{arith}
 use Rattle.std.specs.Prelude.{slice_get, slice_set}
 use Rattle.std.proofs.lemmas.List.{length-set}
 use Rattle.std.proofs.lemmas.Option.{slice_get_within, none-some, same_Some}
@@ -30,6 +30,7 @@ use Rattle.sp_shapes.specs.Reached.{reached_at}
 use Rattle.sp_shapes.proofs.Reaching.{reached_there, stands}
 use Rattle.sp_shapes.specs.Stacks.{list_of}
 use Rattle.sp_rules.proofs.Walking.{passes}
+use Rattle.sp_areas.proofs.Owned.{layout_in, name_of}
 use Rattle.sp_effects.specs.declared.edges.Edge.{Edge}
 use Rattle.sp_effects.specs.declared.edges.Edge.TheVariants as edge
 use Rattle.sp_effects.specs.Edges.{InRow, HasEdge, Puts, Links, passed_by, formal_at, deep_edge, IsDeep, IsDeeper}
@@ -365,22 +366,6 @@ module _ (c : Parts) (p : ℕ) where
 
 -- ---- first instructions are there
 
-pub name_of : (o : Option ℕ) (k : ℕ) (fs : List ForkTable) (ch : ChildTable) → child_of (table_at fs o) k ≡ Some ch
-    → (t : ℕ) × (o ≡ Some t)
-name_of None k fs ch e = absurd (none-some ch e)
-name_of (Some t) k fs ch e = (t, refl)
-
-pub layout_place : (ls : List Layout) (b : ℕ) (l : Layout) → layout_of ls b ≡ Some l → (j : ℕ)
-    × (slice_get ls j ≡ Some l) × (l.block ≡ b)
-layout_place [] b l e = absurd (none-some l e)
-layout_place (m ∷ ls) b l e = go (m.block == b) refl e (layout_place ls b l)
-  where
-    go : (t : Bool) → m.block == b ≡ t → (if t then Some m else layout_of ls b) ≡ Some l
-        → (layout_of ls b ≡ Some l → (j : ℕ) × (slice_get ls j ≡ Some l) × (l.block ≡ b))
-        → (j : ℕ) × (slice_get (m ∷ ls) j ≡ Some l) × (l.block ≡ b)
-    go true t e on = (zero, e, ap (λ (x : Layout). x.block) (sym (same_Some m l e)) ∙ eqb-true m.block b t)
-    go false t e on = let r = on e in (suc r.0, r.1, r.2)
-
 module _ (c : Parts) (kept : (p : ℕ) → BreaksV1 c p → ⊥) where
   pub layout_within : (b : ℕ) (l : Layout) → layout_of c.layouts b ≡ Some l → l.entry < length c.instrs
   layout_within b l e = ⊎_elim (λ h. h)
@@ -388,7 +373,7 @@ module _ (c : Parts) (kept : (p : ℕ) → BreaksV1 c p → ⊥) where
       (inr (record {
         past = ⊎_elim (λ q. let s : l.entry ≡ length c.instrs = q in omega (arith, s))
             (λ q. omega (arith, q)) z;
-        of = inl (l, (let j = layout_place c.layouts b l e in (j.0, j.1)), refl);
+        of = inl (l, (let j = layout_in c.layouts b l e in (j.0, j.1)), refl);
       })))))
       (less_same_or_more l.entry (length c.instrs))
 

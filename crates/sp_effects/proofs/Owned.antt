@@ -13,11 +13,11 @@ use Rattle.sp_code.specs.Machine.{layout_of}
 use Rattle.sp_rules.specs.Areas.{Area, Body, entry, entry_of_layout}
 use Rattle.sp_rules.specs.Named.{BreaksV1, BlocksApart, InTwo, LiesIn}
 use Rattle.sp_rules.specs.Reach.{IsArea, IsIn}
+use Rattle.sp_rules.proofs.Effects.{is_member, is_in_list}
 use Rattle.sp_areas.specs.Least.{IsLeast}
 use Rattle.sp_areas.proofs.Leasts.{same}
+use Rattle.sp_areas.proofs.Owned.{layout_in}
 use Rattle.sp_effects.specs.Variables.{AreOwn, LayoutDoes, goes_out, owns}
-use Rattle.sp_effects.proofs.Linking.{layout_place}
-use Rattle.sp_effects.proofs.Owns.{in_member, member_in}
 
 -- ---- layouts
 
@@ -102,12 +102,12 @@ module _ (c : Parts) (kept : (p : ℕ) → BreaksV1 c p → ⊥) where
     pub own_in : (x : ℕ) → owns ks l.entry x ≡ true → IsMember x l.variables
     own_in x h =
         let o = (own (l.entry, x)).0 h in
-        in_member x l.variables
+        is_member x l.variables
         (subst (λ (z : Layout). IsIn x z.variables) (same_layout f o.0 l o.1 is o.2 o.3.0) o.3.1)
 
     pub in_own : (x : ℕ) → IsMember x l.variables → owns ks l.entry x ≡ true
-    in_own x h = let j = layout_place c.layouts f l is in (own (l.entry, x)).1
-        (j.0, l, j.1, (refl, member_in x l.variables h))
+    in_own x h = let j = layout_in c.layouts f l is in (own (l.entry, x)).1
+        (j.0, l, j.1, (refl, is_in_list x l.variables h))
 
     -- what goes out, from a number on
     pub out_is : (n : ℕ) (xs : List ℕ) → goes_out ks l.entry n xs ≡ true → (x : ℕ) × IsMember x xs × (n ≤ x)

@@ -12,7 +12,6 @@ use Rattle.sp_rules.specs.Verdict.{is_stop}
 use Rattle.sp_rules.proofs.Walking.{passes}
 use Rattle.sp_rules.specs.Rules.{ComesTo}
 use Rattle.sp_areas.specs.Only.{LiesOnlyIn}
-use Rattle.sp_tree.specs.Interference.{IsMember}
 use Rattle.sp_code.specs.declared.code.ChildTable.{ChildTable}
 use Rattle.sp_shapes.specs.declared.shapes.Shapes.{Shapes}
 use Rattle.sp_shapes.specs.Shapes.{AreShapes}
@@ -21,6 +20,7 @@ use Rattle.sp_shapes.specs.Stacks.{list_of}
 use Rattle.sp_shapes.proofs.Reaching.{reached_there, stands}
 use Rattle.std.proofs.lemmas.Option.{none-some, same_Some}
 use Rattle.sp_base.proofs.Facts.{below_or_last}
+use Rattle.sp_rules.proofs.Effects.{is_member, is_in_list}
 use Rattle.sp_effects.specs.declared.facts.Fact.{Fact}
 use Rattle.sp_effects.specs.declared.facts.Deed.{Deed}
 use Rattle.sp_effects.specs.declared.facts.Deed.TheVariants as deed
@@ -148,16 +148,6 @@ module _ (c : Parts) (a : Area) (p : ℕ) (ss : List Shape) where
 
 -- ---- children
 
-pub in_member : (x : ℕ) (xs : List ℕ) → IsIn x xs → IsMember x xs
-in_member x [] i = i
-in_member x (y ∷ ys) (inl e) = inl e
-in_member x (y ∷ ys) (inr i) = inr (in_member x ys i)
-
-pub member_in : (x : ℕ) (xs : List ℕ) → IsMember x xs → IsIn x xs
-member_in x [] i = i
-member_in x (y ∷ ys) (inl e) = inl e
-member_in x (y ∷ ys) (inr i) = inr (member_in x ys i)
-
 pub child_told : (f g h : List Fact) (n : ℕ) (t : ChildTable) (ms ss : List ℕ) → ms ≡ t.moved → ss ≡ t.shared
     → Tells f g (IsOf n (IsAmong true ms)) → Tells g h (IsOf n (IsAmong false ss)) → Tells f h (IsOf n (IsHanded t))
 child_told f g h n t ms ss em es u v = tells_as f h (λ z. IsOf n (IsAmong true ms) z
@@ -168,17 +158,17 @@ child_told f g h n t ms ss em es u v = tells_as f h (λ z. IsOf n (IsAmong true 
     to z (inl w) = record {
       area = w.area;
       does = subst (IsHanded t) (sym w.does.2)
-          (in_member w.does.0 t.moved (subst (IsIn w.does.0) em w.does.1));
+          (is_member w.does.0 t.moved (subst (IsIn w.does.0) em w.does.1));
     }
     to z (inr w) = record {
       area = w.area;
       does = subst (IsHanded t) (sym w.does.2)
-          (in_member w.does.0 t.shared (subst (IsIn w.does.0) es w.does.1));
+          (is_member w.does.0 t.shared (subst (IsIn w.does.0) es w.does.1));
     }
 
     split : (d : Deed) → IsHanded t d → IsAmong true ms d ⊎ IsAmong false ss d
-    split (deed.Stores x) i = inl (x, subst (IsIn x) (sym em) (member_in x t.moved i), refl)
-    split (deed.Loads x) i = inr (x, subst (IsIn x) (sym es) (member_in x t.shared i), refl)
+    split (deed.Stores x) i = inl (x, subst (IsIn x) (sym em) (is_in_list x t.moved i), refl)
+    split (deed.Loads x) i = inr (x, subst (IsIn x) (sym es) (is_in_list x t.shared i), refl)
     split deed.Stops i = absurd i
 
     from : (z : Fact) → IsOf n (IsHanded t) z → IsOf n (IsAmong true ms) z ⊎ IsOf n (IsAmong false ss) z

@@ -21,6 +21,7 @@ use Rattle.sp_rules.specs.Reach.{IsArea}
 use Rattle.sp_rules.specs.Shapes.{Shape, O, C, L, A}
 use Rattle.sp_rules.specs.Verdict.{HasStop}
 use Rattle.sp_rules.proofs.Lists.{member_or, different_front, different_apart}
+use Rattle.sp_rules.proofs.Scoping.{different_join}
 use Rattle.sp_areas.specs.Blocks.{number_from}
 use Rattle.sp_areas.proofs.BlockLaws.{place_none, place_some}
 use Rattle.sp_shapes.specs.declared.shapes.Shapes.{Shapes}
@@ -38,7 +39,6 @@ use Rattle.sp_effects.specs.Sets.{all_new}
 use Rattle.sp_effects.proofs.Members.{new_from, new_is}
 use Rattle.sp_effects.proofs.Linking.{called_is}
 use Rattle.sp_effects.proofs.Owned.{in_own, own_in}
-use Rattle.sp_effects.proofs.Alone.{different_join}
 
 -- ---- answers that are given
 

@@ -4,20 +4,19 @@ use Rattle.std.proofs.Common.{◌≡◌, ◌⊎◌, inl, inr, ℕ, zero, suc, �
 use Rattle.std.specs.Prelude.{map}
 use Rattle.std.specs.List.Sorted.{IsPermutation}
 use Rattle.std.proofs.lemmas.Option.{none-some, same_Some}
-use Rattle.sp_journal.specs.declared.entry.Way.TheVariants as way
 use Rattle.sp_journal.specs.declared.outcome.Waiter.{Waiter}
-use Rattle.sp_journal.specs.Births.{Births, channel}
+use Rattle.sp_journal.specs.Births.{Births}
 use Rattle.sp_journal.specs.Queue.{numbers}
 use Rattle.sp_journal.proofs.BirthLaws.{Lawful}
 use Rattle.sp_cell.specs.Map.{Plain}
 use Rattle.sp_meaning.specs.Ends.{Waiting, waiter_of}
 use Rattle.sp_code.specs.Control.{Control, Doing, Unborn, Sending, Receiving, control_at_start}
-use Rattle.sp_code.specs.Machine.{Stop, Forks, Opens, Sends, Receives, Ends, Pauses, Config}
-use Rattle.sp_code.specs.Memory.{Memory}
+use Rattle.sp_code.specs.Machine.{Stop, Forks, Opens, Sends, Receives, Ends, Pauses}
 use Rattle.sp_code.specs.System.{System, Condition, Absent, Working, Waits, Joins, Laid, Gone, Over}
 use Rattle.sp_history.specs.Agreement.{phase_in}
 use Rattle.sp_link.specs.Endings.{waiting_at, WaitsAs, IsStuck, IsWaiting, with_waiting, waiting_from}
 use Rattle.sp_link.proofs.SortedWaiters.{all_waiting}
+use Rattle.sp_link.proofs.Histories.{Sends_at, Receives_at, Waits_with}
 use Rattle.sp_runner.specs.Ends.{IsDeadlock, offer_in, waiting, waiters_among}
 
 -- ---- the control that knows of those that wait alone
@@ -38,15 +37,6 @@ doing_in (Joins n c) = Unborn
 doing_in (Laid c) = Unborn
 doing_in Gone = Unborn
 doing_in (Over c) = Unborn
-
-abbrev Sends_at : Births → ℕ → ℕ → Waiting
-Sends_at b i c = record { who = b.name i; way = way.Send; channel = channel b c }
-
-abbrev Receives_at : Births → ℕ → ℕ → Waiting
-Receives_at b i c = record { who = b.name i; way = way.Receive; channel = channel b c }
-
-abbrev Waits_with : Births → ℕ → Condition Plain → Waiting → Type 0
-Waits_with b i X w = (stop : Stop) × (d : Config (Memory Plain)) × (X ≡ Waits stop d) × (waiting_at b i stop ≡ Some w)
 
 to_send : (b : Births) (i c : ℕ) (X : Condition Plain) → doing_in X ≡ Sending c → Waits_with b i X (Sends_at b i c)
 to_send b i c (Waits (Sends c1 k cs) d) e = let same : c1 ≡ c = cc e in

@@ -11,7 +11,7 @@ use Rattle.sp_tree.specs.PlainSyntax.{Program}
 use Rattle.sp_tree.specs.Grammar.{IsProgram}
 use Rattle.sp_tree.specs.Viable.{Shallow}
 use Rattle.sp_tree.specs.Scans as s
-use Rattle.sp_tree.specs.Scans.{Scans, BreaksHere, BreaksAlong, BreaksLexis, LongText, IsTokens}
+use Rattle.sp_tree.specs.Scans.{Scans, BreaksHere, BreaksAlong, LongText, IsTokens}
 use Rattle.sp_base.specs.declared.halt.Refusal.{Refusal}
 use Rattle.sp_tree.specs.Breaches.{nesting, BreaksGrammar, IsFirstBroken}
 use Rattle.sp_grammar.specs.Symbols.{Symbol, AProgram, AHeading, Value, part}
@@ -24,6 +24,7 @@ use Rattle.sp_grammar.proofs.Firsts.{first_broken, spells, none_broken}
 use Rattle.sp_grammar.proofs.Rising.{lexeme_length, comment_length}
 use Rattle.sp_grammar.proofs.OneList.{not_both, one_comment, same_rest, blank_opens, opens, differ, not_blank}
 use Rattle.sp_scan.proofs.Breaches.{fine_blank, comment_item}
+use Rattle.sp_scan.proofs.Scanning.{nothing_here, lexis}
 use Rattle.sp_format.specs.Items.{Item, HasItems}
 use Rattle.sp_format.specs.Layout.{canonical}
 use Rattle.sp_format.specs.Formats.{HasTree, IsCanonical, IsLong}
@@ -51,23 +52,10 @@ tokens_of text (kept_token {bs = bs} {u = u} k o l f x) = let y = tokens_of text
       kinds = ap (λ ks. k ∷ ks) y.kinds;
     }
 
--- no rule is broken at the end
-at_end : (r : Rule) → BreaksHere r [] → ⊥
-at_end rule.S1 b = elim b [ ]
-at_end rule.S2 b = let h = b.opens in cc
-at_end rule.S3 b = elim b [ ]
-at_end rule.S4 b = let l = lexeme_length b.number.spelled in omega arith
-at_end rule.S5 b = let l = lexeme_length b.name.spelled in omega arith
-at_end rule.U1 (inl b) = let l = lexeme_length b.name.spelled in omega arith
-at_end rule.U1 (inr b) = elim b [ ]
-at_end rule.U2 (inl b) = let l = lexeme_length b.number.spelled in omega arith
-at_end rule.U2 (inr b) = elim b [ ]
-at_end r b = b
-
 -- nor anywhere along such bytes
 fine : {text bs rest : List ℕ} {is : List Item} {ts : List Token} → Kept bs is → Scans text bs rest ts → (r : Rule)
     → BreaksHere r rest → ⊥
-fine kept_end s.nothing r b = at_end r b
+fine kept_end s.nothing r b = nothing_here r b
 fine kept_end (s.comment c z) r b = let l = comment_length c in omega arith
 fine kept_end (s.token k o l z) r b = let m = lexeme_length l.spelled in omega arith
 fine (kept_blank {bs = bs} a h x) s.nothing r b = fine_blank a bs h r b
@@ -84,10 +72,6 @@ fine (kept_token k o l f x) (s.blank a h z) r b = not_blank l.spelled h
 fine (kept_token k o l f x) (s.comment c z) r b = differ (opens c) o
 fine {text} {rest = rest} (kept_token k o l f x) (s.token {ts = ts} j o' m z) r b =
     fine x (subst (λ u. Scans text u rest ts) (same_rest [] m l) z) r b
-
-lexis : (text : List ℕ) (r : Rule) (at : Place) → BreaksLexis text r at → LongText text at ⊎ BreaksAlong text r at
-lexis text rule.L1 at b = inl b
-lexis text r at b = inr b
 
 no_lexis : (text : List ℕ) {is : List Item} → Kept text is → length text ≤ 1048576 → (r : Rule) (at : Place)
     → LongText text at ⊎ BreaksAlong text r at → ⊥

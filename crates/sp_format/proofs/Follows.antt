@@ -26,7 +26,8 @@ use Rattle.sp_scan.proofs.Breaches.{fine_number, fine_name, other_token}
 use Rattle.sp_tree.specs.Places.{place_at}
 use Rattle.sp_tree.specs.PlainSyntax.{Program}
 use Rattle.sp_tree.specs.Breaches.{IsTree}
-use Rattle.sp_format.proofs.Walking.{one_items, to_lexis}
+use Rattle.sp_scan.proofs.Scanning.{to_lexis}
+use Rattle.sp_format.proofs.Walking.{one_items}
 use Rattle.sp_format.proofs.Neat.{clash, apart_from, program_apart}
 use Rattle.sp_format.proofs.Again.{Stops, Parts, ReadsToken, goes_on, front_is, map_twice, comment_again, token_again}
 use Rattle.sp_format.proofs.Again.{lexeme_first, First}

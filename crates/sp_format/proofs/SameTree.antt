@@ -31,6 +31,7 @@ use Rattle.sp_grammar.specs.Derives.{Begins, Derives, takes, skips, DerivesAll, 
 use Rattle.sp_grammar.proofs.From.{found, from}
 use Rattle.sp_grammar.proofs.To as to
 use Rattle.sp_grammar.proofs.OneList.{Tail, here, there, lexeme_tail, one_list}
+use Rattle.sp_parse.proofs.Fitting.{Tail as Front}
 use Rattle.sp_format.specs.Items as i
 use Rattle.sp_format.specs.Items.{Item, HasItems, item, spelled, front}
 use Rattle.sp_format.specs.Formats.{IsCanonical}
@@ -243,9 +244,6 @@ module _ (text other : List ℕ) where
       nothing (u ∷ us) a = absurd a
 
 -- ---- what stands in front of the rest
-
-abbrev Front : List ℕ → List ℕ → Type 0
-Front bs r = (f : List ℕ) × (bs ≡ f ++ r)
 
 further : (b : ℕ) {bs r : List ℕ} → Front bs r → Front (b ∷ bs) r
 further b x = (b ∷ x.0, ap (λ l. b ∷ l) x.1)

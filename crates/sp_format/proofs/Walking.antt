@@ -1,10 +1,8 @@
 -- The items of bytes are one list, and the layout goes along them.
-use Rattle.std.proofs.Common.{◌≡◌, ℕ, zero, suc, ◌+◌, ◌-◌, ◌<◌, ◌≤◌, Bool, true, false, cond, List, [], ◌∷◌, ◌++◌}
-use Rattle.std.proofs.Common.{length, length-append, append_assoc, Option, Some, None, ◌⊎◌, inl, inr, refl}
+use Rattle.std.proofs.Common.{◌≡◌, ℕ, zero, suc, ◌+◌, ◌-◌, ◌<◌, ◌≤◌, true, false, List, [], ◌∷◌, ◌++◌}
+use Rattle.std.proofs.Common.{length, length-append, append_assoc, Option, Some, None, refl}
 use Rattle.std.proofs.Common.{sym as back_of, ap, ◌∙◌, subst, arith}
-use Rattle.std.proofs.lemmas.Bool.{cases_lt}
 use Rattle.std.proofs.lemmas.List.{append-nil}
-use Rattle.sp_base.specs.declared.place.Place.{Place}
 use Rattle.sp_base.specs.declared.halt.Refusal.{Refusal}
 use Rattle.sp_base.specs.declared.rule.Rule.{Rule}
 use Rattle.sp_base.specs.declared.rule.Rule.TheVariants as rule
@@ -14,12 +12,15 @@ use Rattle.sp_tree.specs.Characters.{is_blank}
 use Rattle.sp_tree.specs.Places.{start, place_at}
 use Rattle.sp_tree.specs.Lexemes.{Comment, Longest, Lexeme, opens_comment}
 use Rattle.sp_tree.specs.Scans as s
-use Rattle.sp_tree.specs.Scans.{Scans, BreaksHere, BreaksAlong, BreaksLexis, IsTokens, offset}
+use Rattle.sp_tree.specs.Scans.{Scans, BreaksHere, IsTokens, offset}
 use Rattle.sp_grammar.proofs.Rising.{lexeme_length, comment_length}
 use Rattle.sp_grammar.proofs.OneList.{one_comment, one_kind, same_rest, blank_opens, opens, differ, not_blank}
 use Rattle.sp_grammar.proofs.Scanned.{scans_chain}
 use Rattle.sp_scan.specs.Finds as f
 use Rattle.sp_scan.specs.Finds.{IsGap, blank_gap, comment_gap}
+use Rattle.sp_scan.proofs.Scanning.{to_lexis}
+use Rattle.sp_scan.proofs.Along.{line_by}
+use Rattle.sp_parse.proofs.Fitting.{short as is_short}
 use Rattle.sp_format.specs.declared.context.Context.{Context}
 use Rattle.sp_format.specs.Items.{Item, item, item_from, spelled, front, HasItems, no_item, blank, comment, token}
 use Rattle.sp_format.specs.Layout.{context_of, gap, laid, canonical, indentation, count, begins, ends, opens as opens'}
@@ -116,13 +117,6 @@ pub record LaidSoFar (text rest out : List ℕ) (context : Context) : Type 0 whe
   pub few_opened : context.opened + length rest ≤ 1048576
   pub few_closed : context.closed + length rest ≤ 1048576
 
-pub is_short : (text : List ℕ) (ts : List Token) → IsTokens text ts → length text ≤ 1048576
-is_short text ts h = split (cases_lt 1048576 (length text))
-  where
-    split : (1048576 < length text) ⊎ (length text ≤ 1048576) → length text ≤ 1048576
-    split (inl l) = absurd (h.kept rule.L1 start (record { above = l; place = refl }))
-    split (inr l) = l
-
 pub lay_start : (text out : List ℕ) (context : Context) (ts : List Token) → IsTokens text ts → out ≡ []
     → context ≡ context_of [] → LaidSoFar text text out context
 lay_start text out context ts h e f = let y = items_of refl h.scans in let l = is_short text ts h in record {
@@ -140,10 +134,6 @@ lay_start text out context ts h e f = let y = items_of refl h.scans in let l = i
   few_opened = omega (arith, ap (λ (c : Context). c.opened) f);
   few_closed = omega (arith, ap (λ (c : Context). c.closed) f);
 }
-
-pub to_lexis : (text : List ℕ) (r : Rule) (at : Place) → BreaksAlong text r at → BreaksLexis text r at
-to_lexis text rule.L1 at b = absurd b.here
-to_lexis text r at b = b
 
 -- no rule is broken at the rest
 pub lay_kept : {text rest out : List ℕ} {context : Context} (ts : List Token) → IsTokens text ts
@@ -213,10 +203,6 @@ stands {text} {rest} {after} b (Some k) e n g x =
       less = lexeme_length g.1.spelled;
     }
 
-more_by : (n : ℕ) (c : Bool) → cond c (n + 1) n ≤ n + 1
-more_by n true = omega arith
-more_by n false = omega arith
-
 module _ {text rest out others : List ℕ} {context : Context} (after : List ℕ) (b : ℕ) (k : Option Kind)
     (e : rest ≡ b ∷ others) (n : is_blank b ≡ false) (g : f.Item rest k after)
     (x : LaidSoFar text rest out context) where
@@ -255,7 +241,7 @@ module _ {text rest out others : List ℕ} {context : Context} (after : List ℕ
           here.less,
           ap (λ (c : Context). c.begun) z,
           ap (λ (c : Context). c.begun) x.context_is,
-          more_by (count begins x.before) (begins k),
+          line_by (count begins x.before) (begins k),
         );
         few_ended = omega (
           arith,
@@ -263,7 +249,7 @@ module _ {text rest out others : List ℕ} {context : Context} (after : List ℕ
           here.less,
           ap (λ (c : Context). c.ended) z,
           ap (λ (c : Context). c.ended) x.context_is,
-          more_by (count ends x.before) (ends k),
+          line_by (count ends x.before) (ends k),
         );
         few_opened = omega (
           arith,
@@ -271,7 +257,7 @@ module _ {text rest out others : List ℕ} {context : Context} (after : List ℕ
           here.less,
           ap (λ (c : Context). c.opened) z,
           ap (λ (c : Context). c.opened) x.context_is,
-          more_by (count opens' x.before) (opens' k),
+          line_by (count opens' x.before) (opens' k),
         );
         few_closed = omega (
           arith,
@@ -279,7 +265,7 @@ module _ {text rest out others : List ℕ} {context : Context} (after : List ℕ
           here.less,
           ap (λ (c : Context). c.closed) z,
           ap (λ (c : Context). c.closed) x.context_is,
-          more_by (count closes x.before) (closes k),
+          line_by (count closes x.before) (closes k),
         );
       }
 

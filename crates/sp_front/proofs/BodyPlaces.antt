@@ -23,6 +23,7 @@ use Rattle.sp_grammar.proofs.Order.{rises}
 use Rattle.sp_grammar.proofs.Rising.{Rising, rising}
 use Rattle.sp_grammar.proofs.To as to
 use Rattle.sp_types.specs.StatementNumbers.{DiffersFrom, AllDiffer}
+use Rattle.sp_types.proofs.StatementNumbers.{differs_both}
 
 -- where a statement stands
 abbrev pub place_of : tree.Statement → Place
@@ -161,10 +162,6 @@ module _ (text : List ℕ) (Ok : ℕ → List Token → Type 0) where
   in_front : (i lo hi : ℕ) (is : List ℕ) → i < lo → AllIn lo hi is → DiffersFrom i is
   in_front i lo hi [] l a = tt
   in_front i lo hi (j ∷ js) l a = (λ e. let b = a.0 in absurd (omega (arith, e)), in_front i lo hi js l a.2)
-
-  differs_both : (i : ℕ) (is js : List ℕ) → DiffersFrom i is → DiffersFrom i js → DiffersFrom i (is ++ js)
-  differs_both i [] js a b = b
-  differs_both i (j ∷ is) js a b = (a.0, differs_both i is js a.1 b)
 
   all_both : (lo mid hi high : ℕ) (is js : List ℕ) → mid ≤ hi → AllIn lo mid is → AllIn hi high js → AllDiffer is
       → AllDiffer js → AllDiffer (is ++ js)

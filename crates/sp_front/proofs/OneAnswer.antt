@@ -9,6 +9,7 @@ use Rattle.sp_tree.specs.PlainChecked as c
 use Rattle.sp_types.specs.TypeFirst.{typed}
 use Rattle.sp_tree.specs.Bare.{bare}
 use Rattle.sp_tree.specs.Plain as m
+use Rattle.sp_scope.proofs.Found.{inner}
 use Rattle.sp_front.specs.Checks.{IsNamed, IsChecked, IsProgramOf, BreaksNames, BreaksTypes, BreaksFirst}
 
 -- what the characters and the grammar say
@@ -21,10 +22,6 @@ OneRefusal = (text : List ℕ) (a b : Refusal) → IsFirstBroken text a → IsFi
 abbrev pub NotBoth : Type 0
 NotBoth = (text : List ℕ) (p : s.Program) (r : Refusal) → IsTree text p → IsFirstBroken text r → ⊥
 
-abbrev value_or : {A : Type 0} → A → Result A Refusal → A
-value_or x (Ok y) = y
-value_or x (Err r) = x
-
 abbrev refusal_or : {A : Type 0} → Refusal → Result A Refusal → Refusal
 refusal_or r (Ok y) = r
 refusal_or r (Err s) = s
@@ -32,9 +29,6 @@ refusal_or r (Err s) = s
 abbrev IsOk : {A : Type 0} → Result A Refusal → Type 0
 IsOk (Ok x) = Unit {0}
 IsOk (Err r) = ⊥
-
-same_value : {A : Type 0} (x y : A) → ◌≡◌ {A = Result A Refusal} (Ok x) (Ok y) → x ≡ y
-same_value x y e = ap (value_or x) e
 
 same_refusal : {A : Type 0} (a b : Refusal) → ◌≡◌ {A = Result A Refusal} (Err a) (Err b) → a ≡ b
 same_refusal a b e = ap (refusal_or a) e
@@ -49,10 +43,10 @@ onward phase p q x y e h k = back_of h ∙ (ap phase e ∙ k)
 
 module _ (one : OneTree) (text : List ℕ) where
   named_once : (p q : n.Program) → IsNamed text p → IsNamed text q → p ≡ q
-  named_once p q (t, h, x) (u, k, y) = same_value p q (onward resolved t u (Ok p) (Ok q) (one text t u h k) x y)
+  named_once p q (t, h, x) (u, k, y) = inner p q (onward resolved t u (Ok p) (Ok q) (one text t u h k) x y)
 
   pub checked_once : (p q : c.Program) → IsChecked text p → IsChecked text q → p ≡ q
-  checked_once p q (m, h, x) (o, k, y) = same_value p q (onward typed m o (Ok p) (Ok q) (named_once m o h k) x y)
+  checked_once p q (m, h, x) (o, k, y) = inner p q (onward typed m o (Ok p) (Ok q) (named_once m o h k) x y)
 
   pub program_once : (p q : m.Program) → IsProgramOf text p → IsProgramOf text q → p ≡ q
   program_once p q (t, h, x) (u, k, y) = back_of x ∙ (ap bare (checked_once t u h k) ∙ y)

@@ -1,21 +1,17 @@
 -- The plan of a fork by its children: no spot moves to two of them, and what one shares is shared by the plan.
 use Rattle.std.proofs.Common.{◌≡◌, ◌≢◌, ◌⊎◌, inl, inr, ℕ, zero, suc, ◌+◌, ◌<◌, ℤ, List}
-use Rattle.std.proofs.Common.{[], ◌∷◌, ◌++◌, subst, arith}
+use Rattle.std.proofs.Common.{[], subst, arith}
 use Rattle.sp_base.proofs.Facts.{less_same_or_more}
 use Rattle.sp_cell.specs.declared.spot.Spot.{Spot}
 use Rattle.sp_cell.specs.Fork.{moved_of, shared_of}
-use Rattle.sp_cell.proofs.Plan.{not_both, in_front, in_back, distinct_back}
+use Rattle.sp_cell.proofs.Plan.{in_front, in_back, distinct_back}
 use Rattle.sp_cell.specs.Spots.{In, IsDistinct}
 use Rattle.sp_code.specs.declared.code.ForkTable.{ForkTable}
 use Rattle.sp_code.specs.declared.code.Layout.{Layout}
 use Rattle.sp_code.specs.Memory.{Frame}
 use Rattle.sp_code.specs.System.{plan_from}
 use Rattle.sp_code.proofs.Plans.{moved_back, one}
-
-not_twice : (s : Spot) (xs ys : List Spot) → IsDistinct (xs ++ ys) → In s xs → In s ys → ⊥
-not_twice s [] ys d i j = i
-not_twice s (x ∷ xs) ys d (inl e) j = not_both x (xs ++ ys) (in_back x xs ys (subst (λ z. In z ys) e j)) d.0
-not_twice s (x ∷ xs) ys d (inr i) j = not_twice s xs ys d.1 i j
+use Rattle.sp_history.proofs.Splitting.{distinct_apart}
 
 module _ (ls : List Layout) (fs : List Frame) (t : ForkTable) (value : ℤ) where
   once_from : (i n j k : ℕ) (s : Spot) → j < k → k < n → IsDistinct
@@ -23,7 +19,7 @@ module _ (ls : List Layout) (fs : List Frame) (t : ForkTable) (value : ℤ) wher
       → In s (one ls fs t value (i + j)).moved → In s (one ls fs t value (i + k)).moved → ⊥
   once_from i zero j k s l h d a b = omega (arith, h)
   once_from i (suc n) j zero s l h d a b = omega (arith, l)
-  once_from i (suc n) zero (suc k) s l h d a b = not_twice s (one ls fs t value i).moved
+  once_from i (suc n) zero (suc k) s l h d a b = distinct_apart s (one ls fs t value i).moved
       (moved_of (plan_from ls fs t value (suc i) n)) d
       (subst (λ z. In s (one ls fs t value z).moved) {x = i + 0} {y = i} (omega arith) a)
       (moved_back ls fs t value (suc i) n k s (omega (arith, h))

@@ -435,7 +435,7 @@ module _ (g : Setting) (s : System Plain) (q : ℕ) (c0 : Config (Memory Plain))
 
 -- ---- the start
 
-pieces_later : (m : Map) (n v : ℕ) (cs : List ℕ) (q : Spot) → q.variable < v
+pub pieces_later : (m : Map) (n v : ℕ) (cs : List ℕ) (q : Spot) → q.variable < v
     → map.get (with_pieces m n v cs) q ≡ map.get m q
 pieces_later m n v [] q l = refl
 pieces_later m n v (c ∷ cs) q l =

@@ -1,5 +1,5 @@
 -- What stands once a run is over: no process is out, and where no worker gave up none is gone.
-use Rattle.std.proofs.Common.{◌≡◌, ◌≢◌, ◌⊎◌, ◌-◌, length, ℕ, ◌<◌, ◌==◌, if◌then◌else◌, cond, Bool, true, false, inl}
+use Rattle.std.proofs.Common.{◌≡◌, ◌≢◌, ◌⊎◌, ◌-◌, ℕ, ◌<◌, ◌==◌, if◌then◌else◌, cond, Bool, true, false, inl}
 use Rattle.std.proofs.Common.{inr, List, [], ◌∷◌, Option, Some, None, refl, sym, ◌∙◌, subst, arith}
 use Rattle.sp_journal.specs.declared.entry.Way.{Way}
 use Rattle.sp_journal.specs.declared.entry.Way.TheVariants as way
@@ -18,9 +18,8 @@ use Rattle.sp_kernel.specs.declared.kernel.Kernel.{Kernel}
 use Rattle.sp_kernel.specs.Kernels.{control_of, system_of, setting_of}
 use Rattle.sp_kernel.specs.Asks.{IsOpening}
 use Rattle.sp_kernel.specs.Closes.{RanTo}
-use Rattle.sp_history.specs.Agreement.{Among}
 use Rattle.sp_history.proofs.Agreeing.{agrees_start, orderly_start}
-use Rattle.sp_history.proofs.Queues.{number_or, at_same, at_other}
+use Rattle.sp_history.proofs.Queues.{number_or, at_same, at_other, among_none}
 use Rattle.sp_history.specs.Agreement.{HasOuts}
 use Rattle.sp_history.proofs.Outs.{outs_start, outs_all}
 use Rattle.sp_kernel.specs.Keeping.{from_start, control_is}
@@ -157,12 +156,8 @@ all_here x fine log y ran kept = record { away = away; gone = gone }
         (outs_all plain (setting_of x) control_at_start (opening plain (setting_of x)) (system_of y) log orderly_start
         (agrees_start plain (setting_of x)) outs_start (from_start x fine log y ran.legal))
 
-    empty : (q : ℕ) (xs : List ℕ) → length xs ≡ 0 → Among q xs → ⊥
-    empty q [] e i = i
-    empty q (z ∷ xs) e i = omega (arith, e)
-
     away : (q w : ℕ) → (control_of y).doing q ≡ Out w → ⊥
-    away q w e = empty q outs.outs (outs.count ∙ ran.over.1) (outs.all q (w, e))
+    away q w e = among_none q outs.outs (outs.count ∙ ran.over.1) (outs.all q (w, e))
 
     gone : (q : ℕ) → (control_of y).doing q ≡ Gone → ⊥
     gone q e = let a = subst NoneGone (sym (control_is x fine log y ran.legal))

@@ -21,7 +21,7 @@ use Rattle.sp_meaning.specs.Owning.{Aimed, Used, Sound}
 use Rattle.sp_meaning.specs.Run.{Store}
 use Rattle.sp_meaning.proofs.Rights.{Mine}
 use Rattle.sp_code.specs.declared.code.ChildTable.{ChildTable}
-use Rattle.sp_code.specs.Machine.{Entry, Config, At}
+use Rattle.sp_code.specs.Machine.{Entry, At}
 use Rattle.sp_code.specs.Memory.{Memory}
 use Rattle.sp_code.specs.PlainStore.{plain}
 use Rattle.sp_code.specs.System.{spot_of, newborn, handing_of, on_store as On_store}
@@ -35,7 +35,7 @@ use Rattle.sp_code.specs.Emitted.{child_table}
 use Rattle.sp_codegen.specs.Joints.{Joint, sources, from}
 use Rattle.sp_codegen.specs.Relation.{Placed}
 use Rattle.sp_codegen.proofs.Owners.{no_longer_owner}
-use Rattle.sp_codegen.proofs.Begins.{child_begins}
+use Rattle.sp_codegen.proofs.Begins.{child_begins, memory_in}
 use Rattle.sp_codegen.proofs.Birth.{low_small}
 use Rattle.sp_codegen.proofs.Born.{ChildIs, Seen, child_follows}
 use Rattle.sp_code.proofs.Plans.{in_spots}
@@ -52,10 +52,6 @@ use Rattle.sp_tree.specs.Interference.{IsIndexOf}
 use Rattle.sp_meaning.proofs.Within.{part}
 use Rattle.sp_link.proofs.Relation.{Ground, Life, Called, Named, Fresh, St, Stands, Joined, Handed, Fo, left_of}
 use Rattle.sp_link.proofs.Relation.{execution, run_is}
-
--- the memory of a process
-abbrev pub memory_in : Config (Memory Plain) → Memory Plain
-memory_in (At pc st n) = n
 
 -- what is reached from uses that are formed is formed
 pub reached_formed : (G : Ground) {Here : Use → Type 0} (bs : List ℕ) → ((u : Use) → Here u → IsFormedUse G.g.program u)

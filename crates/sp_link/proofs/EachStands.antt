@@ -41,13 +41,13 @@ use Rattle.sp_codegen.specs.Joints.{Joint, sources, from}
 use Rattle.sp_codegen.specs.Lives.{Seen}
 use Rattle.sp_codegen.specs.Relation.{Placed}
 use Rattle.sp_codegen.specs.Standing.{Stand, spot_at}
-use Rattle.sp_codegen.proofs.Begins.{index_child_begins}
+use Rattle.sp_codegen.proofs.Begins.{index_child_begins, memory_in}
 use Rattle.sp_codegen.proofs.Birth.{low_small}
 use Rattle.sp_codegen.proofs.Born.{child_follows}
 use Rattle.sp_codegen.proofs.Handed.{MovedStands, moved_stands, shared_piece, output_unshared}
 use Rattle.sp_codegen.proofs.Owners.{no_longer_owner}
 use Rattle.sp_codegen.proofs.Slots.{no_index_console}
-use Rattle.sp_link.proofs.ChildrenStand.{memory_in, reached_formed, consoles}
+use Rattle.sp_link.proofs.ChildrenStand.{reached_formed, consoles}
 use Rattle.sp_link.proofs.Relation.{Ground, Life, Called, Named, Fresh, St, Stands, Handed, execution, run_is}
 use Rattle.sp_link.proofs.Scoping.{is_scoped, index_further}
 

@@ -52,10 +52,7 @@ use Rattle.sp_code.proofs.Plans.{none_distinct, moved_by, shared_by}
 use Rattle.sp_link.proofs.Pauses.{Entry_of, Meant, Machined, Kept_to, kids}
 use Rattle.sp_link.proofs.Relation.{Ground, Life, Lives, W_of, R_of, Called, Fresh, Stands, Handed, St, Linked}
 use Rattle.sp_link.proofs.Relation.{execution, run_is}
-use Rattle.sp_link.proofs.Newborns.{newborns_length}
-
-abbrev cons : ℕ × ℕ → Name → Name
-cons a w = a ∷ w
+use Rattle.sp_link.proofs.Newborns.{newborns_length, cons}
 
 -- a range that is not empty has a value, one child each
 some_value : (lo hi : ℤ) → int_lt hi lo ≡ false → 1 ≤ nat_abs ((hi -ℤ lo) +ℤ pos 1)

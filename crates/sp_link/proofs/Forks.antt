@@ -31,14 +31,14 @@ use Rattle.sp_meaning.specs.Owning.{Born}
 use Rattle.sp_meaning.specs.SuperPascal.{superpascal, with_todo}
 use Rattle.sp_meaning.specs.Run.{Store}
 use Rattle.sp_meaning.specs.Runs.{StateOf, most, next, says, said_of}
-use Rattle.sp_meaning.specs.Along.{Course, ticks_in, ticks_of, noted}
+use Rattle.sp_meaning.specs.Along.{Course, ticks_in, ticks_of, noted, Either}
 use Rattle.sp_meaning.specs.Turn as source
-use Rattle.sp_meaning.proofs.Children.{Pick, AimedAt, UsedAt, writes_after, reads_after, it_is}
+use Rattle.sp_meaning.proofs.Children.{AimedAt, UsedAt, writes_after, reads_after, it_is}
 use Rattle.sp_meaning.proofs.Keys.{name_test, number_or}
 use Rattle.sp_meaning.proofs.Maps.{at_same, at_other, differs, itself, same_or_not}
 use Rattle.sp_meaning.proofs.Owned.{Inv, Holds, known_if, forks_keep, after_births}
 use Rattle.sp_meaning.proofs.QuietDeeds.{IsDead}
-use Rattle.sp_meaning.proofs.Reached.{Known, step_well, raised, lowered}
+use Rattle.sp_meaning.proofs.Reached.{Known, step_well, raised, lowered, Conditions}
 use Rattle.sp_meaning.proofs.Rights.{All, Mine}
 use Rattle.sp_meaning.proofs.Sound.{step_sound}
 use Rattle.sp_meaning.proofs.Status.{working_lives}
@@ -66,7 +66,7 @@ use Rattle.sp_link.proofs.OthersStay.{does_stay}
 use Rattle.sp_link.proofs.Pauses.{Entry_of, Meant, Machined, Kept_to, kids, turn_is, after_quiet, way_of_step}
 use Rattle.sp_link.proofs.Relation.{Ground, Life, Lives, W_of, R_of, Stands, Joined, Handed, St, Rel, law, Performs}
 use Rattle.sp_link.proofs.Relation.{Performs_all, Linked, Began, run_is, ops}
-use Rattle.sp_link.proofs.Newborns.{Conditions, born_at, born_else, born_is, newborns_at, newborns_length, pick, cons}
+use Rattle.sp_link.proofs.Newborns.{born_at, born_else, born_is, newborns_at, newborns_length, pick, cons}
 
 pub is_less : (a b : ℕ) → a < b → nat_lt a b ≡ true
 is_less a b h = go (nat_lt a b) refl
@@ -389,7 +389,7 @@ module _ (G : Ground) (lv : Lives G) (c : Course) (s : StateOf G.g) (u : System 
     to_writes [] b h = h
     to_writes ((a, j) ∷ w) b h = go (same_name v w && (a == k)) h
       where
-        go : (f : Bool) → Pick f (Aims_at j b) ((lv ((a, j) ∷ w)).W b) → (pick f (new_life j) (lv ((a, j) ∷ w))).W b
+        go : (f : Bool) → Either f (Aims_at j b) ((lv ((a, j) ∷ w)).W b) → (pick f (new_life j) (lv ((a, j) ∷ w))).W b
         go true h = to_w j b h
         go false h = h
 
@@ -397,7 +397,7 @@ module _ (G : Ground) (lv : Lives G) (c : Course) (s : StateOf G.g) (u : System 
     from_writes [] b h = h
     from_writes ((a, j) ∷ w) b h = go (same_name v w && (a == k)) h
       where
-        go : (f : Bool) → (pick f (new_life j) (lv ((a, j) ∷ w))).W b → Pick f (Aims_at j b) ((lv ((a, j) ∷ w)).W b)
+        go : (f : Bool) → (pick f (new_life j) (lv ((a, j) ∷ w))).W b → Either f (Aims_at j b) ((lv ((a, j) ∷ w)).W b)
         go true h = from_w j b h
         go false h = h
 
@@ -405,7 +405,7 @@ module _ (G : Ground) (lv : Lives G) (c : Course) (s : StateOf G.g) (u : System 
     to_reads [] b h = h
     to_reads ((a, j) ∷ w) b h = go (same_name v w && (a == k)) h
       where
-        go : (f : Bool) → Pick f (Uses_at j b) ((lv ((a, j) ∷ w)).R b) → (pick f (new_life j) (lv ((a, j) ∷ w))).R b
+        go : (f : Bool) → Either f (Uses_at j b) ((lv ((a, j) ∷ w)).R b) → (pick f (new_life j) (lv ((a, j) ∷ w))).R b
         go true h = to_r j b h
         go false h = h
 
@@ -413,7 +413,7 @@ module _ (G : Ground) (lv : Lives G) (c : Course) (s : StateOf G.g) (u : System 
     from_reads [] b h = h
     from_reads ((a, j) ∷ w) b h = go (same_name v w && (a == k)) h
       where
-        go : (f : Bool) → (pick f (new_life j) (lv ((a, j) ∷ w))).R b → Pick f (Uses_at j b) ((lv ((a, j) ∷ w)).R b)
+        go : (f : Bool) → (pick f (new_life j) (lv ((a, j) ∷ w))).R b → Either f (Uses_at j b) ((lv ((a, j) ∷ w)).R b)
         go true h = from_r j b h
         go false h = h
 

@@ -172,13 +172,13 @@ no_queue (p ∷ ps) e = absurd (cc e)
 
 -- ---- who waits, by the control and by the system
 
-abbrev Sends_at : Births → ℕ → ℕ → Waiting
+abbrev pub Sends_at : Births → ℕ → ℕ → Waiting
 Sends_at b i c = record { who = b.name i; way = way.Send; channel = channel b c }
 
-abbrev Receives_at : Births → ℕ → ℕ → Waiting
+abbrev pub Receives_at : Births → ℕ → ℕ → Waiting
 Receives_at b i c = record { who = b.name i; way = way.Receive; channel = channel b c }
 
-abbrev Waits_with : Births → ℕ → Condition Plain → Waiting → Type 0
+abbrev pub Waits_with : Births → ℕ → Condition Plain → Waiting → Type 0
 Waits_with b i X w = (stop : Stop) × (d : Config (Memory Plain)) × (X ≡ Waits stop d) × (waiting_at b i stop ≡ Some w)
 
 to_send : (b : Births) (i c : ℕ) (X : Condition Plain) → ToSend c ≡ phase_in X → Waits_with b i X (Sends_at b i c)

@@ -4,15 +4,16 @@ use Rattle.std.proofs.Common.{ap, ◌∙◌, subst, arith, add-zero}
 use Rattle.std.specs.Prelude.{◌≢◌, ◌-◌, slice_get}
 use Rattle.sp_base.proofs.Facts.{is_plus_none, next_goes_right, same_head}
 use Rattle.sp_meaning.specs.Maps.{at_key as put_at}
-use Rattle.sp_meaning.specs.Model.{Name, same_name, Condition, Works, Becomes, changed, after as After}
+use Rattle.sp_meaning.specs.Model.{Name, same_name, Works, Becomes, changed, after as After}
 use Rattle.sp_meaning.specs.Steps.{births}
-use Rattle.sp_meaning.specs.Own.{Setting, Held, Address, Own, Who, Process}
+use Rattle.sp_meaning.specs.Own.{Setting, Own, Who, Process}
 use Rattle.sp_meaning.specs.Deeds.{Birth, newborn, newborns}
 use Rattle.sp_meaning.specs.SuperPascal.{superpascal}
 use Rattle.sp_meaning.specs.Runs.{StateOf}
 use Rattle.sp_meaning.proofs.Keys.{name_test}
 use Rattle.sp_meaning.proofs.Maps.{at_same, at_other}
 use Rattle.sp_meaning.proofs.Owned.{after_births}
+use Rattle.sp_meaning.proofs.Reached.{Conditions}
 use Rattle.sp_link.proofs.Relation.{Life}
 
 abbrev pub cons : ℕ × ℕ → Name → Name
@@ -24,9 +25,6 @@ pub born_is : (g : Setting) (p : Name) (k i : ℕ) (os : List Process) (s : Stat
     ≡ record s { condition = after_births g.program p k i os s.condition }
 born_is g p k i [] s = refl
 born_is g p k i (o ∷ os) s = born_is g p k (suc i) os (changed {L = superpascal g} (Becomes ((k, i) ∷ p) (Works o)) s)
-
-abbrev pub Conditions : Type 0
-Conditions = Name → Condition Process Held Address
 
 module _ (g : Setting) (p : Name) (k : ℕ) where
   -- who is none of the children is as before

@@ -52,7 +52,7 @@ use Rattle.sp_link.proofs.Scoping.{IsScoped, is_scoped}
 use Rattle.sp_link.proofs.Splits.{parallel_split, parts_differ}
 use Rattle.sp_link.proofs.Relation.{Ground, Life, Lives, W_of, R_of, Called, Named, Fresh, Stands, Handed, St, Linked}
 use Rattle.sp_link.proofs.Relation.{execution, run_is}
-use Rattle.sp_link.proofs.Newborns.{newborns_length}
+use Rattle.sp_link.proofs.Newborns.{newborns_length, cons}
 
 -- ---- the children of a parallel statement
 
@@ -111,9 +111,6 @@ module _ (G : Ground) (free : Bool) (sc : List Scope) where
       ≡ length (children_tables G.g.program G.moves G.shares q ss)
   tables_count No q = refl
   tables_count (And st rest) q = ap suc (tables_count rest (after G.g.program q st + 1))
-
-abbrev cons : ℕ × ℕ → Name → Name
-cons a w = a ∷ w
 
 some_part : (ss : Stmts) → ss ≢ No → 1 ≤ length (children ss)
 some_part No h = absurd (h refl)

@@ -20,8 +20,7 @@ use Rattle.sp_meaning.specs.Model.{Name}
 use Rattle.sp_meaning.specs.Own.{Loc, Input, Output, Own, Who}
 use Rattle.sp_meaning.specs.Run.{Store}
 use Rattle.sp_meaning.proofs.Rights.{Mine}
-use Rattle.sp_meaning.proofs.Within.{reach_part}
-use Rattle.sp_meaning.proofs.SoundParts.{list_of}
+use Rattle.sp_meaning.proofs.SoundParts.{list_of, used_part, target_part}
 use Rattle.sp_code.specs.declared.code.ChildTable.{ChildTable}
 use Rattle.sp_code.specs.declared.code.ForkTable.{ForkTable}
 use Rattle.sp_code.specs.Emitted.{child_table, children_tables}
@@ -43,6 +42,7 @@ use Rattle.sp_code.proofs.Plans.{index_by}
 use Rattle.sp_code.proofs.StoreLaws.{held_of_cells}
 use Rattle.sp_link.proofs.Relation.{Ground, Life, Called, Named, Fresh, St}
 use Rattle.sp_link.proofs.Scoping.{parts_scoped}
+use Rattle.sp_link.proofs.Newborns.{cons}
 
 -- ---- contents
 
@@ -50,15 +50,6 @@ pub bytes_held : (c : Option Content) (bs : List ℕ) → c ≡ Some (Bytes bs) 
 bytes_held c bs e = subst (λ x. IsHeld x) (sym e) tt
 
 -- ---- uses of a part
-
-pub used_in : (p : Program) {Here Above : Use → Type 0} → ((u : Use) → Here u → Above u) → (x : ℕ) → IsUsed p Here x
-    → IsUsed p Above x
-used_in p i x (inl h) = inl (h.0, reach_part p i h.0 (Target x) h.1)
-used_in p i x (inr h) = inr (h.0, reach_part p i h.0 (Seen x) h.1)
-
-pub target_in : (p : Program) {Here Above : Use → Type 0} → ((u : Use) → Here u → Above u) → (x : ℕ) → IsTarget p Here x
-    → IsTarget p Above x
-target_in p i x h = (h.0, reach_part p i h.0 (Target x) h.1)
 
 pub inside : (ss : Stmts) (j : ℕ) (st : Stmt) → slice_get (list_of ss) j ≡ Some st → (u : Use) → In_stmt st u
     → In_stmts ss u
@@ -75,8 +66,8 @@ parts_apart p No i j k a b lt e f x = absurd (cc e)
 parts_apart p (And s rest) i zero zero a b lt e f x = absurd (omega (arith, lt))
 parts_apart p (And s rest) i zero (suc k) a b lt e f x =
     let same : s ≡ a = cc e in (
-      λ h g. i.0 x (subst (λ z. IsTarget p (In_stmt z) x) (sym same) h) (used_in p (inside rest k b f) x g),
-      λ h g. i.1 x (subst (λ z. IsUsed p (In_stmt z) x) (sym same) h) (target_in p (inside rest k b f) x g),
+      λ h g. i.0 x (subst (λ z. IsTarget p (In_stmt z) x) (sym same) h) (used_part p (inside rest k b f) x g),
+      λ h g. i.1 x (subst (λ z. IsUsed p (In_stmt z) x) (sym same) h) (target_part p (inside rest k b f) x g),
     )
 parts_apart p (And s rest) i (suc j) zero a b lt e f x = absurd (omega (arith, lt))
 parts_apart p (And s rest) i (suc j) (suc k) a b lt e f x = parts_apart p rest i.2 j k a b (omega (arith, lt)) e f x
@@ -93,9 +84,6 @@ table_of p moves shares (And s rest) q (suc j) lt = table_of p moves shares rest
 same_role : (i v : Variable) → Some i ≡ Some v → i.role ≡ Rattle.sp_tree.specs.declared.checked.Role.TheVariants.Index
     → v.role ≡ Rattle.sp_tree.specs.declared.checked.Role.TheVariants.Index
 same_role i v e h = let same : i ≡ v = cc e in ap (λ (y : Variable). y.role) (sym same) ∙ h
-
-abbrev cons : ℕ × ℕ → Name → Name
-cons a w = a ∷ w
 
 module _ (G : Ground) (lf : Life) (kids : ℕ → ℕ → Life) (q : Name) where
   abbrev Wr : Loc → Type 0
@@ -206,10 +194,10 @@ module _ (G : Ground) (lf : Life) (kids : ℕ → ℕ → Life) (q : Name) where
         )
 
     aims : (j : ℕ) (st : Stmt) → IsPart j st → (x : ℕ) → IsTarget p (In_stmt st) x → IsTarget p (In_stmt whole) x
-    aims j st e x h = target_in p (λ u a. inr (inl (inside ss j st e u a))) x h
+    aims j st e x h = target_part p (λ u a. inr (inl (inside ss j st e u a))) x h
 
     uses : (j : ℕ) (st : Stmt) → IsPart j st → (x : ℕ) → IsUsed p (In_stmt st) x → IsUsed p (In_stmt whole) x
-    uses j st e x h = used_in p (λ u a. inr (inl (inside ss j st e u a))) x h
+    uses j st e x h = used_part p (λ u a. inr (inl (inside ss j st e u a))) x h
 
     -- a spot that moves to child j, and one that it shares
     abbrev Changes : ℕ → Spot → Type 0

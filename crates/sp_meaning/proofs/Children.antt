@@ -17,10 +17,7 @@ use Rattle.sp_meaning.specs.Owning.{Sound, Fit, Aimed, Used, IsClearOf, Born}
 use Rattle.sp_meaning.proofs.Keys.{name_test}
 use Rattle.sp_meaning.proofs.Rights.{All, IsAbove, Fair_rights}
 use Rattle.sp_meaning.proofs.SoundParts.{push_good}
-
-abbrev pub Pick : Bool → Type 0 → Type 0 → Type 0
-Pick true A B = A
-Pick false A B = B
+use Rattle.sp_meaning.specs.Along.{Either}
 
 module _ (p : Program) (W R : Loc → Type 0) where
   abbrev pub AimedAt : List Frame → Option Stmt → Loc → Type 0
@@ -143,12 +140,12 @@ module _ (p : Program) (W R V T : Loc → Type 0) (fs : List Frame) (q : Name) (
 module _ (p : Program) (W R : Name → Loc → Type 0) (q : Name) (k : ℕ) (fs : List Frame) (ss : List Stmt) where
   abbrev pub writes_after : Name → Loc → Type 0
   writes_after [] l = W [] l
-  writes_after ((m, i) ∷ r) l = Pick (same_name q r && (m == k)) (AimedAt p (All W q) (All R q) fs (slice_get ss i) l)
+  writes_after ((m, i) ∷ r) l = Either (same_name q r && (m == k)) (AimedAt p (All W q) (All R q) fs (slice_get ss i) l)
       (W ((m, i) ∷ r) l)
 
   abbrev pub reads_after : Name → Loc → Type 0
   reads_after [] l = R [] l
-  reads_after ((m, i) ∷ r) l = Pick (same_name q r && (m == k)) (UsedAt p (All W q) (All R q) fs (slice_get ss i) l)
+  reads_after ((m, i) ∷ r) l = Either (same_name q r && (m == k)) (UsedAt p (All W q) (All R q) fs (slice_get ss i) l)
       (R ((m, i) ∷ r) l)
 
   -- names in question
@@ -167,7 +164,7 @@ module _ (p : Program) (W R : Name → Loc → Type 0) (q : Name) (k : ℕ) (fs 
     grow_writes ((m, i) ∷ r) l h = go (same_name q r && (m == k)) refl
       where
         go : (b : Bool) → (same_name q r && (m == k)) ≡ b
-            → Pick b (AimedAt p (All W q) (All R q) fs (slice_get ss i) l) (W ((m, i) ∷ r) l)
+            → Either b (AimedAt p (All W q) (All R q) fs (slice_get ss i) l) (W ((m, i) ∷ r) l)
         go true e = absurd (no_old r m i l (it_is r m e) (fair.reads ((m, i) ∷ r) l h))
         go false e = h
 
@@ -176,7 +173,7 @@ module _ (p : Program) (W R : Name → Loc → Type 0) (q : Name) (k : ℕ) (fs 
     grow_reads ((m, i) ∷ r) l h = go (same_name q r && (m == k)) refl
       where
         go : (b : Bool) → (same_name q r && (m == k)) ≡ b
-            → Pick b (UsedAt p (All W q) (All R q) fs (slice_get ss i) l) (R ((m, i) ∷ r) l)
+            → Either b (UsedAt p (All W q) (All R q) fs (slice_get ss i) l) (R ((m, i) ∷ r) l)
         go true e = absurd (no_old r m i l (it_is r m e) h)
         go false e = h
 
@@ -207,8 +204,8 @@ module _ (p : Program) (W R : Name → Loc → Type 0) (q : Name) (k : ℕ) (fs 
       reads' [] l h = fair.reads [] l h
       reads' ((m, i) ∷ r) l h = go (same_name q r && (m == k)) h
         where
-          go : (b : Bool) → Pick b (AimedAt p (All W q) (All R q) fs (slice_get ss i) l) (W ((m, i) ∷ r) l)
-              → Pick b (UsedAt p (All W q) (All R q) fs (slice_get ss i) l) (R ((m, i) ∷ r) l)
+          go : (b : Bool) → Either b (AimedAt p (All W q) (All R q) fs (slice_get ss i) l) (W ((m, i) ∷ r) l)
+              → Either b (UsedAt p (All W q) (All R q) fs (slice_get ss i) l) (R ((m, i) ∷ r) l)
           go true h = used_if_aimed p (All W q) (All R q) fs (slice_get ss i) l h
           go false h = fair.reads ((m, i) ∷ r) l h
 
@@ -216,7 +213,7 @@ module _ (p : Program) (W R : Name → Loc → Type 0) (q : Name) (k : ℕ) (fs 
       less_write' r m i l h = go (same_name q r && (m == k)) refl h
         where
           go : (b : Bool) → (same_name q r && (m == k)) ≡ b
-              → Pick b (AimedAt p (All W q) (All R q) fs (slice_get ss i) l) (W ((m, i) ∷ r) l) → All writes_after r l
+              → Either b (AimedAt p (All W q) (All R q) fs (slice_get ss i) l) (W ((m, i) ∷ r) l) → All writes_after r l
           go true e h = all_writes r l (subst (λ z. All W z l) (it_is r m e).0 ((right i l).0 h))
           go false e h = all_writes r l (fair.less_write r m i l h)
 
@@ -224,7 +221,7 @@ module _ (p : Program) (W R : Name → Loc → Type 0) (q : Name) (k : ℕ) (fs 
       less_read' r m i l h = go (same_name q r && (m == k)) refl h
         where
           go : (b : Bool) → (same_name q r && (m == k)) ≡ b
-              → Pick b (UsedAt p (All W q) (All R q) fs (slice_get ss i) l) (R ((m, i) ∷ r) l) → All reads_after r l
+              → Either b (UsedAt p (All W q) (All R q) fs (slice_get ss i) l) (R ((m, i) ∷ r) l) → All reads_after r l
           go true e h = all_reads r l (subst (λ z. All R z l) (it_is r m e).0 ((right i l).1 h))
           go false e h = all_reads r l (fair.less_read r m i l h)
 
@@ -233,15 +230,15 @@ module _ (p : Program) (W R : Name → Loc → Type 0) (q : Name) (k : ℕ) (fs 
       above' ((m, i) ∷ r) l h = go (same_name q r && (m == k)) refl h
         where
           go : (b : Bool) → (same_name q r && (m == k)) ≡ b
-              → Pick b (UsedAt p (All W q) (All R q) fs (slice_get ss i) l) (R ((m, i) ∷ r) l) → IsAbove ((m, i) ∷ r) l
+              → Either b (UsedAt p (All W q) (All R q) fs (slice_get ss i) l) (R ((m, i) ∷ r) l) → IsAbove ((m, i) ∷ r) l
           go true e h = above_all r m i l (subst (λ z. All R z l) (it_is r m e).0 ((right i l).1 h))
           go false e h = fair.above ((m, i) ∷ r) l h
 
       apart' : (r : Name) (m i j : ℕ) (l : Loc) → i ≢ j → writes_after ((m, i) ∷ r) l → reads_after ((m, j) ∷ r) l → ⊥
       apart' r m i j l n h g = go (same_name q r && (m == k)) h g
         where
-          go : (b : Bool) → Pick b (AimedAt p (All W q) (All R q) fs (slice_get ss i) l) (W ((m, i) ∷ r) l)
-              → Pick b (UsedAt p (All W q) (All R q) fs (slice_get ss j) l) (R ((m, j) ∷ r) l) → ⊥
+          go : (b : Bool) → Either b (AimedAt p (All W q) (All R q) fs (slice_get ss i) l) (W ((m, i) ∷ r) l)
+              → Either b (UsedAt p (All W q) (All R q) fs (slice_get ss j) l) (R ((m, j) ∷ r) l) → ⊥
           go true h g = born_clear p (All W q) (All R q) fs ss bs born i j l n h g
           go false h g = fair.apart r m i j l n h g
 

@@ -33,8 +33,9 @@ use Rattle.sp_meaning.specs.Owning.{Right, Ready, below, Linked, Fit, Sound, Bor
 use Rattle.sp_meaning.proofs.Within.{Within}
 use Rattle.sp_meaning.proofs.Deeding.{deed_from}
 use Rattle.sp_meaning.proofs.Rights.{All, Fair_rights, parallel_apart}
-use Rattle.sp_meaning.proofs.Children.{Pick, AimedAt, UsedAt, writes_after, reads_after, all_writes, all_reads}
+use Rattle.sp_meaning.proofs.Children.{AimedAt, UsedAt, writes_after, reads_after, all_writes, all_reads}
 use Rattle.sp_meaning.proofs.Children.{fair_after, child_fit, it_is}
+use Rattle.sp_meaning.specs.Along.{Either}
 
 -- of a tree that keeps within its rights: its answer, what it asks for, what it writes
 
@@ -247,7 +248,7 @@ module _ (p : Program) where
         none r k n le false e = inv.unborn r k n (omega (arith, le, f'_more r))
 
         strange : (r : Name) (k n : ℕ) (l : Loc) → f' r ≤ k → (b : Bool) → (same_name q r && (k == f q)) ≡ b
-            → Pick b (UsedAt p (All W q) (All R q) o.frames (slice_get ss n) l) (R ((k, n) ∷ r) l) → ⊥
+            → Either b (UsedAt p (All W q) (All R q) o.frames (slice_get ss n) l) (R ((k, n) ∷ r) l) → ⊥
         strange r k n l le true e h =
             let t = it_is p W R q (f q) o.frames ss r k e in
             let u : f' q ≤ k = subst (λ z. f' z ≤ k) (sym t.0) le in
@@ -270,11 +271,11 @@ module _ (p : Program) where
     it = and_from (same_name q q) (f q == f q) ((name_test q q).1 refl) (eq-eqb (f q) (f q) refl)
 
     is_write : (i : ℕ) (l : Loc) → AimedAt p (All W q) (All R q) o.frames (slice_get ss i) l → All W' ((f q, i) ∷ q) l
-    is_write i l h = inr (subst (λ b. Pick b (AimedAt p (All W q) (All R q) o.frames (slice_get ss i) l)
+    is_write i l h = inr (subst (λ b. Either b (AimedAt p (All W q) (All R q) o.frames (slice_get ss i) l)
         (W ((f q, i) ∷ q) l)) (sym it) h)
 
     is_read : (i : ℕ) (l : Loc) → UsedAt p (All W q) (All R q) o.frames (slice_get ss i) l → All R' ((f q, i) ∷ q) l
-    is_read i l h = inr (subst (λ b. Pick b (UsedAt p (All W q) (All R q) o.frames (slice_get ss i) l)
+    is_read i l h = inr (subst (λ b. Either b (UsedAt p (All W q) (All R q) o.frames (slice_get ss i) l)
         (R ((f q, i) ∷ q) l)) (sym it) h)
 
     births_keep : (i : ℕ) (ts : List Stmt) (cs : List Birth) (d : Name → Condition Process Held Address)

@@ -16,12 +16,12 @@ use Rattle.sp_meaning.specs.Owning.{IsClearOf, Born}
 use Rattle.sp_meaning.proofs.Within.{reach_part, part}
 use Rattle.sp_meaning.proofs.Keys.{number_or}
 
-used_part : (p : Program) {Here Above : Use → Type 0} → ((u : Use) → Here u → Above u) → (x : ℕ) → IsUsed p Here x
+pub used_part : (p : Program) {Here Above : Use → Type 0} → ((u : Use) → Here u → Above u) → (x : ℕ) → IsUsed p Here x
     → IsUsed p Above x
 used_part p i x (inl h) = inl (h.0, reach_part p i h.0 (Target x) h.1)
 used_part p i x (inr h) = inr (h.0, reach_part p i h.0 (Seen x) h.1)
 
-target_part : (p : Program) {Here Above : Use → Type 0} → ((u : Use) → Here u → Above u) → (x : ℕ) → IsTarget p Here x
+pub target_part : (p : Program) {Here Above : Use → Type 0} → ((u : Use) → Here u → Above u) → (x : ℕ) → IsTarget p Here x
     → IsTarget p Above x
 target_part p i x h = (h.0, reach_part p i h.0 (Target x) h.1)
 

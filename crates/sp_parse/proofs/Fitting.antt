@@ -21,7 +21,7 @@ use Rattle.sp_grammar.proofs.Scanned.{scans_chain, lower_number}
 use Rattle.sp_parse.specs.Reads.{AllFit}
 
 -- the second list is the end of the first
-abbrev Tail : List ℕ → List ℕ → Type 0
+abbrev pub Tail : List ℕ → List ℕ → Type 0
 Tail bs r = (front : List ℕ) × (bs ≡ front ++ r)
 
 more : (b : ℕ) {bs r : List ℕ} → Tail bs r → Tail (b ∷ bs) r

@@ -34,7 +34,7 @@ use Rattle.sp_rules.proofs.Forking.{cells_of_position}
 use Rattle.sp_code.proofs.Plans.{spots_from, in_spots, out_of}
 use Rattle.sp_code.proofs.StoreLaws.{piece_cells}
 
-above_bound : (ss : List Spot) (n : ℕ) → ((q : Spot) → In q ss → q.frame < n) → above (frames ss) ≤ n
+pub above_bound : (ss : List Spot) (n : ℕ) → ((q : Spot) → In q ss → q.frame < n) → above (frames ss) ≤ n
 above_bound [] n h = omega arith
 above_bound (s ∷ ss) n h = omega (arith, h s (inl refl), above_bound ss n (λ q i. h q (inr i)))
 

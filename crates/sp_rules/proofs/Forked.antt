@@ -11,7 +11,7 @@ use Rattle.sp_cell.specs.declared.cell.Cell.TheVariants as cell
 use Rattle.sp_cell.specs.declared.spot.Spot.{Spot}
 use Rattle.sp_cell.specs.declared.spot.Handing.{Handing}
 use Rattle.sp_cell.specs.Fork.{lent, away, with_index, index_frame, child_map, moved_of, shared_of}
-use Rattle.sp_cell.specs.Frame.{above, frames, HasNextFrame}
+use Rattle.sp_cell.specs.Frame.{frames, HasNextFrame}
 use Rattle.sp_cell.proofs.FrameLaws.{known_below}
 use Rattle.sp_cell.proofs.Laws.{known_of_held, known_of_piece, get_here, get_other, same_or, own_away, held_not_away}
 use Rattle.sp_cell.specs.Map.{Map, Content, Own, Shared, Output, Away, Plain, IsHeld, IsPiece, IsOutput, output_spot}
@@ -34,15 +34,11 @@ use Rattle.sp_rules.specs.Forks.{handed_to}
 use Rattle.sp_rules.specs.Holding.{Allowed, input_spot}
 use Rattle.sp_rules.specs.Running.{Base, HasConsole, Lives, IsChild, ForksWell, table_of}
 use Rattle.sp_rules.specs.Systems.{Heir, moved_to, JoinsWell}
-use Rattle.sp_rules.proofs.Births.{IsRight, born, born_with_index, chain_new, stays, outer_extent}
+use Rattle.sp_rules.proofs.Births.{IsRight, born, born_with_index, chain_new, stays, outer_extent, above_bound}
 use Rattle.sp_rules.proofs.Forking.{has_held, KeepsForks, can_split}
 use Rattle.sp_rules.proofs.Holdings.{head, next_low}
 use Rattle.sp_rules.proofs.Keeping.{Keeps, all_keeps, keeps_lent}
 use Rattle.sp_code.proofs.Plans.{spots_from}
-
-above_low : (ss : List Spot) (n : ℕ) → ((q : Spot) → In q ss → q.frame < n) → above (frames ss) ≤ n
-above_low [] n h = omega arith
-above_low (s ∷ ss) n h = omega (arith, h s (inl refl), above_low ss n (λ q i. h q (inr i)))
 
 -- the same rights under another name
 allowed_iff : (ls : List Rattle.sp_code.specs.declared.code.Layout.Layout) (K J : Type 0) (R E : ℕ
@@ -112,10 +108,10 @@ module _ (g : Setting) {Area : Type 0} (H : Area → List Home) (E : Area → �
 
     index_low : index_frame h ≤ n.depth + 1
     index_low =
-        let m = above_low h.moved (n.depth + 1)
+        let m = above_bound h.moved (n.depth + 1)
         (λ s i. (let w = known_low s (known_of_held (map.get n.store.map s) (moved_held s i)) in omega
         (arith, w))) in
-        let o = above_low h.shared (n.depth + 1)
+        let o = above_bound h.shared (n.depth + 1)
         (λ s i. (let w = known_low s (known_of_held (map.get n.store.map s) (shared_held s i)) in omega
         (arith, w))) in
         omega (arith, m, o)

@@ -45,6 +45,7 @@ use Rattle.sp_rules.proofs.Holdings.{head, holding_set, holding_pop}
 use Rattle.sp_rules.proofs.Keeping.{keeps_input, keeps_output}
 use Rattle.sp_rules.proofs.Messages.{lives_with, lives_opened, lives_received, t}
 use Rattle.sp_rules.proofs.Pushes.{KeepsCalls, holding_push}
+use Rattle.sp_history.proofs.Outputs.{output_known}
 
 module _ (g : Setting) (E : Area → ℕ → Type 0) (T : List Area → Config (Memory Plain)
     → Type 0) (b : Base g (homes g.code) E T) where
@@ -117,7 +118,7 @@ module _ (g : Setting) (E : Area → ℕ → Type 0) (T : List Area → Config (
     printed e bs = record {
       holding = holding_set g.code.layouts (homes g.code) E K (a ∷ us) n.frames n.depth n.store l.holding output_spot
           (Output (bytes_of (map.get n.store.map output_spot) ++ bs))
-          (known_output (map.get n.store.map output_spot) was) tt
+          (output_known (map.get n.store.map output_spot) was) tt
           (keeps_output K l.holding.bound n.store.map (bytes_of (map.get n.store.map output_spot)
           ++ bs) (held.console (inr e)));
       last = l.last;
@@ -126,10 +127,6 @@ module _ (g : Setting) (E : Area → ℕ → Type 0) (T : List Area → Config (
       where
         was : IsOutput (map.get n.store.map output_spot)
         was = let w = held.held 1 e in subst (λ q. IsOutput (map.get n.store.map q)) (same_Some _ _ (sym w.1)) w.3
-
-        known_output : (o : Option Content) → IsOutput o → IsSome o
-        known_output None h = absurd h
-        known_output (Some x) h = refl
 
   -- the newest frame goes
   closed : (a c : Area) (us : List Area) (p : ℕ) (st : List Entry) (n : Memory Plain) → L_ (a ∷ c ∷ us) (At p st n)

@@ -18,13 +18,9 @@ use Rattle.sp_code.specs.System.{Condition, Absent, Working, Joins, frames_of, o
 use Rattle.sp_rules.specs.Running.{Base, Lives, ForksWell, table_of}
 use Rattle.sp_rules.specs.Systems.{awaits, IsLive, JoinsWell, Fine, Inv}
 use Rattle.sp_history.proofs.Orders.{next_is, next_not, next_past, next_yes}
-use Rattle.sp_history.proofs.Queues.{number_or, at_same, at_other}
+use Rattle.sp_history.proofs.Queues.{number_or, at_same, at_other, numbers_length}
 use Rattle.sp_rules.proofs.Along.{fine_alike}
 use Rattle.sp_rules.proofs.Forked.{child_base, child_lives, joins_well}
-
-pub numbers_length : (a n : ℕ) → length (numbers a n) ≡ n
-numbers_length a zero = refl
-numbers_length a (suc n) = ap suc (numbers_length (suc a) n)
 
 numbers_have : (a n q : ℕ) → a ≤ q → q < a + n → IsMember q (numbers a n)
 numbers_have a zero q l h = absurd (omega (arith, l, h))

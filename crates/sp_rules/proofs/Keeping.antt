@@ -108,7 +108,7 @@ module _ (K : Type 0) (n : ℕ) (m : Map) (s : Spot) (d : Content) where
         (same_or q s);
   }
 
-input_not_output : input_spot ≢ output_spot
+pub input_not_output : input_spot ≢ output_spot
 input_not_output e = let z : 0 ≡ 1 = ap (λ (q : Spot). q.variable) e in absurd (omega (arith, z))
 
 -- the position moves on

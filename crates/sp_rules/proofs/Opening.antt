@@ -11,7 +11,7 @@ use Rattle.sp_tree.specs.Interference.{IsMember}
 use Rattle.sp_tree.proofs.Members.{member_either}
 use Rattle.sp_cell.specs.declared.cell.Cell.TheVariants as cell
 use Rattle.sp_cell.specs.declared.spot.Spot.{Spot}
-use Rattle.sp_cell.specs.Frame.{with_pieces, root_map}
+use Rattle.sp_cell.specs.Frame.{root_map}
 use Rattle.sp_cell.proofs.FrameLaws.{known_pieces}
 use Rattle.sp_cell.proofs.Laws.{get_here, get_other, same_or, own_away, pieces_not_away}
 use Rattle.sp_cell.specs.Map.{Map, Plain, Content, Own, Output, Away, IsOutput, output_spot, spot_cmp}
@@ -37,17 +37,10 @@ use Rattle.sp_rules.proofs.Firsts.{first_stands}
 use Rattle.sp_rules.proofs.Lists.{place_some}
 use Rattle.sp_code.proofs.Pieces.{pieces_at}
 use Rattle.sp_rules.proofs.Scoping.{found_layout, programs, chained}
+use Rattle.sp_rules.proofs.Keeping.{input_not_output}
+use Rattle.sp_history.proofs.Holders.{pieces_later}
 
 -- ---- the map
-
-pieces_below : (m : Map) (n v : ℕ) (cs : List ℕ) (q : Spot) → q.variable < v
-    → map.get (with_pieces m n v cs) q ≡ map.get m q
-pieces_below m n v [] q l = refl
-pieces_below m n v (c ∷ cs) q l =
-    pieces_below (map.insert m (record { frame = n; variable = v }) (Own (replicate c cell.Undefined))) n (v + 1) cs q
-    (omega (arith, l))
-    ∙ get_other m (record { frame = n; variable = v }) (Own (replicate c cell.Undefined)) q
-    (λ e. (let z : q.variable ≡ v = ap (λ (z : Spot). z.variable) e in absurd (omega (arith, z, l))))
 
 abbrev empty_map : Map
 empty_map = map.empty
@@ -57,9 +50,6 @@ with_input = map.insert empty_map input_spot (Own (cell.Ordinal (pos 0) ∷ []))
 
 abbrev with_console : Map
 with_console = map.insert with_input output_spot (Output [])
-
-input_not_output : input_spot ≢ output_spot
-input_not_output e = let z : 0 ≡ 1 = ap (λ (q : Spot). q.variable) e in absurd (omega (arith, z))
 
 console_away : (q : Spot) → map.get with_console q ≢ Some Away
 console_away q e = ⊎_elim
@@ -220,7 +210,7 @@ module _ (g : Setting) (k : Keeps g.code) (e : KeepsEffects g.code (Does g.code)
     (
       0,
       ap (λ o. position_in (piece_of o))
-          (pieces_below with_console 0 2 (sizes_of (layout_of g.code.layouts 0)) input_spot (omega arith)
+          (pieces_later with_console 0 2 (sizes_of (layout_of g.code.layouts 0)) input_spot (omega arith)
           ∙ get_other with_input output_spot (Output []) input_spot input_not_output
           ∙ get_here empty_map input_spot (Own (cell.Ordinal (pos 0) ∷ []))),
     ),
@@ -230,7 +220,7 @@ module _ (g : Setting) (k : Keeps g.code) (e : KeepsEffects g.code (Does g.code)
     refl,
     omega arith,
     subst IsOutput
-        (sym (pieces_below with_console 0 2 (sizes_of (layout_of g.code.layouts 0)) output_spot (omega arith)
+        (sym (pieces_later with_console 0 2 (sizes_of (layout_of g.code.layouts 0)) output_spot (omega arith)
         ∙ get_here with_input output_spot (Output []))) tt,
   )
   held (suc (suc x)) h =
@@ -290,7 +280,7 @@ module _ (g : Setting) (k : Keeps g.code) (e : KeepsEffects g.code (Does g.code)
 
   input_known : IsSome (map.get m input_spot)
   input_known = subst (λ o. IsSome o)
-      (sym (pieces_below with_console 0 2 (sizes_of (layout_of g.code.layouts 0)) input_spot (omega arith)
+      (sym (pieces_later with_console 0 2 (sizes_of (layout_of g.code.layouts 0)) input_spot (omega arith)
       ∙ get_other with_input output_spot (Output []) input_spot input_not_output
       ∙ get_here empty_map input_spot (Own (cell.Ordinal (pos 0) ∷ [])))) refl
 

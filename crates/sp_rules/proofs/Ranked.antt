@@ -117,7 +117,7 @@ way_in p q (Some (i.Receive k)) h = absurd h
 way_in p q (Some (i.Fork t)) h = absurd h
 way_in p q (Some _) h = h
 
-free_in : (p q : ℕ) (o : Option Instr) → IsIn q (free_nexts p o) → IsIn q (nexts p o)
+pub free_in : (p q : ℕ) (o : Option Instr) → IsIn q (free_nexts p o) → IsIn q (nexts p o)
 free_in p q (Some i.Tick) h = absurd h
 free_in p q (Some (i.Call b up)) h = absurd h
 free_in p q _ h = h

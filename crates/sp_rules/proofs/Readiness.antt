@@ -35,7 +35,7 @@ use Rattle.sp_rules.proofs.Instances.{may_do}
 use Rattle.sp_rules.proofs.Lists.{place_some}
 use Rattle.sp_rules.proofs.Scoping.{found_layout}
 
-in_split : (x : ℕ) (ys zs : List ℕ) → IsIn x (ys ++ zs) → IsIn x ys ⊎ IsIn x zs
+pub in_split : (x : ℕ) (ys zs : List ℕ) → IsIn x (ys ++ zs) → IsIn x ys ⊎ IsIn x zs
 in_split x [] zs h = inr h
 in_split x (y ∷ ys) zs (inl e) = inl (inl e)
 in_split x (y ∷ ys) zs (inr h) = ⊎_elim (λ k. inl (inr k)) (λ k. inr k) (in_split x ys zs h)

@@ -27,11 +27,7 @@ use Rattle.sp_rules.proofs.Holdings.{head}
 use Rattle.sp_rules.proofs.Keeping.{Keeps, all_keeps}
 use Rattle.sp_rules.proofs.Forking.{has_held}
 use Rattle.sp_code.proofs.Plans.{out_of, in_either}
-
-once : (q : Spot) (xs ys : List Spot) → IsDistinct (xs ++ ys) → In q xs → In q ys → ⊥
-once q [] ys d i j = i
-once q (x ∷ xs) ys d (inl e) j = not_both x (xs ++ ys) (in_back x xs ys (subst (λ s. In s ys) e j)) d.0
-once q (x ∷ xs) ys d (inr i) j = once q xs ys d.1 i j
+use Rattle.sp_history.proofs.Splitting.{distinct_apart}
 
 module _ (g : Setting) {Area : Type 0} (H : Area → List Home) (E : Area → ℕ → Type 0) (T : List Area
     → Config (Memory Plain) → Type 0) (Room Cells : ℕ → ℕ → Type 0) where
@@ -98,9 +94,9 @@ module _ (g : Setting) {Area : Type 0} (H : Area → List Home) (E : Area → �
       where
         go : (t : Bool) → r == x ≡ t → IsMember r (x ∷ rs) → In q (all (cond t rs (x ∷ without r rs)))
             → (IsMember r rs → In q (all (without r rs)) → ⊥) → ⊥
-        go true e m j h = once q (base x).moved (all rs) d (subst (λ y. In q (base y).moved) (eqb-true r x e) i) j
+        go true e m j h = distinct_apart q (base x).moved (all rs) d (subst (λ y. In q (base y).moved) (eqb-true r x e) i) j
         go false e (inl is) j h = cc (sym e ∙ is_same r x is)
-        go false e (inr m) j h = ⊎_elim (λ k. once q (base x).moved (all rs) d k (in_mine rs q m i)) (λ k. h m k)
+        go false e (inr m) j h = ⊎_elim (λ k. distinct_apart q (base x).moved (all rs) d k (in_mine rs q m i)) (λ k. h m k)
             (in_either q (base x).moved (all (without r rs)) j)
 
     pub members : (rs : List ℕ) (x : ℕ) → IsMember x (without r rs) → IsMember x rs

@@ -99,7 +99,7 @@ only P h (Child a p k) i = absurd (none (table_named (instr_at answer p)) i.2.1)
     none (Some t) e = cc e
 
 -- what arrives is reached
-arrived : (c : Parts) (a : Area) (n p : ℕ) (ss : List Shape) → Arrives c a n p ss → Reaches c a p ss
+pub arrived : (c : Parts) (a : Area) (n p : ℕ) (ss : List Shape) → Arrives c a n p ss → Reaches c a p ss
 arrived c a zero p ss h = record { steps = 0; way = h }
 arrived c a (suc n) q ts (inl h) = arrived c a n q ts h
 arrived c a (suc n) q ts (inr h) = let r = arrived c a n h.0 h.1 h.2 in

@@ -205,7 +205,7 @@ module _ {text rest : List ℕ} {tokens : List Token} {at : Place} (s : ScannedS
   }
 
 -- at the end of the text
-nothing_here : (s : Rule) → BreaksHere s [] → ⊥
+pub nothing_here : (s : Rule) → BreaksHere s [] → ⊥
 nothing_here rule.S1 b = elim b [ ]
 nothing_here rule.S2 b = let h = b.opens in cc
 nothing_here rule.S3 b = elim b [ ]
@@ -217,11 +217,11 @@ nothing_here rule.U2 (inl b) = let l = lexeme_length b.number.spelled in omega a
 nothing_here rule.U2 (inr b) = elim b [ ]
 nothing_here s b = b
 
-lexis : (text : List ℕ) (r : Rule) (at : Place) → BreaksLexis text r at → LongText text at ⊎ BreaksAlong text r at
+pub lexis : (text : List ℕ) (r : Rule) (at : Place) → BreaksLexis text r at → LongText text at ⊎ BreaksAlong text r at
 lexis text rule.L1 at b = inl b
 lexis text r at b = inr b
 
-to_lexis : (text : List ℕ) (r : Rule) (at : Place) → BreaksAlong text r at → BreaksLexis text r at
+pub to_lexis : (text : List ℕ) (r : Rule) (at : Place) → BreaksAlong text r at → BreaksLexis text r at
 to_lexis text rule.L1 at b = absurd b.here
 to_lexis text r at b = b
 

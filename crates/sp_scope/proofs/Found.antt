@@ -24,7 +24,7 @@ abbrev unwrap : {A : Type 0} → A → Result A Refusal → A
 unwrap d (Ok x) = x
 unwrap d (Err e) = d
 
-inner : {A : Type 0} (x y : A) → ◌≡◌ {A = Result A Refusal} (Ok x) (Ok y) → x ≡ y
+pub inner : {A : Type 0} (x y : A) → ◌≡◌ {A = Result A Refusal} (Ok x) (Ok y) → x ≡ y
 inner x y e = ap (unwrap x) e
 
 -- a repeat statement, from its statements and its condition behind them

@@ -6,6 +6,7 @@ use Rattle.sp_rules.specs.Areas.{Area, instr_at}
 use Rattle.sp_rules.specs.Shapes.{Shape, Wrong, shaped}
 use Rattle.sp_rules.specs.Reach.{IsArea, Brings, Leads}
 use Rattle.sp_rules.specs.Rules.{ArrivesAt, BreaksV2, Lacks, Differs}
+use Rattle.sp_rules.proofs.Rows.{arrived}
 use Rattle.sp_areas.specs.Least.{IsLeast}
 use Rattle.sp_areas.proofs.Leasts.{same}
 use Rattle.sp_shapes.specs.declared.search.Search.{Search}
@@ -13,7 +14,7 @@ use Rattle.sp_shapes.specs.Stacks.{list_of}
 use Rattle.sp_shapes.specs.Search.{IsAmong, HasAt, IsMarked, InTable, Known, BrokenBy, LacksBy, DiffersBy, IsStepped}
 use Rattle.sp_shapes.specs.Search.{CoversTable, Compares, IsDone, KeepsV1}
 use Rattle.sp_shapes.specs.Shapes.{AreShapes}
-use Rattle.sp_shapes.proofs.Ways.{lies, arrived, way_in}
+use Rattle.sp_shapes.proofs.Ways.{lies, way_in}
 use Rattle.sp_shapes.proofs.Searching.{one_list, longer, broken_longer, cover_next}
 
 module _ (c : Parts) (v1 : KeepsV1 c) (s : Search) (done : IsDone c s) where

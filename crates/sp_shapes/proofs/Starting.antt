@@ -17,12 +17,12 @@ use Rattle.sp_rules.specs.Named.{LiesIn}
 use Rattle.sp_areas.specs.declared.owners.Owner.{Owner}
 use Rattle.sp_areas.specs.declared.owners.Owner.TheVariants as owner
 use Rattle.sp_areas.specs.Owners.{Owns, is_same}
+use Rattle.sp_areas.proofs.Owned.{layout_in}
 use Rattle.sp_shapes.specs.declared.steps.Arrival.{Arrival}
 use Rattle.sp_shapes.specs.declared.search.Search.{Search}
 use Rattle.sp_shapes.specs.Stacks.{IsStacks, list_of}
 use Rattle.sp_shapes.specs.Search.{IsAmong, HasAt, IsMarked, Compares}
 use Rattle.sp_shapes.specs.Starts.{start, AreAll, IsEntry, Adds, IsOfLayouts, IsOfChildren, IsMadeAt, IsMade}
-use Rattle.sp_shapes.proofs.Ways.{block_in}
 use Rattle.sp_shapes.proofs.Searching.{among_last, among_left, among_or}
 
 module _ (c : Parts) where
@@ -131,7 +131,7 @@ module _ (c : Parts) where
 
     all_there : (a : Area) → IsArea c a → IsAmong (start (entry c a)) zs
     all_there (Body b) (l, e) =
-        let z = block_in c.layouts b l e in
+        let z = layout_in c.layouts b l e in
         forks.keeps (start (entry c (Body b)))
         (blocks.has (entry c (Body b)) (
           z.0,

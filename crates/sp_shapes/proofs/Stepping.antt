@@ -1,6 +1,5 @@
 -- A step by the form of an instruction is a step of the instruction.
 use Rattle.std.proofs.Common.{◌≡◌, ap, sym, ◌∙◌, ℕ, List, Option, Some, None}
-use Rattle.std.specs.Prelude.{Result, Ok, Err, IfOk}
 use Rattle.sp_code.specs.declared.instr.Instr.{Instr}
 use Rattle.sp_code.specs.declared.code.Parts.{Parts}
 use Rattle.sp_rules.specs.Areas.{Area, given, instr_at}
@@ -26,7 +25,3 @@ module _ (c : Parts) (a : Area) (p : ℕ) (ss : List Shape) (i : Instr) where
   pub right_form : (st : Stacks) (s : Step) (pl : Plan) → instr_at c p ≡ Some i → Some pl ≡ plan_at c a i
       → IsStep st s (by_plan pl p ss) → IsStep st s (shaped c a (instr_at c p) p ss)
   right_form st s pl e h k = record { is = k.is ∙ sym (form (Some pl) e h); held = k.held }
-
-pub each_ok : {T E : Type 0} (r : Result T E) (P Q : T → Type 0) → ((x : T) → P x → Q x) → IfOk r P → IfOk r Q
-each_ok (Ok x) P Q f h = f x h
-each_ok (Err e) P Q f h = tt

@@ -1,23 +1,21 @@
 -- Where V1 is kept, ways stay within the code, and each instruction lies in one area alone.
 use Rattle.std.proofs.Common.{◌≡◌, ◌⊎◌, ◌≢◌, inl, inr, ⊎_elim, refl, ap, sym, ◌∙◌, subst, ℕ, zero, suc, ◌+◌, ◌<◌, ◌≤◌}
-use Rattle.std.proofs.Common.{◌==◌, List, [], ◌∷◌, length, Option, Some, None, Bool, true, false, if◌then◌else◌, arith}
-use Rattle.std.proofs.Common.{eqb-true}
-use Rattle.std.specs.Prelude.{slice_get, nat_lt}
+use Rattle.std.proofs.Common.{List, [], length, Option, Some, None, Bool, true, false, arith}
+use Rattle.std.specs.Prelude.{nat_lt}
 use Rattle.std.proofs.lemmas.Bool.{cases_eq}
-use Rattle.std.proofs.lemmas.Option.{none-some, same_Some}
+use Rattle.std.proofs.lemmas.Option.{none-some}
 use Rattle.sp_code.specs.declared.instr.Instr.{Instr}
 use Rattle.sp_code.specs.declared.instr.Instr.TheVariants as i
-use Rattle.sp_code.specs.declared.code.Layout.{Layout}
 use Rattle.sp_code.specs.declared.code.ChildTable.{ChildTable}
 use Rattle.sp_code.specs.declared.code.Parts.{Parts}
-use Rattle.sp_code.specs.Machine.{layout_of}
 use Rattle.sp_rules.specs.Areas.{Area, Body, Child, instr_at, table_named, table_at, child_of, entry, entry_of_child}
 use Rattle.sp_rules.specs.Areas.{entry_of_layout}
 use Rattle.sp_rules.specs.Shapes.{Shape, shaped}
-use Rattle.sp_rules.specs.Reach.{IsIn, IsArea, Goes, Arrives, Brings, Reaches, Leads, nexts}
+use Rattle.sp_rules.specs.Reach.{IsIn, IsArea, Goes, Brings, Leads, nexts}
 use Rattle.sp_rules.specs.Named.{LiesIn, NotThere, InTwo, names_there}
 use Rattle.sp_rules.specs.Rules.{ArrivesAt}
 use Rattle.sp_areas.specs.Only.{LiesOnlyIn}
+use Rattle.sp_areas.proofs.Owned.{layout_in}
 use Rattle.sp_shapes.specs.Search.{KeepsV1}
 use Rattle.sp_shapes.proofs.Forms.{leads_in}
 
@@ -62,25 +60,7 @@ pub way_in : (c : Parts) (a : Area) (n p : ℕ) (ss : List Shape) → IsArea c a
 way_in c a zero p ss there h = (there, record { steps = 0; way = sym h.0 })
 way_in c a (suc n) q ts there (p, ss, h, leads) = lies_on c a p q ss ts (way_in c a n p ss there h) leads
 
--- what arrives is reached
-pub arrived : (c : Parts) (a : Area) (n p : ℕ) (ss : List Shape) → Arrives c a n p ss → Reaches c a p ss
-arrived c a zero p ss h = record { steps = 0; way = h }
-arrived c a (suc n) q ts (inl h) = arrived c a n q ts h
-arrived c a (suc n) q ts (inr (p, ss, h, whole, leads)) = let r = arrived c a n p ss h in
-    record { steps = suc r.steps; way = (p, ss, r.way, leads) }
-
 -- ---- within the code
-
-pub block_in : (ls : List Layout) (b : ℕ) (l : Layout) → layout_of ls b ≡ Some l
-    → (j : ℕ) × (slice_get ls j ≡ Some l) × (l.block ≡ b)
-block_in [] b l e = absurd (none-some l e)
-block_in (m ∷ ls) b l e = go (m.block == b) refl e (block_in ls b l)
-  where
-    go : (t : Bool) → m.block == b ≡ t → (if t then Some m else layout_of ls b) ≡ Some l
-        → (layout_of ls b ≡ Some l → (j : ℕ) × (slice_get ls j ≡ Some l) × (l.block ≡ b))
-        → (j : ℕ) × (slice_get (m ∷ ls) j ≡ Some l) × (l.block ≡ b)
-    go true t e on = (zero, e, ap (λ (x : Layout). x.block) (sym (same_Some m l e)) ∙ eqb-true m.block b t)
-    go false t e on = let r = on e in (suc r.0, r.1, r.2)
 
 is_below : (m n : ℕ) → (n ≤ m → ⊥) → m < n
 is_below m n f = go (nat_lt m n) refl
@@ -133,7 +113,7 @@ module _ (c : Parts) (v1 : KeepsV1 c) where
 
   entry_within : (a : Area) → IsArea c a → entry c a < length c.instrs
   entry_within (Body b) h =
-      let z = block_in c.layouts b h.0 h.1 in
+      let z = layout_in c.layouts b h.0 h.1 in
       is_below (entry c (Body b)) (length c.instrs)
       (λ past. v1 (entry c (Body b))
       (NotThere (inr (record { past = past; of = inl (h.0, (z.0, z.1), sym (ap entry_of_layout h.1)) }))))

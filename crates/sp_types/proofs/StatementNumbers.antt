@@ -275,7 +275,7 @@ outside a b x (y ∷ ys) l g h = (one h.0, outside a b x ys l g h.1)
     one (inl d) e = absurd (omega (arith, e, l, d))
     one (inr d) e = absurd (omega (arith, e, g, d))
 
-differs_both : (x : ℕ) (xs ys : List ℕ) → DiffersFrom x xs → DiffersFrom x ys → DiffersFrom x (xs ++ ys)
+pub differs_both : (x : ℕ) (xs ys : List ℕ) → DiffersFrom x xs → DiffersFrom x ys → DiffersFrom x (xs ++ ys)
 differs_both x [] ys h g = g
 differs_both x (z ∷ xs) ys h g = (h.0, differs_both x xs ys h.1 g)
 

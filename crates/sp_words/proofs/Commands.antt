@@ -43,7 +43,7 @@ use Rattle.sp_words.specs.declared.command.CommandName.TheVariants.{Check, Run, 
 use Rattle.sp_words.specs.declared.command.CommandName.TheVariants.{Witness, Build, Exec}
 use Rattle.sp_words.proofs.Readings.{Each}
 use Rattle.sp_words.proofs.Rules.{Options, Parsers, clear, file_id, journal_id, level, rules}
-use Rattle.sp_words.proofs.Levels.{IsFree, good, names}
+use Rattle.sp_words.proofs.Levels.{IsFree, good, names, or_else-nil}
 use Rattle.sp_words.proofs.LevelEnds.{Agree, good_agrees, is_complete, level_reads, names_agree}
 
 -- ---- the first word
@@ -92,10 +92,6 @@ stays_stopped c ns [] p = ap (λ (ws : List Text). stopped (p.0, ws)) (sym (appe
 stays_stopped c ns (word ∷ words) p =
     stays_stopped c ns words (p.0, p.1 ++ word ∷ [])
     ∙ ap (λ (ws : List Text). stopped (p.0, ws)) (append_assoc p.1 (word ∷ []) words)
-
-or_else-nil : (a : Kinds) → or_else a [] ≡ a
-or_else-nil [] = refl
-or_else-nil (k ∷ ks) = refl
 
 abbrev pub top_shape : Shape
 top_shape = record (new_shape (codes "superpascal")) {

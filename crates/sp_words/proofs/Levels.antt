@@ -25,6 +25,10 @@ use Rattle.sp_words.proofs.Rules.{IsOption, Options, Parsers, built_file, built_
 use Rattle.sp_words.proofs.Rules.{clear-or_else, fault_of_use, file_id, journal_id, level, named, new_row, no_option_at}
 use Rattle.sp_words.proofs.Rules.{option_of, rows_of_use, rules}
 
+pub or_else-nil : (a : Kinds) → or_else a [] ≡ a
+or_else-nil [] = refl
+or_else-nil (k ∷ ks) = refl
+
 -- ---- items as uses
 
 -- the parser of an option takes its value
@@ -201,10 +205,6 @@ refused_here name os w word words rows turn = record {
       ∙ ap (λ x. x && rest_clear name os (walked (rules os) [] w word) words) turn;
   rows_are = λ e. absurd (true≢false (sym e));
 }
-
-or_else-nil : (a : Kinds) → or_else a [] ≡ a
-or_else-nil [] = refl
-or_else-nil (k ∷ ks) = refl
 
 abbrev held_at : List Row → Option Item → Held
 held_at rows p = held_with rows (pend p)
