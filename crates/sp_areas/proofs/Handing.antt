@@ -22,6 +22,7 @@ use Rattle.sp_areas.specs.Owners.{Gives, Spreads, KnowsAt, IsSpread, IsHanded, I
 use Rattle.sp_areas.specs.Owners.{listed, entry_at}
 use Rattle.sp_areas.proofs.Owning.{same_is, same_self, gives_spreads, spreads_as, spreads_then}
 use Rattle.sp_areas.proofs.Owning.{spreads_room, true_along, true_table, true_child, true_begin}
+use Rattle.sp_areas.proofs.Owned.{some_child}
 
 -- ---- one change
 
@@ -137,15 +138,9 @@ module _ (c : Parts) where
       spreads_as c a b (λ os. Knows os (length c.instrs + t) (as_child p o)) (Tabled p o) s
       (λ same k u r w. subst (λ z. Knows b (length c.instrs + z) (as_child p o)) (same_Some t u (n
       ∙ sym (ap table_named e) ∙ r)) k)
-      (gives_spreads c a b (length c.instrs + t) (as_child p o) s are (a_child p o some)
+      (gives_spreads c a b (length c.instrs + t) (as_child p o) s are (some_child p o some)
       (true_table c p t o l (ap table_named e
       ∙ sym n) h) (subst (λ z. Gives a b (length c.instrs + t) z s) ev g) (omega (arith, m)))
-    where
-      a_child : (p : ℕ) (o : Owner) → IsOwner o → IsOwner (as_child p o)
-      a_child p owner.Nobody some e = some refl
-      a_child p (owner.Block b) some e = cc (e)
-      a_child p (owner.Child q k) some e = cc (e)
-      a_child p owner.Several some e = cc (e)
 
   -- ---- an instruction
 

@@ -69,6 +69,13 @@ an_owner : (a : Area) → IsOwner (owner_of a)
 an_owner (Body b) e = cc (e)
 an_owner (Child a p k) e = cc (e)
 
+-- the owner of a child is an owner
+pub some_child : (p : ℕ) (o : Owner) → IsOwner o → IsOwner (as_child p o)
+some_child p owner.Nobody some e = some refl
+some_child p (owner.Block b) some e = cc (e)
+some_child p (owner.Child q k) some e = cc (e)
+some_child p owner.Several some e = cc (e)
+
 module _ (c : Parts) (os : List Owner) (are : AreTrue c os) (closed : IsClosed c os) where
   -- what is known above is known
   higher : (x y : ℕ) (o : Owner) (k : Knows os x o) → Knows os y k.found → Knows os y o
@@ -97,12 +104,6 @@ module _ (c : Parts) (os : List Owner) (are : AreTrue c os) (closed : IsClosed c
       → (f w ≡ owner.Several) ⊎ (f w ≡ f o)
   lift f s w o (inl e) = inl (ap f e ∙ s)
   lift f s w o (inr e) = inr (ap f e)
-
-  some_child : (p : ℕ) (o : Owner) → IsOwner o → IsOwner (as_child p o)
-  some_child p owner.Nobody some e = some refl
-  some_child p (owner.Block b) some e = cc (e)
-  some_child p (owner.Child q k) some e = cc (e)
-  some_child p owner.Several some e = cc (e)
 
   raised : (f : Owner → Owner) → f owner.Several ≡ owner.Several → (x y : ℕ) (o : Owner) (k : Knows os x o)
       → Knows os y (f k.found) → Knows os y (f o)

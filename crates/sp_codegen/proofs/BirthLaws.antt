@@ -22,7 +22,7 @@ use Rattle.sp_meaning.specs.SuperPascal.{root, first_store}
 use Rattle.sp_code.specs.declared.code.ChildTable.{ChildTable}
 use Rattle.sp_code.specs.declared.instr.Instr.TheVariants as i
 use Rattle.sp_code.specs.Emitted.{program_code, child_table}
-use Rattle.sp_code.specs.Machine.{Entry, Config, At, layout_of}
+use Rattle.sp_code.specs.Machine.{Entry, At, layout_of}
 use Rattle.sp_code.specs.Memory.{Memory, first, first_memory, entry_of}
 use Rattle.sp_code.specs.Places.{after}
 use Rattle.sp_code.specs.PlainStore.{plain}

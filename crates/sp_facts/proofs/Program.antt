@@ -278,6 +278,7 @@ module _ (s : syntax.Program) (calm : names_broken s ≡ []) where
       let r = own_member is_answer f 0 x named.variables [] e in
       let v = held_at 0 named.variables r.0 r.1 held r.3 in
       (v.0, subst (λ z. slice_get tree.variables z ≡ Some v.0) (sym r.2) v.1, v.2 ∙ answer_is r.1.role r.4, v.3 ∙ r.5)
+
   -- ---- the input and the output
 
   pub input : (v : plain.Variable) × (slice_get tree.variables 0 ≡ Some v) × (v.role ≡ role.Console)

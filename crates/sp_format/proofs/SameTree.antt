@@ -12,8 +12,6 @@ use Rattle.sp_tree.specs.declared.syntax.SynKind.TheVariants as kinds
 use Rattle.sp_tree.specs.declared.syntax.SynValue.TheVariants as value
 use Rattle.sp_tree.specs.Words as w
 use Rattle.sp_tree.specs.Grammar.{moved, declared}
-use Rattle.sp_tree.specs.Lexemes.{BraceBody, brace_ends, brace_byte, StarBody, star_ends, star_byte, Comment}
-use Rattle.sp_tree.specs.Lexemes.{brace_comment, star_comment}
 use Rattle.sp_tree.specs.Spelling.{spelling, name_of, number_of, quoted_of, digits_value, within_quotes}
 use Rattle.sp_tree.specs.PlainSyntax as tree
 use Rattle.sp_tree.specs.PlainSyntax.{Program}
@@ -31,7 +29,7 @@ use Rattle.sp_grammar.specs.Derives.{Begins, Derives, takes, skips, DerivesAll, 
 use Rattle.sp_grammar.proofs.From.{found, from}
 use Rattle.sp_grammar.proofs.To as to
 use Rattle.sp_grammar.proofs.OneList.{Tail, here, there, lexeme_tail, one_list}
-use Rattle.sp_parse.proofs.Fitting.{Tail as Front}
+use Rattle.sp_parse.proofs.Fitting.{Tail as Front, more, comment_tail}
 use Rattle.sp_format.specs.Items as i
 use Rattle.sp_format.specs.Items.{Item, HasItems, item, spelled, front}
 use Rattle.sp_format.specs.Formats.{IsCanonical}
@@ -245,24 +243,9 @@ module _ (text other : List ℕ) where
 
 -- ---- what stands in front of the rest
 
-further : (b : ℕ) {bs r : List ℕ} → Front bs r → Front (b ∷ bs) r
-further b x = (b ∷ x.0, ap (λ l. b ∷ l) x.1)
-
-brace_front : {bs r : List ℕ} → BraceBody bs r → Front bs r
-brace_front (brace_ends c h) = further c ([], refl)
-brace_front (brace_byte b h x) = further b (brace_front x)
-
-star_front : {bs r : List ℕ} → StarBody bs r → Front bs r
-star_front (star_ends a b h i) = further a (further b ([], refl))
-star_front (star_byte b h x) = further b (star_front x)
-
-comment_front : {bs r : List ℕ} → Comment bs r → Front bs r
-comment_front (brace_comment b h x) = further b (brace_front x)
-comment_front (star_comment a b h i x) = further a (further b (star_front x))
-
 tail_front : {r bs : List ℕ} → Tail r bs → Front bs r
 tail_front here = ([], refl)
-tail_front (there {b = b} x) = further b (tail_front x)
+tail_front (there {b = b} x) = more b (tail_front x)
 
 -- ---- the tokens of a text, by its items
 
@@ -295,7 +278,7 @@ module _ (text : List ℕ) where
       let y = listed (before ++ b ∷ []) (e ∙ back_of (append_assoc before (b ∷ []) bs)) x in
       record { tokens = y.tokens; scans = s.blank b h y.scans; itemed = y.itemed }
   listed {bs} before e (i.comment {u = u} c x) =
-      let z = comment_front c in
+      let z = comment_tail c in
       let y = listed (before ++ z.0) (e ∙ ap (λ l. before ++ l) z.1 ∙ back_of (append_assoc before z.0 u)) x in
       record { tokens = y.tokens; scans = s.comment c y.scans; itemed = over y.itemed }
   listed {bs} before e (i.token {u = u} k o l x) =

@@ -53,7 +53,7 @@ without_length p (x ∷ xs) i = go (number_or p x) i (without_length p xs) (some
     go (inr n) (inl e) h l = absurd (n.0 e)
     go (inr n) (inr j) h l = rw (n.1) (let a = h j in let b = l j in omega (arith, a, b))
 
-without_each : (P : ℕ → Type 0) (p : ℕ) (xs : List ℕ) → Each P xs → Each P (without p xs)
+pub without_each : (P : ℕ → Type 0) (p : ℕ) (xs : List ℕ) → Each P xs → Each P (without p xs)
 without_each P p [] e = tt {0}
 without_each P p (x ∷ xs) e = go (p == x) (without_each P p xs e.1)
   where
@@ -61,7 +61,7 @@ without_each P p (x ∷ xs) e = go (p == x) (without_each P p xs e.1)
     go true h = e.1
     go false h = (e.0, h)
 
-without_differ : (p : ℕ) (xs : List ℕ) → Differ xs → Differ (without p xs)
+pub without_differ : (p : ℕ) (xs : List ℕ) → Differ xs → Differ (without p xs)
 without_differ p [] d = tt {0}
 without_differ p (x ∷ xs) d = go (p == x) (without_differ p xs d.1)
   where

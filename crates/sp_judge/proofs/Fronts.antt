@@ -48,7 +48,7 @@ pub counts_last : (es : List Occurrence) (e : Occurrence)
     → counts (es ++ e ∷ []) ≡ counted_by (counts es) (judged es) es e.who e.what
 counts_last es e = counts_from_last (λ p q. 0) nothing_judged [] es e
 
-quiet_front : (j : Judged) (n : ℕ) (xs ys : List Occurrence) → QuietFrom j n (xs ++ ys) → QuietFrom j n xs
+pub quiet_front : (j : Judged) (n : ℕ) (xs ys : List Occurrence) → QuietFrom j n (xs ++ ys) → QuietFrom j n xs
     × QuietFrom (judged_from j n xs) (n + length xs) ys
 quiet_front j n [] ys q = (tt, subst (λ x. QuietFrom j x ys) (is_plus_none n) q)
 quiet_front j n (x ∷ xs) ys q =

@@ -8,7 +8,7 @@ use Rattle.sp_tree.specs.Plain.{Block}
 use Rattle.sp_journal.specs.Births.{at_start}
 use Rattle.sp_cell.specs.Map.{Plain, output_of}
 use Rattle.sp_meaning.specs.Model.{Name, Absent}
-use Rattle.sp_meaning.specs.Own.{Setting, Loc, Output, Own, Who, Break}
+use Rattle.sp_meaning.specs.Own.{Setting, Who, Break}
 use Rattle.sp_meaning.specs.Deeds.{push, size_of_frame}
 use Rattle.sp_meaning.specs.Owning.{Fit}
 use Rattle.sp_meaning.specs.SuperPascal.{root, main, first_store}
@@ -16,8 +16,8 @@ use Rattle.sp_meaning.specs.Runs.{start}
 use Rattle.sp_meaning.specs.Along.{no_course}
 use Rattle.sp_meaning.proofs.Owned.{Inv, Holds}
 use Rattle.sp_meaning.proofs.Reached.{start_well, start_sound}
-use Rattle.sp_meaning.proofs.Rights.{All, IsAbove, Fair_rights}
-use Rattle.sp_meaning.proofs.Started.{First, bottom, body_sound}
+use Rattle.sp_meaning.proofs.Rights.{All}
+use Rattle.sp_meaning.proofs.Started.{First, bottom, body_sound, first_fair}
 use Rattle.sp_meaning.proofs.SoundParts.{push_good}
 use Rattle.sp_code.specs.Machine.{At}
 use Rattle.sp_code.specs.Memory.{Memory, first, first_memory, entry_of}
@@ -36,20 +36,6 @@ use Rattle.sp_link.proofs.Journal.{Now}
 use Rattle.sp_link.proofs.Relation.{Ground, Life, Lives, W_of, R_of, Called, Named, Fresh, Stands, TooLarge}
 use Rattle.sp_link.proofs.Relation.{Performs_all, Linked, Began, at_open, run_is, ops, execution}
 
-first_above : (q : Name) (l : Loc) → First q l → IsAbove q l
-first_above [] (Rattle.sp_meaning.specs.Own.Cell r n x) h = absurd h
-first_above [] Rattle.sp_meaning.specs.Own.Input h = tt
-first_above [] Output h = tt
-first_above (a ∷ q) l h = absurd h
-
--- only the first process has any rights yet
-first_fair : Fair_rights First First
-first_fair = record {
-  reads = λ q l h. h;
-  above = first_above;
-  less_write = λ q k i l h. absurd h;
-  less_read = λ q k i l h. absurd h;
-  apart = λ q k i j l n h g. h;
 }
 
 -- with so many cells as the frame of the program takes

@@ -29,13 +29,13 @@ First [] Input = Unit {0}
 First [] Output = Unit {0}
 First (a ∷ q) l = ⊥
 
-first_above : (q : Name) (l : Loc) → First q l → IsAbove q l
+pub first_above : (q : Name) (l : Loc) → First q l → IsAbove q l
 first_above [] (Cell r n x) h = absurd h
 first_above [] Input h = tt
 first_above [] Output h = tt
 first_above (a ∷ q) l h = absurd h
 
-first_fair : Fair_rights First First
+pub first_fair : Fair_rights First First
 first_fair = record {
   reads = λ q l h. h;
   above = first_above;

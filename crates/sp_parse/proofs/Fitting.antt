@@ -24,7 +24,7 @@ use Rattle.sp_parse.specs.Reads.{AllFit}
 abbrev pub Tail : List ℕ → List ℕ → Type 0
 Tail bs r = (front : List ℕ) × (bs ≡ front ++ r)
 
-more : (b : ℕ) {bs r : List ℕ} → Tail bs r → Tail (b ∷ bs) r
+pub more : (b : ℕ) {bs r : List ℕ} → Tail bs r → Tail (b ∷ bs) r
 more b h = (b ∷ h.0, ap (λ l. b ∷ l) h.1)
 
 behind : {bs u r : List ℕ} → Tail bs u → Tail u r → Tail bs r
@@ -39,15 +39,15 @@ text_tail (text_ends q h i) = more q ([], refl)
 text_tail (two_quotes q u h i x) = more q (more u (text_tail x))
 text_tail (text_byte b h i j x) = more b (text_tail x)
 
-brace_tail : {bs r : List ℕ} → BraceBody bs r → Tail bs r
+pub brace_tail : {bs r : List ℕ} → BraceBody bs r → Tail bs r
 brace_tail (brace_ends c h) = more c ([], refl)
 brace_tail (brace_byte b h x) = more b (brace_tail x)
 
-star_tail : {bs r : List ℕ} → StarBody bs r → Tail bs r
+pub star_tail : {bs r : List ℕ} → StarBody bs r → Tail bs r
 star_tail (star_ends a b h i) = more a (more b ([], refl))
 star_tail (star_byte b h x) = more b (star_tail x)
 
-comment_tail : {bs r : List ℕ} → Comment bs r → Tail bs r
+pub comment_tail : {bs r : List ℕ} → Comment bs r → Tail bs r
 comment_tail (brace_comment b h x) = more b (brace_tail x)
 comment_tail (star_comment a b h i x) = more a (more b (star_tail x))
 

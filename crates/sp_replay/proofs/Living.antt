@@ -9,7 +9,7 @@ use Rattle.sp_history.specs.Agreement.{Each, Differ, Among, IsOrderly, HasOuts, 
 use Rattle.sp_history.specs.Lines.{left_of, IsLive, HasChildren}
 use Rattle.sp_history.proofs.Queues.{each_of, number_or}
 use Rattle.sp_history.proofs.Orders.{out_there}
-use Rattle.sp_history.proofs.Outs.{without}
+use Rattle.sp_history.proofs.Outs.{without, without_differ}
 
 -- ---- the root
 
@@ -70,22 +70,6 @@ module _ (k : Control) (h : IsOrderly k) (c : HasChildren k) (lawful : Lawful k.
       go (q ∷ qs) i = absurd (ended_dead (k.doing 0) e (root_lives q (subst IsLive (sym i.0) tt)))
 
 -- ---- how many
-
-without_each : (P : ℕ → Type 0) (p : ℕ) (xs : List ℕ) → Each P xs → Each P (without p xs)
-without_each P p [] e = tt {0}
-without_each P p (x ∷ xs) e = go (p == x) (without_each P p xs e.1)
-  where
-    go : (b : Bool) → Each P (without p xs) → Each P (cond b xs (x ∷ without p xs))
-    go true h = e.1
-    go false h = (e.0, h)
-
-without_differ : (p : ℕ) (xs : List ℕ) → Differ xs → Differ (without p xs)
-without_differ p [] d = tt {0}
-without_differ p (x ∷ xs) d = go (p == x) (without_differ p xs d.1)
-  where
-    go : (b : Bool) → Differ (without p xs) → Differ (cond b xs (x ∷ without p xs))
-    go true h = d.1
-    go false h = (without_each (λ y. y ≢ x) p xs d.0, h)
 
 -- a number is gone from a list of numbers up to it
 less : (p : ℕ) (xs : List ℕ) → Differ xs → Each (λ q. q < suc p) xs → Each (λ q. q < p) (without p xs)

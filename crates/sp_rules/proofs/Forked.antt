@@ -137,6 +137,7 @@ module _ (g : Setting) {Area : Type 0} (H : Area → List Home) (E : Area → �
         (λ (w : s ≢ record { frame = f; variable = i.0 }). o
         (sym (get_other m (record { frame = f; variable = i.0 }) (Own (cell.Ordinal i.1 ∷ [])) s w) ∙ e))
         (same_or s (record { frame = f; variable = i.0 }))
+
     none_lent : (s : Spot) → map.get (lent n.store.map h.shared map.empty) s ≢ Some Away
     none_lent s e = ⊎_elim
         (λ i. shared_away (sym (get_lent_in n.store.map h.shared map.empty s i) ∙ e))

@@ -99,6 +99,7 @@ module _ (ls : List Layout) {Area : Type 0} (H : Area â†’ List Home) (E : Area â
     own = g.own;
     moved = g.moved;
   }
+
   fair : Fair store
   fair = filled_keeps N Fair fair_written 0 es (plain.pushed p l.sizes) fair_pushed
 

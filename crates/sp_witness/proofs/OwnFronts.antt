@@ -16,6 +16,7 @@ use Rattle.sp_meaning.specs.Along.{IsClean}
 use Rattle.sp_judge.specs.Prefixes.{QuietFrom, IsQuiet}
 use Rattle.sp_judge.proofs.Prefixing.{nothing_kept}
 use Rattle.sp_judge.proofs.Numbers.{all_named}
+use Rattle.sp_judge.proofs.Fronts.{quiet_front}
 use Rattle.sp_witness.specs.Witness.{witness, is_member, is_among}
 use Rattle.sp_witness.specs.Numbered.{witness_journal}
 use Rattle.sp_witness.specs.Needed.{needed_marks}
@@ -26,7 +27,7 @@ use Rattle.sp_witness.proofs.Pasts.{heads_from, MarksAre, cuts_from}
 use Rattle.sp_witness.proofs.Parts.{mark_in}
 use Rattle.sp_witness.proofs.Parts as parts
 use Rattle.sp_witness.proofs.Standing.{nothing_stands}
-use Rattle.sp_witness.proofs.Witnessing.{quiet_front, clean_front}
+use Rattle.sp_witness.proofs.Witnessing.{clean_front}
 use Rattle.sp_witness.proofs.Real.{cut_at}
 use Rattle.sp_witness.proofs.Pass.{member_marks}
 use Rattle.sp_witness.proofs.Pass as pass

@@ -6,10 +6,11 @@ use Rattle.sp_journal.specs.Names.{Occurrence}
 use Rattle.sp_journal.specs.Past.{nothing_judged}
 use Rattle.sp_meaning.specs.Along.{IsClean}
 use Rattle.sp_judge.specs.Prefixes.{QuietFrom, IsQuiet}
+use Rattle.sp_judge.proofs.Fronts.{quiet_front}
 use Rattle.sp_witness.specs.Witness.{who_at, past_before, members, first_part}
 use Rattle.sp_witness.specs.Needed.{taken, pass}
 use Rattle.sp_witness.proofs.Standing.{nothing_stands, stands_from}
-use Rattle.sp_witness.proofs.Witnessing.{quiet_front, clean_front}
+use Rattle.sp_witness.proofs.Witnessing.{clean_front}
 use Rattle.sp_witness.proofs.Real.{cut_at}
 use Rattle.sp_witness.proofs.Pass.{taken_is}
 

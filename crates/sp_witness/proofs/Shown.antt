@@ -26,6 +26,7 @@ use Rattle.sp_race.specs.Known.{AreKnown}
 use Rattle.sp_race.proofs.GoodSteps.{sound_opening, knows_nothing}
 use Rattle.sp_race.proofs.Verdict.{At, stepped, said, linked_start}
 use Rattle.sp_judge.specs.Races.{KnowsCompletion}
+use Rattle.sp_judge.proofs.Fronts.{quiet_front}
 use Rattle.sp_witness.specs.Witness.{who_of, who_at, alone, past_before, is_pause, is_known, offers_after, is_member}
 use Rattle.sp_witness.specs.Witness.{is_among, members, first_part, witness}
 use Rattle.sp_witness.specs.Contention.{IsContention, Shows}
@@ -41,7 +42,7 @@ use Rattle.sp_witness.proofs.Parts.{left_append, kept_append, kept_valid, since_
 use Rattle.sp_witness.proofs.Parts.{valid_second, cuts_second, Split, split, heads_append}
 use Rattle.sp_witness.proofs.Contending.{Offers, offers_of, waits_here, blocks_fit, contends}
 use Rattle.sp_witness.proofs.Standing.{Stands, nothing_stands, stands_from}
-use Rattle.sp_witness.proofs.Witnessing.{quiet_front, clean_front, runs_split, runs_join, entries_join, valid_join}
+use Rattle.sp_witness.proofs.Witnessing.{clean_front, runs_split, runs_join, entries_join, valid_join}
 use Rattle.sp_witness.proofs.Witnessing.{LastStep, last_step, quiet_pending, quiet_condition, Pends, quiet_pends}
 use Rattle.sp_witness.proofs.Witnessing.{AllFit, blocks_pend}
 

@@ -1,16 +1,14 @@
 -- The witness of a race is a run's journal, and ends in the contention of the two offers.
-use Rattle.std.proofs.Common.{◌≡◌, ◌≢◌, ◌⊎◌, ⊎_elim, inl, inr, ℕ, suc, ◌+◌, Bool, true, false, List, [], ◌∷◌}
-use Rattle.std.proofs.Common.{◌++◌, length, Option, Some, refl, sym, ap, ◌∙◌, subst, arith}
+use Rattle.std.proofs.Common.{◌≡◌, ◌≢◌, ◌⊎◌, ⊎_elim, inl, inr, ℕ, ◌+◌, Bool, true, false, List, [], ◌∷◌}
+use Rattle.std.proofs.Common.{◌++◌, Option, Some, refl, sym, ap, ◌∙◌, subst}
 use Rattle.sp_base.proofs.Facts.{true_is_not_false}
 use Rattle.sp_journal.specs.declared.entry.Way.{Way}
-use Rattle.sp_journal.specs.Past.{Judged, judged_by, judged_from}
 use Rattle.sp_meaning.specs.Model.{Name, Channel, Language}
 use Rattle.sp_meaning.specs.Own.{Setting}
 use Rattle.sp_meaning.specs.SuperPascal.{superpascal}
 use Rattle.sp_meaning.specs.Entries.{Happening, Opened, Forked, Offered, Faulted, Laid, Paused, Occurrence}
 use Rattle.sp_journal.specs.Names as happenings
 use Rattle.sp_meaning.specs.Along.{IsClean}
-use Rattle.sp_judge.specs.Prefixes.{QuietFrom}
 use Rattle.sp_race.specs.Notes.{Event, mine}
 use Rattle.sp_race.specs.Noting.{WithNotes}
 use Rattle.sp_witness.specs.Witness.{is_pause}
@@ -19,14 +17,6 @@ use Rattle.sp_witness.proofs.Moving.{Head, Tag, Block, Does, Runs, BlockRuns}
 use Rattle.sp_witness.proofs.Blocks.{IsMove, IsQuiet, AllQuiet, IsLast, Valid, since_after, since_all, AllValid}
 use Rattle.sp_witness.proofs.Back.{entry_of, entries}
 use Rattle.sp_witness.proofs.Contending.{Offers, offers_of, local_pending, local_condition, pends_next}
-
-pub quiet_front : (j : Judged) (n : ℕ) (xs ys : List Occurrence) → QuietFrom j n (xs ++ ys)
-    → QuietFrom j n xs × QuietFrom (judged_from j n xs) (n + length xs) ys
-quiet_front j n [] ys q = let e : n ≡ n + 0 = omega arith in (tt, subst (λ z. QuietFrom j z ys) e q)
-quiet_front j n (x ∷ xs) ys q =
-    let r = quiet_front (judged_by j n x.who x.what) (suc n) xs ys q.1 in
-    let e : suc n + length xs ≡ n + suc (length xs) = omega arith in
-    ((q.0, r.0), subst (λ z. QuietFrom (judged_from (judged_by j n x.who x.what) (suc n) xs) z ys) e r.1)
 
 pub clean_front : (xs ys : List Occurrence) → IsClean (xs ++ ys) → IsClean xs
 clean_front [] ys c = tt
