@@ -294,7 +294,8 @@ pub to_high : (low v high : ℤ) → int_le v high ≡ true → int_le (v -ℤ l
 to_high low v high x = Prim.grind (arith, x)
 
 -- a sum over a list begins with its first
-pub sum_on : (f : List ℕ × ℕ → ℕ) (x : List ℕ × ℕ) (xs : List (List ℕ × ℕ)) → sum (map f (x ∷ xs)) ≡ f x + sum (map f xs)
+pub sum_on : (f : List ℕ × ℕ → ℕ) (x : List ℕ × ℕ) (xs : List (List ℕ × ℕ))
+    → sum (map f (x ∷ xs)) ≡ f x + sum (map f xs)
 sum_on f x xs = sum-map f (x ∷ xs) ∙ sum_by-cons f x xs ∙ ap (λ (s : ℕ). f x + s) (sym (sum-map f xs))
 
 -- a sum with a limit, from its parts

@@ -124,7 +124,8 @@ module _ {M : Type 0} (ex : Execution M) where
         → (v : Var) (k : ℕ) (sc : List Scope) (q : ℕ) (stack : List Entry) (js : List Joint) (o : Own) (s : Store)
         (n : M) → rel.Stand js o s n → P ex sc js (In_selectors (selectors_of v)) → MayRead ex sc js (variable_of v)
         → PlaceAt p moves shares (Stands code) (HasFork code) (HasWords code) hush sc q v k
-        → G ex js (m.At q stack n) o s (after_var q v) (PlaceTop ex stack) (PlaceIs ex js (variable_of v) k) (place g call v)
+        → G ex js (m.At q stack n) o s (after_var q v) (PlaceTop ex stack)
+        (PlaceIs ex js (variable_of v) k) (place g call v)
     place_gives call ok (Entire x ss) k sc q stack js o s n t pl may h =
         gives_bind ops rel w code (var_gives ex sc q x h.0 stack n t pl.chain may h.1)
         (λ z a o1 s1 n1 t1 pi. selected_gives call ok ss x h.0 k sc (q + 1) stack z a js o1 s1 n1 t1 pl pi h.2)

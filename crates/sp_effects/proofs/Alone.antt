@@ -26,8 +26,6 @@ use Rattle.sp_effects.proofs.Members.{meets_from, meets_is, new_from, new_is, on
 
 -- ---- lists
 
-)
-
 has_output : (xs : List ℕ) → list_any (λ y. y == 1) xs ≡ true → IsMember 1 xs
 has_output [] e = absurd (cc e)
 has_output (x ∷ xs) e = ⊎_elim (λ h. inl (sym (eqb-true x 1 h))) (λ h. inr (has_output xs h))

@@ -142,7 +142,8 @@ step p b = step_by p (b == 10)
 -- each byte leads to a later place
 grows : (p : Place) (b : ℕ) (bs : List ℕ) → Earlier p (place_behind p (b ∷ bs))
 grows p b [] = step p b
-grows p b (c ∷ bs) = earlier_then p (next_place p b) (place_behind p (b ∷ c ∷ bs)) (step p b) (grows (next_place p b) c bs)
+grows p b (c ∷ bs) = earlier_then p (next_place p b) (place_behind p (b ∷ c ∷ bs)) (step p b)
+    (grows (next_place p b) c bs)
 
 pub rises : (text : List ℕ) (p : Place) (i j : ℕ) → i < j → j ≤ length text
     → Earlier (place_behind p (take i text)) (place_behind p (take j text))

@@ -36,8 +36,6 @@ use Rattle.sp_link.proofs.Journal.{Now}
 use Rattle.sp_link.proofs.Relation.{Ground, Life, Lives, W_of, R_of, Called, Named, Fresh, Stands, TooLarge}
 use Rattle.sp_link.proofs.Relation.{Performs_all, Linked, Began, at_open, run_is, ops, execution}
 
-}
-
 -- with so many cells as the frame of the program takes
 abbrev roomy : Setting → Setting
 roomy g = record g { limits = record (g.limits) { cells = size_of_frame g 0 } }

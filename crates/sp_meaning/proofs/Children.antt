@@ -230,7 +230,8 @@ module _ (p : Program) (W R : Name → Loc → Type 0) (q : Name) (k : ℕ) (fs 
       above' ((m, i) ∷ r) l h = go (same_name q r && (m == k)) refl h
         where
           go : (b : Bool) → (same_name q r && (m == k)) ≡ b
-              → Either b (UsedAt p (All W q) (All R q) fs (slice_get ss i) l) (R ((m, i) ∷ r) l) → IsAbove ((m, i) ∷ r) l
+              → Either b (UsedAt p (All W q) (All R q) fs (slice_get ss i) l) (R ((m, i) ∷ r) l)
+              → IsAbove ((m, i) ∷ r) l
           go true e h = above_all r m i l (subst (λ z. All R z l) (it_is r m e).0 ((right i l).1 h))
           go false e h = fair.above ((m, i) ∷ r) l h
 

@@ -21,8 +21,8 @@ pub used_part : (p : Program) {Here Above : Use → Type 0} → ((u : Use) → H
 used_part p i x (inl h) = inl (h.0, reach_part p i h.0 (Target x) h.1)
 used_part p i x (inr h) = inr (h.0, reach_part p i h.0 (Seen x) h.1)
 
-pub target_part : (p : Program) {Here Above : Use → Type 0} → ((u : Use) → Here u → Above u) → (x : ℕ) → IsTarget p Here x
-    → IsTarget p Above x
+pub target_part : (p : Program) {Here Above : Use → Type 0} → ((u : Use) → Here u → Above u) → (x : ℕ)
+    → IsTarget p Here x → IsTarget p Above x
 target_part p i x h = (h.0, reach_part p i h.0 (Target x) h.1)
 
 -- two variables in use are two locations

@@ -94,9 +94,11 @@ module _ (g : Setting) {Area : Type 0} (H : Area → List Home) (E : Area → �
       where
         go : (t : Bool) → r == x ≡ t → IsMember r (x ∷ rs) → In q (all (cond t rs (x ∷ without r rs)))
             → (IsMember r rs → In q (all (without r rs)) → ⊥) → ⊥
-        go true e m j h = distinct_apart q (base x).moved (all rs) d (subst (λ y. In q (base y).moved) (eqb-true r x e) i) j
+        go true e m j h = distinct_apart q (base x).moved (all rs) d
+            (subst (λ y. In q (base y).moved) (eqb-true r x e) i) j
         go false e (inl is) j h = cc (sym e ∙ is_same r x is)
-        go false e (inr m) j h = ⊎_elim (λ k. distinct_apart q (base x).moved (all rs) d k (in_mine rs q m i)) (λ k. h m k)
+        go false e (inr m) j h = ⊎_elim
+            (λ k. distinct_apart q (base x).moved (all rs) d k (in_mine rs q m i)) (λ k. h m k)
             (in_either q (base x).moved (all (without r rs)) j)
 
     pub members : (rs : List ℕ) (x : ℕ) → IsMember x (without r rs) → IsMember x rs
@@ -264,7 +266,8 @@ module _ (g : Setting) {Area : Type 0} (H : Area → List Home) (E : Area → �
         deep = hold.deep;
         known = λ q k. hold.known q (⊎_elim (λ i. known_whole q i) (λ o. subst (λ z. IsSome z) (whole_out q o) k)
             (in_or q c.store.moved));
-        none_away = λ q. either q (λ o. o ≢ Some Away) (λ i. held_not_away (map.get c.store.map q) (l.holding.moved q i))
+        none_away = λ q. either q (λ o. o ≢ Some Away)
+            (λ i. held_not_away (map.get c.store.map q) (l.holding.moved q i))
             (λ o. hold.none_away q);
         moved = λ q m. either q IsHeld (λ i. l.holding.moved q i) (λ o. hold.moved q m);
         old = hold.old;

@@ -55,8 +55,8 @@ place_at x n (suc k) (y ∷ ys) d e =
     (is_other x y (λ i. d.0 (subst (λ z. IsMember z ys) i (member_at x k ys e))))
     ∙ (place_at x (suc n) k ys d.1 e ∙ ap Some s)
 
-pub different_join : (ys zs : List ℕ) → AllDifferent ys → AllDifferent zs → ((x : ℕ) → IsMember x ys → IsMember x zs → ⊥)
-    → AllDifferent (ys ++ zs)
+pub different_join : (ys zs : List ℕ) → AllDifferent ys → AllDifferent zs
+    → ((x : ℕ) → IsMember x ys → IsMember x zs → ⊥) → AllDifferent (ys ++ zs)
 different_join [] zs d e h = e
 different_join (y ∷ ys) zs d e h = (
   λ m. ⊎_elim (λ i. d.0 i) (λ i. h y (inl refl) i) (member_either y ys zs m),
