@@ -142,16 +142,14 @@ impl Search {
             None => return Ok(false),
             Some(step) => step,
         };
-        let ways = free_ways(code, at);
-        if turn == 0 {
-            self.path.push(Step { at, turn: 1 })?;
-            self.follow(at, ways.first)?;
-        } else if turn == 1 {
-            self.path.push(Step { at, turn: 2 })?;
-            self.follow(at, ways.second)?;
-        } else {
+        if turn >= 2 {
             self.leave(at);
+            return Ok(true);
         }
+        let ways = free_ways(code, at);
+        let way = if turn == 0 { ways.first } else { ways.second };
+        self.path.push(Step { at, turn: turn + 1 })?;
+        self.follow(at, way)?;
         Ok(true)
     }
 

@@ -256,8 +256,12 @@ pub(crate) fn hang_all(
     ensures { OnOk result (AreAllHung code.now owners.now of_blocks.now grown.new) }
 {
     let up = forks(owners)?;
-    let order = order(&up)?;
-    hurry(code, blocks, owners, of_blocks, grown, &order)?;
+    let order = order(&up);
+    drop(up);
+    let order = order?;
+    let hurried = hurry(code, blocks, owners, of_blocks, grown, &order);
+    drop(order);
+    hurried?;
     search(code, blocks, owners, of_blocks, grown)
 }
 

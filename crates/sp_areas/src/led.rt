@@ -140,9 +140,13 @@ pub fn led(code: &Code, blocks: &Blocks) -> Result<Grown, Memory>
     ensures { IfOk result (λ grown. AreAllLed code.now.layouts grown) }
 {
     let up = parents(code, blocks)?;
-    let order = order(&up)?;
+    let order = order(&up);
+    drop(up);
+    let order = order?;
     let mut grown = nothing(code, code.parts().layouts.len())?;
-    hurry(code, blocks, &mut grown, &order)?;
+    let hurried = hurry(code, blocks, &mut grown, &order);
+    drop(order);
+    hurried?;
     search(code, blocks, &mut grown)?;
     Ok(grown)
 }

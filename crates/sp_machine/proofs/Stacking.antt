@@ -1,6 +1,6 @@
 -- The entries of a stack: those of functions that are being called, and those of a call.
 use Rattle.std.proofs.Common.{◌≡◌, ◌≢◌, ℕ, zero, suc, ◌+◌, ◌-◌, ◌≤◌, ◌<◌, List, [], ◌∷◌, ◌++◌, length, take, drop, true}
-use Rattle.std.proofs.Common.{false, refl, sym, ap, ◌∙◌, subst, arith}
+use Rattle.std.proofs.Common.{false, refl, sym, ap, ◌∙◌, subst, arith, get_or}
 use Rattle.std.specs.Prelude.{reverse}
 use Rattle.std.proofs.lemmas.List.{length-reverse, length-drop, reverse-append, reverse-reverse, take-append-drop}
 use Rattle.std.proofs.lemmas.List.{take-append-le, take_all}
@@ -75,3 +75,18 @@ drop_more (x ∷ xs) ys (suc i) o e = let one : suc i + 1 ≡ suc (i + 1) = omeg
 pub some_left : (xs : List Operand) (i : ℕ) → i < length xs → drop i xs ≢ []
 some_left xs i h e = let size : length (drop i xs) ≡ length xs - i = length-drop i xs in
     let none : length (drop i xs) ≡ 0 = ap length e in absurd (omega (arith, h, size, none))
+
+-- the entry on top is the last in memory
+ends : (xs : List Operand) (n : ℕ) (d : Operand) → length xs ≡ suc n → xs ≡ take n xs ++ get_or xs n d ∷ []
+ends [] n d h = absurd (omega (arith, h))
+ends (x ∷ []) zero d h = refl
+ends (x ∷ []) (suc n) d h = absurd (omega (arith, h))
+ends (x ∷ y ∷ xs) zero d h = absurd (omega (arith, h))
+ends (x ∷ y ∷ xs) (suc n) d h = ap (λ (zs : List Operand). x ∷ zs) (ends (y ∷ xs) n d (omega (arith, h)))
+
+pub top_last : (xs : List Operand) (d : Operand) → 0 < length xs
+    → reverse xs ≡ get_or xs (length xs - 1) d ∷ reverse (take (length xs - 1) xs)
+top_last xs d h =
+    let one : length xs ≡ suc (length xs - 1) = omega (arith, h) in
+    ap reverse (ends xs (length xs - 1) d one)
+    ∙ reverse-append (take (length xs - 1) xs) (get_or xs (length xs - 1) d ∷ [])

@@ -191,14 +191,14 @@ impl State {
         ensures same { Stays self.old self.new }
     {
         match self.stack.pop_number() {
-            Some(n) => match self.stack.pop_number() {
+            Some(n) => match self.stack.top_number() {
                 Some(m) => match binary(op, m, n) {
                     Ok(value) => {
-                        self.stack.push(Operand::Number(value))?;
+                        self.stack.put_number(value);
                         self.pc += 1;
                         Ok(None)
                     }
-                    Err(fault) => unpacked(self.fail_numbers(m, n, fault)),
+                    Err(fault) => unpacked(self.fail_number(n, fault)),
                 },
                 None => unreachable!(),
             },

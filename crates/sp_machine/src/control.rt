@@ -11,7 +11,7 @@ ghost use Rattle.sp_machine.specs.Entries.{entries_of};
 ghost use Rattle.sp_machine.specs.Procs.{does, CameBy, Stays, setting_of, memory_of};
 
 use crate::stack::Operand;
-use crate::state::{Interrupt, State, unpacked};
+use crate::state::{Interrupt, State};
 use sp_base::{Fault, Limits, Memory, TURN_TICKS};
 use sp_cell::Cell;
 use sp_code::Code;
@@ -219,23 +219,24 @@ impl State {
             (entries_of self.old.stack) (memory_of self.old)) self.old self.new s) }
         ensures same { Stays self.old self.new }
     {
-        match self.stack.pop_number() {
+        match self.stack.top_number() {
             Some(last) => match self.frames.address(0, var) {
                 Some(at) => match self.store.load(at) {
                     Cell::Ordinal(value) => {
                         if has_next(down, value, last) {
                             let next = following(down, value, last);
                             self.store.store(at, Cell::Ordinal(next))?;
-                            self.stack.push(Operand::Number(last))?;
                             self.pc = to;
                             return Ok(None);
+                        }
+                        match self.stack.pop_number() {
+                            Some(_) => {}
+                            None => unreachable!(),
                         }
                         self.pc += 1;
                         Ok(None)
                     }
-                    Cell::Undefined | Cell::Channel(_) => {
-                        unpacked(self.fail_number(last, Fault::F4))
-                    }
+                    Cell::Undefined | Cell::Channel(_) => Ok(Some(Interrupt::Fault(Fault::F4))),
                 },
                 None => unreachable!(),
             },

@@ -1,9 +1,10 @@
 //! The stack of operands of a process.
 
 ghost use Rattle.std.specs.Prelude.{◌≡◌, ◌≤◌, ◌∷◌, [], Some, None, OnOk, OnErr, MatchOption, length, reverse, take};
-ghost use Rattle.std.specs.Prelude.{drop};
+ghost use Rattle.std.specs.Prelude.{drop, List};
 ghost use Rattle.sp_code.specs.Machine.{outside};
 ghost use Rattle.sp_machine.specs.Entries.{entries_of, counted, pointer_in, HasNoNumber, HasNoChannel, HasNoPointer};
+ghost use Rattle.sp_machine.specs.declared.stack.Operand.{Operand};
 ghost use Rattle.sp_machine.specs.declared.stack.Operand.TheVariants.{Number, Channel, Pointer};
 
 use sp_base::{List, Memory};
@@ -140,6 +141,63 @@ impl Stack {
         }
     }
 
+    /// The number on top, which stays. `None` where none is there.
+    #[tactic(auto, using(crate::proofs::Stacking::top_last))]
+    #[inline(always)]
+    pub(crate) fn top_number(&self) -> Option<i64>
+        ensures { MatchOption result (HasNoNumber self.now)
+            (λ n. (os : List Operand) × (self.now ≡ Number n ∷ os)) }
+    {
+        let count = self.entries.len();
+        if count == 0 {
+            return None;
+        }
+        number_in(&self.entries[count - 1])
+    }
+
+    /// The address on top, which stays. `None` where none is there.
+    #[tactic(auto, using(crate::proofs::Stacking::top_last))]
+    #[inline(always)]
+    pub(crate) fn top_pointer(&self) -> Option<Address>
+        ensures { MatchOption result (HasNoPointer self.now)
+            (λ a. (os : List Operand) × (self.now ≡ Pointer a ∷ os)) }
+    {
+        let count = self.entries.len();
+        if count == 0 {
+            return None;
+        }
+        match &self.entries[count - 1] {
+            Operand::Pointer(a) => Some(*a),
+            _ => None,
+        }
+    }
+
+    /// Puts a number in place of the top, which is no cells and not where the caller of a function goes on.
+    #[inline(always)]
+    pub(crate) fn put_number(&mut self, value: i64)
+        requires { (o : Operand) × (os : List Operand) × (counted o ≡ 0) × (self.old ≡ o ∷ os) }
+        ensures { (o : Operand) (os : List Operand) → self.old ≡ o ∷ os → self.new ≡ Number value ∷ os }
+    {
+        match self.entries.pop() {
+            Some(entry) => mem::forget(entry),
+            None => unreachable!(),
+        }
+        self.entries.push_reserved(Operand::Number(value));
+    }
+
+    /// Puts an address in place of the top, which is no cells and not where the caller of a function goes on.
+    #[inline(always)]
+    pub(crate) fn put_pointer(&mut self, at: Address)
+        requires { (o : Operand) × (os : List Operand) × (counted o ≡ 0) × (self.old ≡ o ∷ os) }
+        ensures { (o : Operand) (os : List Operand) → self.old ≡ o ∷ os → self.new ≡ Pointer at ∷ os }
+    {
+        match self.entries.pop() {
+            Some(entry) => mem::forget(entry),
+            None => unreachable!(),
+        }
+        self.entries.push_reserved(Operand::Pointer(at));
+    }
+
     /// So many entries from the top, the lowest first.
     #[tactic(auto, using(crate::proofs::Stacking::top_part))]
     pub(crate) fn top(&self, count: usize) -> &[Operand]
@@ -183,6 +241,17 @@ fn counted(entry: &Operand) -> usize
     match entry {
         Operand::Reply(_) => 1,
         _ => 0,
+    }
+}
+
+// The number that an entry is, if it is one.
+#[inline(always)]
+fn number_in(entry: &Operand) -> Option<i64>
+    ensures { MatchOption result ((os : List Operand) → HasNoNumber (entry.now ∷ os)) (λ n. entry.now ≡ Number n) }
+{
+    match entry {
+        Operand::Number(n) => Some(*n),
+        _ => None,
     }
 }
 

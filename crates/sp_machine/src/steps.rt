@@ -1,7 +1,7 @@
 //! How instructions end: the process goes on with one operand more, or it stays where it is, with a fault.
 
 ghost use Rattle.std.specs.Prelude.{◌≡◌, ◌+◌, ◌<◌, ◌∷◌, IfOk};
-ghost use Rattle.sp_code.specs.Machine.{Goes, Fails, At, Number, Pointer};
+ghost use Rattle.sp_code.specs.Machine.{Goes, Fails, At, Number};
 ghost use Rattle.sp_machine.specs.declared.state.State.{State};
 ghost use Rattle.sp_machine.specs.Entries.{entry_of, entries_of};
 ghost use Rattle.sp_machine.specs.Outcomes.{unpacked};
@@ -10,7 +10,6 @@ ghost use Rattle.sp_machine.specs.Procs.{CameBy, Stays, config_of, memory_of};
 use crate::stack::Operand;
 use crate::state::{Interrupt, Outcome, State, packed};
 use sp_base::{Fault, Memory};
-use sp_cell::{Address, Spot};
 
 impl State {
     /// Goes on behind the instruction with one operand more.
@@ -49,69 +48,6 @@ impl State {
         ensures same { Stays self.old self.new }
     {
         packed(self.fail(Operand::Number(number), fault))
-    }
-
-    /// The same with two numbers.
-    #[cold]
-    #[inline(never)]
-    pub(crate) fn fail_numbers(&mut self, below: i64, top: i64, fault: Fault) -> Outcome
-        ensures came { (p : State) → config_of p
-            ≡ At self.old.pc (Number top ∷ Number below ∷ entries_of self.old.stack) (memory_of self.old)
-            → IfOk (unpacked result) (λ s. CameBy (Fails fault) p self.new s) }
-        ensures same { Stays self.old self.new }
-    {
-        packed(self.fail_both(Operand::Number(below), Operand::Number(top), fault))
-    }
-
-    /// The same with the address of a cell.
-    #[cold]
-    #[inline(never)]
-    pub(crate) fn fail_address(
-        &mut self,
-        frame: u64,
-        variable: u32,
-        offset: u32,
-        fault: Fault,
-    ) -> Outcome
-        ensures came { (p : State) → config_of p
-            ≡ At self.old.pc
-            (Pointer (record { spot = record { frame = frame; variable = variable }; offset = offset })
-            ∷ entries_of self.old.stack)
-            (memory_of self.old)
-            → IfOk (unpacked result) (λ s. CameBy (Fails fault) p self.new s) }
-        ensures same { Stays self.old self.new }
-    {
-        let at = Address {
-            spot: Spot { frame, variable },
-            offset,
-        };
-        packed(self.fail(Operand::Pointer(at), fault))
-    }
-
-    /// The same with a number above the address of a cell.
-    #[cold]
-    #[inline(never)]
-    pub(crate) fn fail_element(
-        &mut self,
-        frame: u64,
-        variable: u32,
-        offset: u32,
-        top: i64,
-        fault: Fault,
-    ) -> Outcome
-        ensures came { (p : State) → config_of p
-            ≡ At self.old.pc
-            (Number top ∷ Pointer (record { spot = record { frame = frame; variable = variable }; offset = offset })
-            ∷ entries_of self.old.stack)
-            (memory_of self.old)
-            → IfOk (unpacked result) (λ s. CameBy (Fails fault) p self.new s) }
-        ensures same { Stays self.old self.new }
-    {
-        let at = Address {
-            spot: Spot { frame, variable },
-            offset,
-        };
-        packed(self.fail_both(Operand::Pointer(at), Operand::Number(top), fault))
     }
 
     /// Stays at an instruction that has a fault, with the two operands that it had on top.

@@ -8,7 +8,7 @@ ghost use Rattle.sp_machine.specs.Procs.{does, CameBy, Stays};
 use crate::stack::Operand;
 use crate::state::{Interrupt, State, unpacked};
 use sp_base::{Fault, Limits, Memory};
-use sp_cell::{Address, Cell, Spot};
+use sp_cell::{Address, Cell};
 use sp_code::Code;
 
 /// The offset of an element, where it is a number for a cell.
@@ -87,20 +87,18 @@ impl State {
         ensures same { Stays self.old self.new }
     {
         match self.stack.pop_number() {
-            Some(n) => match self.stack.pop_pointer() {
+            Some(n) => match self.stack.top_pointer() {
                 Some(at) => {
                     if n < low || high < n {
-                        let Address {
-                            spot: Spot { frame, variable },
-                            offset,
-                        } = at;
-                        return unpacked(self.fail_element(frame, variable, offset, n, Fault::F1));
+                        return unpacked(self.fail_number(n, Fault::F1));
                     }
                     match beyond(at.offset, n.abs_diff(low), size) {
-                        Some(offset) => self.push_on(Operand::Pointer(Address {
-                            spot: at.spot,
-                            offset,
-                        })),
+                        Some(offset) => {
+                            let spot = at.spot;
+                            self.stack.put_pointer(Address { spot, offset });
+                            self.pc += 1;
+                            Ok(None)
+                        }
                         None => unreachable!(),
                     }
                 }
@@ -144,20 +142,14 @@ impl State {
             s) }
         ensures same { Stays self.old self.new }
     {
-        match self.stack.pop_pointer() {
+        match self.stack.top_pointer() {
             Some(at) => match self.store.load(at) {
                 Cell::Ordinal(value) => {
-                    self.stack.push(Operand::Number(value))?;
+                    self.stack.put_number(value);
                     self.pc += 1;
                     Ok(None)
                 }
-                Cell::Undefined | Cell::Channel(_) => {
-                    let Address {
-                        spot: Spot { frame, variable },
-                        offset,
-                    } = at;
-                    unpacked(self.fail_address(frame, variable, offset, Fault::F4))
-                },
+                Cell::Undefined | Cell::Channel(_) => Ok(Some(Interrupt::Fault(Fault::F4))),
             },
             None => unreachable!(),
         }

@@ -5,7 +5,7 @@ ghost use Rattle.sp_base.specs.declared.halt.Halt.TheVariants.{Refused};
 ghost use Rattle.sp_base.specs.declared.rule.Rule.TheVariants.{G1};
 ghost use Rattle.sp_parse.specs.Reads.{Ready, Cuts, Passes, Expects};
 
-use sp_base::{Halt, Place, Refusal, Rule};
+use sp_base::{Halt, Place, Refusal, Rule, take};
 use sp_tree::{Kind, Token};
 use std::alloc::Global;
 

@@ -4,6 +4,7 @@ pub mod TreeRows
 pub mod TextRows
 pub mod Laws
 pub mod Steps
+pub mod Wanting
 pub mod Counts
 pub mod Numbering
 pub mod StatementNumbers

@@ -7,6 +7,7 @@ pub mod CheckedTree
 pub mod StatementNumbers
 pub mod TypeFirst
 pub mod Firsts
+pub mod Wanted
 pub mod Types
 pub mod Capped
 pub mod DeclarationFirsts

@@ -3,7 +3,7 @@
 -- contracts of all walks of this crate cite it.
 use Rattle.std.specs.Prelude.{ℕ, Option, Result, Ok}
 use Rattle.sp_base.specs.declared.halt.Halt.{Halt}
-pub use Rattle.sp_tree.specs.Found.{walked_as, Walks}
+pub use Rattle.sp_tree.specs.Found.{Walks}
 use Rattle.sp_tree.specs.Found.{Found, AnswersAs}
 use Rattle.sp_types.specs.declared.typed.Typed.{Typed}
 

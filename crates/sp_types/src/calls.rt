@@ -13,10 +13,12 @@ ghost use Rattle.sp_types.specs.TypeWalk.{place};
 ghost use Rattle.sp_types.specs.Firsts.{expression_first, read_first, written_first, width_first, write_first};
 ghost use Rattle.sp_types.specs.Firsts.{channel_first, each_first};
 ghost use Rattle.sp_types.specs.CheckedTree.{checked_expression, target, argument_variable, checked_width};
-ghost use Rattle.sp_types.specs.CheckedTree.{written_text, written_form, written, reads, writes, opens};
+ghost use Rattle.sp_types.specs.CheckedTree.{written_text, written_form, written};
+ghost use Rattle.sp_types.specs.Wanted.{part_form, part_forms, part_first};
 
-use crate::checks::{channel_value, read_value, type_width, write_value};
+use crate::checks::{type_wanted, type_width};
 use crate::expressions::place_of;
+use crate::rules::Wanted;
 use crate::tables::Tables;
 use crate::typed::Walked;
 use crate::values::char_of;
@@ -54,33 +56,10 @@ fn type_read(alloc: Global, t: &Tables, a: NamedArg, first: Found) -> Result<Wal
         (read_first t.now (argument_of a) first) }
 {
     let NamedArg { value, width: _ } = a;
-    let e = take!(read_value(alloc, t, value, first));
+    let e = take!(type_wanted(alloc, t, value, Wanted::Read, first));
     Ok(Walked {
         first: e.first,
         tree: Form::ReadValue(target(alloc, e.tree)),
-    })
-}
-
-/// What is read.
-pub fn type_reads(
-    alloc: Global,
-    t: &Tables,
-    xs: List<NamedArg>,
-    first: Found,
-) -> Result<Walked<List<Form>>, Halt>
-    ensures { Walks (map checked.statement_form_of) result (reads t.now (arguments (map argument_of xs)))
-        (each_first t.now (read_first t.now) (arguments (map argument_of xs)) first) }
-{
-    let mut out = Vec::new(alloc);
-    let mut first = first;
-    for x in xs.into_vec() {
-        let y = take!(type_read(alloc, t, x, first));
-        first = y.first;
-        out.push(y.tree)?;
-    }
-    Ok(Walked {
-        tree: List::of(out),
-        first,
     })
 }
 
@@ -89,33 +68,10 @@ fn type_open(alloc: Global, t: &Tables, a: NamedArg, first: Found) -> Result<Wal
         (channel_first t.now (argument_of a) first) }
 {
     let NamedArg { value, width: _ } = a;
-    let e = take!(channel_value(alloc, t, value, first));
+    let e = take!(type_wanted(alloc, t, value, Wanted::Channel, first));
     Ok(Walked {
         first: e.first,
         tree: Form::Open(target(alloc, e.tree)),
-    })
-}
-
-/// What is opened.
-pub fn type_opens(
-    alloc: Global,
-    t: &Tables,
-    xs: List<NamedArg>,
-    first: Found,
-) -> Result<Walked<List<Form>>, Halt>
-    ensures { Walks (map checked.statement_form_of) result (opens t.now (arguments (map argument_of xs)))
-        (each_first t.now (channel_first t.now) (arguments (map argument_of xs)) first) }
-{
-    let mut out = Vec::new(alloc);
-    let mut first = first;
-    for x in xs.into_vec() {
-        let y = take!(type_open(alloc, t, x, first));
-        first = y.first;
-        out.push(y.tree)?;
-    }
-    Ok(Walked {
-        tree: List::of(out),
-        first,
     })
 }
 
@@ -169,7 +125,7 @@ fn written_value(
         (at_node (write_rule (place (expression_of e)) (expression_kind t.now (expression_of e)))
         (expression_first t.now (expression_of e) first)) }
 {
-    let e = take!(write_value(alloc, t, e, first));
+    let e = take!(type_wanted(alloc, t, e, Wanted::Written, first));
     Ok(Walked {
         first: e.first,
         tree: Form::WriteValue(e.tree, w),
@@ -257,20 +213,46 @@ fn type_write(alloc: Global, t: &Tables, a: NamedArg, first: Found) -> Result<Wa
     type_written(alloc, t, value, w.tree, w.first)
 }
 
-/// What is written.
-pub fn type_writes(
+/// What a call does with each of its arguments.
+#[derive(Clone, Copy)]
+pub enum Part {
+    Read,
+    Write,
+    Open,
+}
+
+fn type_part(
     alloc: Global,
     t: &Tables,
+    part: Part,
+    a: NamedArg,
+    first: Found,
+) -> Result<Walked<Form>, Halt>
+    ensures { Walks checked.statement_form_of result (part_form t.now part (argument_of a))
+        (part_first t.now part (argument_of a) first) }
+{
+    match part {
+        Part::Read => type_read(alloc, t, a, first),
+        Part::Write => type_write(alloc, t, a, first),
+        Part::Open => type_open(alloc, t, a, first),
+    }
+}
+
+/// What is read, written or opened.
+pub fn type_parts(
+    alloc: Global,
+    t: &Tables,
+    part: Part,
     xs: List<NamedArg>,
     first: Found,
 ) -> Result<Walked<List<Form>>, Halt>
-    ensures { Walks (map checked.statement_form_of) result (writes t.now (arguments (map argument_of xs)))
-        (each_first t.now (write_first t.now) (arguments (map argument_of xs)) first) }
+    ensures { Walks (map checked.statement_form_of) result (part_forms t.now part (arguments (map argument_of xs)))
+        (each_first t.now (part_first t.now part) (arguments (map argument_of xs)) first) }
 {
     let mut out = Vec::new(alloc);
     let mut first = first;
     for x in xs.into_vec() {
-        let y = take!(type_write(alloc, t, x, first));
+        let y = take!(type_part(alloc, t, part, x, first));
         first = y.first;
         out.push(y.tree)?;
     }

@@ -5,7 +5,7 @@ ghost use Rattle.sp_tree.specs.Found.{Answers};
 ghost use Rattle.sp_tree.specs.NamedOf.{statement_of, statement_form_of, statements, arms, arm_of, branches, branch_of};
 ghost use Rattle.sp_tree.specs.NamedOf.{other, argument_of, arguments};
 ghost use Rattle.sp_types.specs.TypeWalk.{statement_counted, form_counted, other_counted, statements_counted};
-ghost use Rattle.sp_types.specs.TypeWalk.{arms_counted, branches_counted, single_count, parts_count, count};
+ghost use Rattle.sp_types.specs.TypeWalk.{arms_counted, branches_counted, single_count, parts_count};
 
 use sp_base::{Boxed, Halt, List, take};
 use sp_tree::{NamedArg, NamedArm, NamedBranch, NamedForm, NamedStmt, StandardProcedure};
@@ -31,28 +31,14 @@ pub fn narrow(n: usize) -> Result<u32, Halt>
     }
 }
 
-#[tactic(auto, using(crate::proofs::Counts::count_is))]
-fn count(args: &[NamedArg]) -> usize
-    ensures { result ≡ count (arguments (map argument_of args.now)) }
-{
-    args.len()
-}
-
-#[tactic(auto, using(crate::proofs::Counts::count_is))]
-fn count_and_line(args: &[NamedArg]) -> usize
-    ensures { result ≡ count (arguments (map argument_of args.now)) + 1 }
-{
-    args.len() + 1
-}
-
 /// How many arguments of a standard procedure are evaluated beside the channel, and whether a line is read or written.
-#[tactic(auto, using(crate::proofs::Counts::count_behind_is))]
+#[tactic(auto, using(crate::proofs::Counts::count_is, crate::proofs::Counts::count_behind_is))]
 fn single_count(p: StandardProcedure, args: &[NamedArg]) -> usize
     ensures { result ≡ single_count p (arguments (map argument_of args.now)) }
 {
     match p {
-        StandardProcedure::Read | StandardProcedure::Write | StandardProcedure::Open => count(args),
-        StandardProcedure::Readln | StandardProcedure::Writeln => count_and_line(args),
+        StandardProcedure::Read | StandardProcedure::Write | StandardProcedure::Open => args.len(),
+        StandardProcedure::Readln | StandardProcedure::Writeln => args.len() + 1,
         StandardProcedure::Send | StandardProcedure::Receive => args.len().saturating_sub(1),
     }
 }

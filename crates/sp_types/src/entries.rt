@@ -38,12 +38,7 @@ fn fields_in(k: &KindOf) -> &[(Text, u32)]
 {
     match k {
         KindOf::Fields(fields) => fields.items(),
-        KindOf::Integer => &[],
-        KindOf::Boolean => &[],
-        KindOf::Char => &[],
-        KindOf::Enumeration(_) => &[],
-        KindOf::Array { .. } => &[],
-        KindOf::Channel(_) => &[],
+        _ => &[],
     }
 }
 
@@ -53,12 +48,7 @@ fn message_types(k: &KindOf) -> &[u32]
 {
     match k {
         KindOf::Channel(kinds) => kinds.items(),
-        KindOf::Integer => &[],
-        KindOf::Boolean => &[],
-        KindOf::Char => &[],
-        KindOf::Enumeration(_) => &[],
-        KindOf::Array { .. } => &[],
-        KindOf::Fields(_) => &[],
+        _ => &[],
     }
 }
 

@@ -407,12 +407,7 @@ fn passed(role: Option<Role>, e: Expr) -> Actual
 {
     match role {
         Some(Role::Reference) => referenced(e),
-        None => Actual::Value(e),
-        Some(Role::Console) => Actual::Value(e),
-        Some(Role::Local) => Actual::Value(e),
-        Some(Role::Value) => Actual::Value(e),
-        Some(Role::Index) => Actual::Value(e),
-        Some(Role::Answer) => Actual::Value(e),
+        _ => Actual::Value(e),
     }
 }
 

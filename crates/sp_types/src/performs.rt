@@ -4,7 +4,7 @@ ghost use Rattle.std.specs.Prelude.{◌≡◌, ◌++◌, ◌∷◌, [], map, Ok,
 ghost use Rattle.std.specs.Vec.Iter.{into_iter_items};
 ghost use Rattle.sp_tree.specs.NamedOf.{variable_of, expression_of, argument_of, arguments};
 ghost use Rattle.sp_tree.specs.PlainNamed.{Assign, Call, Perform};
-ghost use Rattle.sp_types.specs.Types.{Types, Walks, walked_as};
+ghost use Rattle.sp_types.specs.Types.{Types, Walks};
 ghost use Rattle.sp_tree.specs.CheckedOf as checked;
 ghost use Rattle.sp_tree.specs.PlainChecked as c;
 ghost use Rattle.sp_types.specs.Firsts.{channel_first, statement_form_first, perform_first, each_first, message_first};
@@ -14,13 +14,15 @@ ghost use Rattle.sp_types.specs.TypeWalk.{form_after};
 ghost use Rattle.sp_types.specs.CheckedTree.{argument_variable, argument_variables, checked_argument};
 ghost use Rattle.sp_types.specs.CheckedTree.{checked_arguments, checked_statement_form, each_received, each_sent};
 ghost use Rattle.sp_types.specs.CheckedTree.{singles, numbered, expanded};
+ghost use Rattle.sp_types.specs.Wanted.{part_forms, part_first};
 ghost use Rattle.sp_tree.specs.declared.meaning.StandardProcedure.TheVariants as procedure;
 ghost use Rattle.sp_tree.specs.Found.{AnswersAs};
 
-use crate::calls::{target, type_opens, type_reads, type_writes};
-use crate::checks::{channel_value, message_value, type_assigned};
+use crate::calls::{Part, target, type_parts};
+use crate::checks::type_wanted;
 use crate::counting::{parts_count, sum};
 use crate::expressions::{type_actuals, type_variable};
+use crate::rules::Wanted;
 use crate::tables::Tables;
 use crate::typed::{Typed, Walked};
 use sp_base::{Halt, List, Place, take};
@@ -42,7 +44,7 @@ pub fn type_assign(
         (statement_form_first t.now (Assign (variable_of v) (expression_of e)) first) }
 {
     let v = take!(type_variable(alloc, t, v, first));
-    let e = take!(type_assigned(alloc, t, e, v.kind, v.first));
+    let e = take!(type_wanted(alloc, t, e, Wanted::Assigned(v.kind), v.first));
     Ok(Walked {
         first: e.first,
         tree: Form::Assign(v.tree, e.tree),
@@ -81,7 +83,7 @@ fn type_value(
         (message_first t.now kind (argument_of a) first) }
 {
     let NamedArg { value, width: _ } = a;
-    let e = take!(message_value(alloc, t, value, kind, first));
+    let e = take!(type_wanted(alloc, t, value, Wanted::Message(kind), first));
     Ok(Walked {
         first: e.first,
         tree: e.tree,
@@ -100,7 +102,7 @@ fn type_received(
         (message_first t.now kind (argument_of a) first) }
 {
     let NamedArg { value, width: _ } = a;
-    let e = take!(message_value(alloc, t, value, kind, first));
+    let e = take!(type_wanted(alloc, t, value, Wanted::Message(kind), first));
     Ok(Walked {
         first: e.first,
         tree: target(alloc, e.tree),
@@ -164,7 +166,7 @@ fn type_channel(alloc: Global, t: &Tables, a: NamedArg, first: Found) -> Result<
         (channel_first t.now (argument_of a) first) }
 {
     let NamedArg { value, width: _ } = a;
-    channel_value(alloc, t, value, first)
+    type_wanted(alloc, t, value, Wanted::Channel, first)
 }
 
 /// Values sent on one channel: one alone is a single statement, of several the channel stands once in memory.
@@ -331,36 +333,24 @@ fn expanded(alloc: Global, n: u32, at: Place, forms: List<Form>) -> Result<Form,
     }
 }
 
-/// The single statements in one, where none of them has a channel.
-fn joined(
+/// A call of `read`, `write` or `open`.
+fn type_each(
     alloc: Global,
     t: &Tables,
-    forms: Walked<List<Form>>,
-    at: Place,
-) -> Result<Walked<Form>, Halt>
-    ensures { AnswersAs (walked_as checked.statement_form_of) result
-        (Ok (expanded t.now.next at (map checked.statement_form_of forms.tree), forms.first)) }
-{
-    Ok(Walked {
-        tree: take!(expanded(alloc, t.next, at, forms.tree)),
-        first: forms.first,
-    })
-}
-
-/// A call of `read`.
-fn type_read(
-    alloc: Global,
-    t: &Tables,
+    part: Part,
     args: List<NamedArg>,
     at: Place,
     first: Found,
 ) -> Result<Walked<Form>, Halt>
     ensures { Walks checked.statement_form_of result
-        (expanded t.now.next at (singles t.now procedure.Read (arguments (map argument_of args))))
-        (perform_first t.now procedure.Read (arguments (map argument_of args)) first) }
+        (expanded t.now.next at (part_forms t.now part (arguments (map argument_of args))))
+        (each_first t.now (part_first t.now part) (arguments (map argument_of args)) first) }
 {
-    let forms = take!(type_reads(alloc, t, args, first));
-    joined(alloc, t, forms, at)
+    let forms = take!(type_parts(alloc, t, part, args, first));
+    Ok(Walked {
+        tree: take!(expanded(alloc, t.next, at, forms.tree)),
+        first: forms.first,
+    })
 }
 
 /// A call of `readln`.
@@ -375,28 +365,12 @@ fn type_readln(
         (expanded t.now.next at (singles t.now procedure.Readln (arguments (map argument_of args))))
         (perform_first t.now procedure.Readln (arguments (map argument_of args)) first) }
 {
-    let forms = take!(type_reads(alloc, t, args, first));
-    let forms = Walked {
-        tree: take!(behind(forms.tree, Form::ReadLine)),
+    let forms = take!(type_parts(alloc, t, Part::Read, args, first));
+    let all = take!(behind(forms.tree, Form::ReadLine));
+    Ok(Walked {
+        tree: take!(expanded(alloc, t.next, at, all)),
         first: forms.first,
-    };
-    joined(alloc, t, forms, at)
-}
-
-/// A call of `write`.
-fn type_write(
-    alloc: Global,
-    t: &Tables,
-    args: List<NamedArg>,
-    at: Place,
-    first: Found,
-) -> Result<Walked<Form>, Halt>
-    ensures { Walks checked.statement_form_of result
-        (expanded t.now.next at (singles t.now procedure.Write (arguments (map argument_of args))))
-        (perform_first t.now procedure.Write (arguments (map argument_of args)) first) }
-{
-    let forms = take!(type_writes(alloc, t, args, first));
-    joined(alloc, t, forms, at)
+    })
 }
 
 /// A call of `writeln`.
@@ -411,28 +385,12 @@ fn type_writeln(
         (expanded t.now.next at (singles t.now procedure.Writeln (arguments (map argument_of args))))
         (perform_first t.now procedure.Writeln (arguments (map argument_of args)) first) }
 {
-    let forms = take!(type_writes(alloc, t, args, first));
-    let forms = Walked {
-        tree: take!(behind(forms.tree, Form::WriteLine)),
+    let forms = take!(type_parts(alloc, t, Part::Write, args, first));
+    let all = take!(behind(forms.tree, Form::WriteLine));
+    Ok(Walked {
+        tree: take!(expanded(alloc, t.next, at, all)),
         first: forms.first,
-    };
-    joined(alloc, t, forms, at)
-}
-
-/// A call of `open`.
-fn type_open(
-    alloc: Global,
-    t: &Tables,
-    args: List<NamedArg>,
-    at: Place,
-    first: Found,
-) -> Result<Walked<Form>, Halt>
-    ensures { Walks checked.statement_form_of result
-        (expanded t.now.next at (singles t.now procedure.Open (arguments (map argument_of args))))
-        (perform_first t.now procedure.Open (arguments (map argument_of args)) first) }
-{
-    let forms = take!(type_opens(alloc, t, args, first));
-    joined(alloc, t, forms, at)
+    })
 }
 
 /// A call of a standard procedure, as the single statements that it stands for.
@@ -449,11 +407,11 @@ fn type_call_of_standard(
         (perform_first t.now p (arguments (map argument_of args)) first) }
 {
     match p {
-        StandardProcedure::Read => type_read(alloc, t, args, at, first),
+        StandardProcedure::Read => type_each(alloc, t, Part::Read, args, at, first),
         StandardProcedure::Readln => type_readln(alloc, t, args, at, first),
-        StandardProcedure::Write => type_write(alloc, t, args, at, first),
+        StandardProcedure::Write => type_each(alloc, t, Part::Write, args, at, first),
         StandardProcedure::Writeln => type_writeln(alloc, t, args, at, first),
-        StandardProcedure::Open => type_open(alloc, t, args, at, first),
+        StandardProcedure::Open => type_each(alloc, t, Part::Open, args, at, first),
         StandardProcedure::Send => type_send(alloc, t, args, at, first),
         StandardProcedure::Receive => type_receive(alloc, t, args, at, first),
     }

@@ -4,12 +4,12 @@ ghost use Rattle.std.specs.Prelude.{◌≡◌};
 ghost use Rattle.std.specs.Option.{option_copied};
 ghost use Rattle.sp_tree.specs.Found.{breaks, breaks_if};
 ghost use Rattle.sp_types.specs.Tables.{kind_at};
-ghost use Rattle.sp_types.specs.TypeRules.{is_ordinal, is_channel, ordinal, channel, differ, unary_takes, binary_takes};
+ghost use Rattle.sp_types.specs.TypeRules.{is_ordinal, is_channel, ordinal, differ, unary_takes, binary_takes};
 ghost use Rattle.sp_types.specs.TypeRules.{binary_gives, unary_rule, left_rule, right_rule, index_kind_rule};
-ghost use Rattle.sp_types.specs.TypeRules.{index_rule, condition_rule, assign_rule, value_rule, reference_rule};
-ghost use Rattle.sp_types.specs.TypeRules.{actual_rule, standard_takes, standard_rule, read_rule, write_rule};
-ghost use Rattle.sp_types.specs.TypeRules.{width_rule, channel_rule, messages_in, message_in_rule, message_rule};
-ghost use Rattle.sp_types.specs.TypeRules.{range_rule, limit_rule, selector_rule, choice_rule, answer_rule, text_rule};
+ghost use Rattle.sp_types.specs.TypeRules.{index_rule, messages, choice_rule};
+ghost use Rattle.sp_types.specs.TypeRules.{actual_rule, standard_takes, standard_rule, width_rule, answer_rule};
+ghost use Rattle.sp_types.specs.TypeRules.{text_rule};
+ghost use Rattle.sp_types.specs.Wanted.{wanted_row, refuses, misfits, wanted_rule};
 ghost use Rattle.sp_types.specs.Kinds.{element_in, element, if_ordinal, standard_gives};
 
 use crate::tables::Tables;
@@ -31,9 +31,7 @@ fn is_ordinal(k: Option<&KindOf>) -> bool
         Some(KindOf::Boolean) => true,
         Some(KindOf::Char) => true,
         Some(KindOf::Enumeration(_)) => true,
-        Some(KindOf::Array { .. }) => false,
-        Some(KindOf::Fields(_)) => false,
-        Some(KindOf::Channel(_)) => false,
+        Some(_) => false,
     }
 }
 
@@ -43,12 +41,7 @@ fn is_channel(k: Option<&KindOf>) -> bool
     match k {
         None => false,
         Some(KindOf::Channel(_)) => true,
-        Some(KindOf::Integer) => false,
-        Some(KindOf::Boolean) => false,
-        Some(KindOf::Char) => false,
-        Some(KindOf::Enumeration(_)) => false,
-        Some(KindOf::Array { .. }) => false,
-        Some(KindOf::Fields(_)) => false,
+        Some(_) => false,
     }
 }
 
@@ -57,12 +50,6 @@ pub fn ordinal(t: &Tables, k: u32) -> bool
     ensures { result ≡ ordinal t.now k }
 {
     is_ordinal(t.kind_at(k))
-}
-
-fn channel(t: &Tables, k: u32) -> bool
-    ensures { result ≡ channel t.now k }
-{
-    is_channel(t.kind_at(k))
 }
 
 /// Whether two types are known and are different.
@@ -93,7 +80,7 @@ fn binary_takes(t: &Tables, op: BinaryOp, k: u32) -> bool
     ensures { result ≡ binary_takes t.now op k }
 {
     match op {
-        BinaryOp::Eq | BinaryOp::Ne => ordinal(t, k) || channel(t, k),
+        BinaryOp::Eq | BinaryOp::Ne => ordinal(t, k) || is_channel(t.kind_at(k)),
         BinaryOp::Lt | BinaryOp::Le | BinaryOp::Gt | BinaryOp::Ge => ordinal(t, k),
         BinaryOp::Add | BinaryOp::Sub | BinaryOp::Mul | BinaryOp::Div | BinaryOp::Mod => {
             k == INTEGER
@@ -153,12 +140,7 @@ fn index_kind_rule(at: Place, index_at: Place, i: Option<u32>, k: Option<&KindOf
             None => None,
             Some(i) => breaks_if(Rule::Y2, index_at, *index != i),
         },
-        Some(KindOf::Integer) => breaks(Rule::Y2, at),
-        Some(KindOf::Boolean) => breaks(Rule::Y2, at),
-        Some(KindOf::Char) => breaks(Rule::Y2, at),
-        Some(KindOf::Enumeration(_)) => breaks(Rule::Y2, at),
-        Some(KindOf::Fields(_)) => breaks(Rule::Y2, at),
-        Some(KindOf::Channel(_)) => breaks(Rule::Y2, at),
+        Some(_) => breaks(Rule::Y2, at),
     }
 }
 
@@ -184,12 +166,7 @@ fn element_in(i: Option<u32>, k: Option<&KindOf>) -> Option<u32>
                 Some(*element)
             }
         }
-        Some(KindOf::Integer) => None,
-        Some(KindOf::Boolean) => None,
-        Some(KindOf::Char) => None,
-        Some(KindOf::Enumeration(_)) => None,
-        Some(KindOf::Fields(_)) => None,
-        Some(KindOf::Channel(_)) => None,
+        Some(_) => None,
     }
 }
 
@@ -201,35 +178,6 @@ pub fn element(t: &Tables, k: Option<u32>, i: Option<u32>) -> Option<u32>
         None => None,
         Some(k) => element_in(i, t.kind_at(k)),
     }
-}
-
-/// Y4 at a condition.
-pub fn condition_rule(at: Place, k: Option<u32>) -> Found
-    ensures { result ≡ condition_rule at k }
-{
-    match k {
-        None => None,
-        Some(k) => breaks_if(Rule::Y4, at, BOOLEAN != k),
-    }
-}
-
-/// Y5 at an assigned expression.
-pub fn assign_rule(at: Place, v: Option<u32>, k: Option<u32>) -> Found
-    ensures { result ≡ assign_rule at v k }
-{
-    breaks_if(Rule::Y5, at, differ(v, k))
-}
-
-fn value_rule(at: Place, formal: Option<u32>, k: Option<u32>) -> Found
-    ensures { result ≡ value_rule at formal k }
-{
-    breaks_if(Rule::Y6, at, differ(formal, k))
-}
-
-fn reference_rule(at: Place, is_variable: bool, formal: Option<u32>, k: Option<u32>) -> Found
-    ensures { result ≡ reference_rule at is_variable formal k }
-{
-    breaks_if(Rule::Y7, at, !is_variable || differ(formal, k))
 }
 
 /// Y6 or Y7 at an actual parameter, by the role of the formal.
@@ -244,8 +192,8 @@ pub fn actual_rule(
 {
     match role {
         None => None,
-        Some(Role::Reference) => reference_rule(at, is_variable, formal, k),
-        Some(_) => value_rule(at, formal, k),
+        Some(Role::Reference) => { breaks_if(Rule::Y7, at, !is_variable || differ(formal, k)) }
+        Some(_) => breaks_if(Rule::Y6, at, differ(formal, k)),
     }
 }
 
@@ -295,23 +243,83 @@ pub fn standard_gives(t: &Tables, f: StandardFn, k: Option<u32>) -> Option<u32>
     }
 }
 
-/// Y8 at what is read.
-pub fn read_rule(at: Place, k: Option<u32>) -> Found
-    ensures { result ≡ read_rule at k }
+/// What a place of a statement asks of an expression.
+#[derive(Clone, Copy)]
+pub enum Wanted {
+    /// A boolean: Y4.
+    Condition,
+    /// The type of what it is assigned to: Y5.
+    Assigned(Option<u32>),
+    /// What can be read: Y8.
+    Read,
+    /// What can be written: Y8.
+    Written,
+    /// A channel: Y8.
+    Channel,
+    /// A message type of a channel of this type: Y9.
+    Message(Option<u32>),
+    /// An ordinal: Y10.
+    Range,
+    /// The type of the other limit or of the variable: Y10.
+    Limit(Option<u32>),
+    /// An ordinal: Y11.
+    Selector,
+}
+
+fn wanted_row(wanted: Wanted) -> Rule
+    ensures { result ≡ wanted_row wanted }
 {
-    match k {
-        None => None,
-        Some(k) => breaks_if(Rule::Y8, at, !(k == INTEGER || k == CHAR)),
+    match wanted {
+        Wanted::Condition => Rule::Y4,
+        Wanted::Assigned(_) => Rule::Y5,
+        Wanted::Read => Rule::Y8,
+        Wanted::Written => Rule::Y8,
+        Wanted::Channel => Rule::Y8,
+        Wanted::Message(_) => Rule::Y9,
+        Wanted::Range => Rule::Y10,
+        Wanted::Limit(_) => Rule::Y10,
+        Wanted::Selector => Rule::Y11,
     }
 }
 
-/// Y8 at what is written.
-pub fn write_rule(at: Place, k: Option<u32>) -> Found
-    ensures { result ≡ write_rule at k }
+/// Whether messages of a type do not go on a channel of a type.
+fn refuses(t: &Tables, channel: Option<u32>, k: u32) -> bool
+    ensures { result ≡ refuses (messages t.now channel) k }
+{
+    match channel {
+        None => false,
+        Some(c) => match t.takes(c, k) {
+            None => false,
+            Some(takes) => !takes,
+        },
+    }
+}
+
+/// Whether the type of an expression is none that its place asks for.
+fn misfits(t: &Tables, wanted: Wanted, k: u32) -> bool
+    ensures { result ≡ misfits t.now wanted k }
+{
+    match wanted {
+        Wanted::Condition => BOOLEAN != k,
+        Wanted::Assigned(v) => differ(v, Some(k)),
+        Wanted::Read => !(k == INTEGER || k == CHAR),
+        Wanted::Written => !(k == INTEGER || (k == CHAR || k == BOOLEAN)),
+        Wanted::Channel => !is_channel(t.kind_at(k)),
+        Wanted::Message(c) => refuses(t, c, k),
+        Wanted::Range => !ordinal(t, k),
+        Wanted::Limit(v) => differ(v, Some(k)),
+        Wanted::Selector => !ordinal(t, k),
+    }
+}
+
+/// The rule at an expression, by what its place asks for.
+#[tactic(auto, using(crate::proofs::Wanting::unknown, crate::proofs::Wanting::known))]
+pub fn wanted_rule(t: &Tables, wanted: Wanted, at: Place, k: Option<u32>) -> Found
+    ensures { result ≡ wanted_rule t.now wanted at k }
 {
     match k {
         None => None,
-        Some(k) => breaks_if(Rule::Y8, at, !(k == INTEGER || (k == CHAR || k == BOOLEAN))),
+        Some(k) => breaks_if(wanted_row(wanted), at, misfits(t, wanted, k)),
     }
 }
 
@@ -322,65 +330,6 @@ pub fn width_rule(at: Place, k: Option<u32>) -> Found
     match k {
         None => None,
         Some(k) => breaks_if(Rule::Y8, at, INTEGER != k),
-    }
-}
-
-/// Y8 at what has to be a channel.
-pub fn channel_rule(t: &Tables, at: Place, k: Option<u32>) -> Found
-    ensures { result ≡ channel_rule t.now at k }
-{
-    match k {
-        None => None,
-        Some(k) => breaks_if(Rule::Y8, at, !channel(t, k)),
-    }
-}
-
-fn message_in_rule(t: &Tables, at: Place, channel: u32, k: Option<u32>) -> Found
-    ensures { result ≡ message_in_rule at (messages_in (kind_at t.now channel)) k }
-{
-    match k {
-        None => None,
-        Some(k) => match t.takes(channel, k) {
-            None => None,
-            Some(takes) => breaks_if(Rule::Y9, at, !takes),
-        },
-    }
-}
-
-/// Y9 at what is sent or received on a channel of a type.
-pub fn message_rule(t: &Tables, at: Place, channel: Option<u32>, k: Option<u32>) -> Found
-    ensures { result ≡ message_rule t.now at channel k }
-{
-    match channel {
-        None => None,
-        Some(c) => message_in_rule(t, at, c, k),
-    }
-}
-
-/// Y10 at what has to be ordinal.
-pub fn range_rule(t: &Tables, at: Place, k: Option<u32>) -> Found
-    ensures { result ≡ range_rule t.now at k }
-{
-    match k {
-        None => None,
-        Some(k) => breaks_if(Rule::Y10, at, !ordinal(t, k)),
-    }
-}
-
-/// Y10 at a limit.
-pub fn limit_rule(at: Place, k: Option<u32>, limit: Option<u32>) -> Found
-    ensures { result ≡ limit_rule at k limit }
-{
-    breaks_if(Rule::Y10, at, differ(k, limit))
-}
-
-/// Y11 at a selector.
-pub fn selector_rule(t: &Tables, at: Place, k: Option<u32>) -> Found
-    ensures { result ≡ selector_rule t.now at k }
-{
-    match k {
-        None => None,
-        Some(k) => breaks_if(Rule::Y11, at, !ordinal(t, k)),
     }
 }
 

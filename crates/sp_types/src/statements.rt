@@ -17,10 +17,10 @@ ghost use Rattle.sp_types.specs.CheckedTree.{checked_expression, checked_stateme
 ghost use Rattle.sp_types.specs.CheckedTree.{checked_statements, checked_arms, checked_arm, checked_branches};
 ghost use Rattle.sp_types.specs.CheckedTree.{first_place, in_sequence};
 
-use crate::checks::{type_case, type_condition, type_limit, type_range};
+use crate::checks::type_wanted;
 use crate::choices::{check_choices, constant_numbers};
 use crate::performs::{type_assign, type_call, type_perform};
-use crate::rules::range_rule;
+use crate::rules::{Wanted, wanted_rule};
 use crate::tables::Tables;
 use crate::typed::Walked;
 use sp_base::{Boxed, Halt, List, Place, take};
@@ -103,7 +103,7 @@ fn type_statement_form(
             })
         }
         NamedForm::If(e, s, o) => {
-            let e = take!(type_condition(alloc, t, e, first));
+            let e = take!(type_wanted(alloc, t, e, Wanted::Condition, first));
             let s = take!(type_boxed(s, alloc, t, e.first));
             match o {
                 None => Ok(Walked {
@@ -114,7 +114,7 @@ fn type_statement_form(
             }
         }
         NamedForm::While(e, s) => {
-            let e = take!(type_condition(alloc, t, e, first));
+            let e = take!(type_wanted(alloc, t, e, Wanted::Condition, first));
             let s = take!(type_boxed(s, alloc, t, e.first));
             Ok(Walked {
                 tree: Form::While(e.tree, s.tree),
@@ -145,7 +145,7 @@ fn type_statement_form(
             body,
         } => type_forall(body, alloc, t, index, from, to, first),
         NamedForm::Assume(e) => {
-            let e = take!(type_condition(alloc, t, e, first));
+            let e = take!(type_wanted(alloc, t, e, Wanted::Condition, first));
             Ok(Walked {
                 tree: Form::Assume(e.tree),
                 first: e.first,
@@ -171,7 +171,7 @@ fn type_repeat(
 {
     let ss = take!(type_sequence(ss, alloc, t, at, first));
     let s = Boxed::new(alloc, ss.tree)?;
-    let e = take!(type_condition(alloc, t, e, ss.first));
+    let e = take!(type_wanted(alloc, t, e, Wanted::Condition, ss.first));
     Ok(Walked {
         tree: Form::Repeat(s, e.tree),
         first: e.first,
@@ -193,7 +193,7 @@ fn type_choices(
         (statement_form_first t.old (Case (expression_of e) (arms (map arm_of choices))) first) }
     ensures after { OnOk result (t.new ≡ arms_after t.old (arms (map arm_of choices))) }
 {
-    let e = take!(type_case(alloc, t, e, first));
+    let e = take!(type_wanted(alloc, t, e, Wanted::Selector, first));
     let first = take!(check_choices(alloc, t, e.kind, choices.items(), e.first));
     let choices = take!(type_arms(choices, alloc, t, first));
     Ok(Walked {
@@ -220,8 +220,8 @@ fn type_forall(
     ensures after { OnOk result (t.new ≡ form_after t.old
         (Forall index (expression_of from) (expression_of to) (statement_of body))) }
 {
-    let from = take!(type_range(alloc, t, from, first));
-    let to = take!(type_limit(alloc, t, to, from.kind, from.first));
+    let from = take!(type_wanted(alloc, t, from, Wanted::Range, first));
+    let to = take!(type_wanted(alloc, t, to, Wanted::Limit(from.kind), from.first));
     t.index(index, from.kind);
     let body = take!(type_boxed(body, alloc, t, to.first));
     Ok(Walked {
@@ -286,9 +286,9 @@ fn type_for(
     ensures after { OnOk result (t.new ≡ statement_after t.old (statement_of body)) }
 {
     let kind = t.variable_kind(variable);
-    let broken = range_rule(t, at, kind);
-    let from = take!(type_limit(alloc, t, from, kind, lesser(first, broken)));
-    let to = take!(type_limit(alloc, t, to, kind, from.first));
+    let broken = wanted_rule(t, Wanted::Range, at, kind);
+    let from = take!(type_wanted(alloc, t, from, Wanted::Limit(kind), lesser(first, broken)));
+    let to = take!(type_wanted(alloc, t, to, Wanted::Limit(kind), from.first));
     let body = take!(type_boxed(body, alloc, t, to.first));
     Ok(Walked {
         first: body.first,

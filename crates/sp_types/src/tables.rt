@@ -15,7 +15,7 @@ use sp_tree::{KindOf, Role};
 use std::mem::replace;
 
 /// An ordinal: the number of its type, and its own.
-#[derive(Clone, Copy, Debug, PartialEq, Eq)]
+#[derive(Clone, Copy)]
 pub struct Ordinal {
     pub kind: u32,
     pub number: i64,

@@ -2,10 +2,10 @@
 
 ghost use Rattle.std.specs.Prelude.{◌≡◌, pos, Ok};
 ghost use Rattle.sp_tree.specs.Found.{Answers};
-ghost use Rattle.sp_types.specs.Tables.{char_of, number_or, kind_at};
-ghost use Rattle.sp_types.specs.TypeRules.{field_in, field_found, field_rule};
-ghost use Rattle.sp_types.specs.Kinds.{field_kind, field};
-ghost use Rattle.sp_types.specs.CheckedTree.{or_zero, field_number, numbered_field};
+ghost use Rattle.sp_types.specs.Tables.{char_of, number_or};
+ghost use Rattle.sp_types.specs.TypeRules.{field_rule};
+ghost use Rattle.sp_types.specs.Kinds.{field};
+ghost use Rattle.sp_types.specs.CheckedTree.{or_zero, numbered_field};
 
 use crate::tables::{Ordinal, Tables};
 use sp_base::{Halt, Place, Rule, Text};
@@ -55,38 +55,22 @@ pub fn or_zero(k: Option<u32>) -> u32
     }
 }
 
-/// A field's number. One that is no `u32` is answered as want of memory.
-fn field_number(f: Option<(usize, u32)>) -> Result<u32, Halt>
-    ensures { Answers result (Ok (field_number f)) }
-{
-    match f {
-        None => Ok(0),
-        Some(f) => {
-            if f.0 < 4_294_967_296 {
-                Ok(f.0 as u32)
-            } else {
-                Err(Halt::Memory)
-            }
-        }
-    }
-}
-
-/// The number of a field of a variable that has a type so far.
+/// The number of a field of a variable that has a type so far. One that is no `u32` is answered as want of memory.
 pub fn numbered_field(t: &Tables, k: Option<u32>, name: &Text) -> Result<u32, Halt>
     ensures { Answers result (Ok (numbered_field t.now k name.now)) }
 {
     match k {
         None => Ok(0),
-        Some(k) => field_number(t.field(k, name)),
-    }
-}
-
-fn field_kind(f: Option<(usize, u32)>) -> Option<u32>
-    ensures { result ≡ field_kind f }
-{
-    match f {
-        None => None,
-        Some(f) => Some(f.1),
+        Some(k) => match t.field(k, name) {
+            None => Ok(0),
+            Some(f) => {
+                if f.0 < 4_294_967_296 {
+                    Ok(f.0 as u32)
+                } else {
+                    Err(Halt::Memory)
+                }
+            }
+        },
     }
 }
 
@@ -96,16 +80,10 @@ pub fn field(t: &Tables, k: Option<u32>, name: &Text) -> Option<u32>
 {
     match k {
         None => None,
-        Some(k) => field_kind(t.field(k, name)),
-    }
-}
-
-fn field_found(at: Place, f: Option<(usize, u32)>) -> Found
-    ensures { result ≡ field_found at f }
-{
-    match f {
-        None => breaks(Rule::Y3, at),
-        Some(_) => None,
+        Some(k) => match t.field(k, name) {
+            None => None,
+            Some(f) => Some(f.1),
+        },
     }
 }
 
@@ -115,6 +93,9 @@ pub fn field_rule(t: &Tables, at: Place, k: Option<u32>, name: &Text) -> Found
 {
     match k {
         None => None,
-        Some(k) => field_found(at, t.field(k, name)),
+        Some(k) => match t.field(k, name) {
+            None => breaks(Rule::Y3, at),
+            Some(_) => None,
+        },
     }
 }

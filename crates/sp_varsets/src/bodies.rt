@@ -13,7 +13,7 @@ ghost use Rattle.sp_varsets.specs.Records.{Writes};
 use crate::uses::Uses;
 use crate::var_set::VarSet;
 use crate::walk::Walk;
-use sp_base::{List, Memory};
+use sp_base::{List, Memory, take};
 use sp_tree::{Block, Checked};
 use std::alloc::Global;
 
@@ -39,7 +39,7 @@ pub(crate) fn gather(walk: &mut Walk, blocks: &[Block]) -> Result<Bodies, Memory
         stops: List::new(alloc),
     };
     for block in blocks {
-        bodies.walk_in(walk, block)?;
+        take!(bodies.walk_in(walk, block));
     }
     Ok(bodies)
 }
@@ -57,7 +57,7 @@ impl Bodies {
     fn fill(&mut self, walk: &mut Walk, uses: &mut Uses, block: &Block) -> Result<(), Memory>
         ensures { AreEmpty uses.old → OnOk result (Enters self.old self.new walk.old walk.new (block_of block.now)) }
     {
-        walk.statement(uses, &block.body)?;
+        take!(walk.statement(uses, &block.body));
         self.put(uses)
     }
 
@@ -93,7 +93,7 @@ fn put_into(rows: &mut List<VarSet>, b: usize, variable: u32) -> Result<(), Memo
 {
     let empty = VarSet::new(rows.alloc());
     let mut row = rows.replace(b, empty);
-    row.insert(variable)?;
+    take!(row.insert(variable));
     let _empty = rows.replace(b, row);
     Ok(())
 }
@@ -113,7 +113,7 @@ fn declare(
         Some(k) => k,
         None => return Ok(()),
     };
-    put_into(rows, block as usize, variable)?;
+    take!(put_into(rows, block as usize, variable));
     let q = match k.parent {
         Some(q) => q,
         None => return Ok(()),
@@ -121,7 +121,7 @@ fn declare(
     if q >= block {
         return Ok(());
     }
-    declare(rows, checked, variable, q)?;
+    take!(declare(rows, checked, variable, q));
     Ok(())
 }
 
@@ -131,10 +131,10 @@ pub(crate) fn declared(checked: &Checked, alloc: Global) -> Result<List<VarSet>,
     requires small { length checked.now.variables ≤ 2 ^ 32 }
     ensures { IfOk result (λ rows. AreDeclared (bare (program_of checked.now)) rows (length checked.now.variables)) }
 {
-    let mut rows = empty_rows(alloc, checked.blocks.len())?;
+    let mut rows = take!(empty_rows(alloc, checked.blocks.len()));
     let variables = checked.variables.items();
     'variables: for x in 0..variables.len() {
-        declare(&mut rows, checked, x as u32, variables[x].block)?;
+        take!(declare(&mut rows, checked, x as u32, variables[x].block));
     }
     Ok(rows)
 }
@@ -153,7 +153,7 @@ pub(crate) fn shown(
     let mut rows = List::new(alloc);
     'rows: for b in 0..own.len() {
         let mut row = VarSet::new(alloc);
-        let _grew = row.add(&own[b], &hidden[b])?;
+        let _grew = take!(row.add(&own[b], &hidden[b]));
         rows.push(row)?;
     }
     Ok(rows)

@@ -5,7 +5,7 @@ ghost use Rattle.sp_varsets.specs.Members.{has};
 ghost use Rattle.sp_varsets.specs.Paths.{member, Follows, Carried, Visited, Swept, Closes};
 
 use crate::var_set::VarSet;
-use sp_base::{List, Memory};
+use sp_base::{List, Memory, take};
 
 // Adds to a row that of another block.
 pub(crate) fn add_row(
@@ -22,7 +22,7 @@ pub(crate) fn add_row(
 {
     match rows.get(from) {
         Some(other) => {
-            let changed = row.add(other, hidden)?;
+            let changed = take!(row.add(other, hidden));
             Ok(changed)
         }
         None => Ok(false),
@@ -39,7 +39,7 @@ fn carry(rows: &mut List<VarSet>, to: usize, from: usize, hidden: &VarSet) -> Re
     }
     let empty = VarSet::new(rows.alloc());
     let mut row = rows.replace(to, empty);
-    let changed = add_row(&mut row, rows.items(), from, hidden)?;
+    let changed = take!(add_row(&mut row, rows.items(), from, hidden));
     let _empty = rows.replace(to, row);
     Ok(changed)
 }
@@ -90,7 +90,7 @@ fn visit_one(
     if b >= rows.len() {
         return Ok(());
     }
-    let _grew = visit(rows, b, &runs[b], &hidden[b])?;
+    let _grew = take!(visit(rows, b, &runs[b], &hidden[b]));
     Ok(())
 }
 
@@ -106,7 +106,7 @@ fn hurry(
     ensures { OnOk result (Follows runs.now hidden.now rows.old rows.new) }
 {
     'steps: for block in order {
-        visit_one(rows, *block as usize, runs, hidden)?;
+        take!(visit_one(rows, *block as usize, runs, hidden));
     }
     Ok(())
 }

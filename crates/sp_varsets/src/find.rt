@@ -14,7 +14,7 @@ use crate::sets::Sets;
 use crate::totals::{flags, row_entries, statement_entries};
 use crate::var_set::VarSet;
 use crate::walk::Walk;
-use sp_base::{List, Memory};
+use sp_base::{List, Memory, take};
 use sp_tree::Checked;
 use std::alloc::Global;
 
@@ -40,8 +40,8 @@ fn closed(
     requires small { length own.now ≤ 2 ^ 32 }
     ensures { IfOk result (λ rows. IsClosed runs.now hidden.now own.now rows) }
 {
-    let mut rows = shown(alloc, own, hidden)?;
-    close(&mut rows, order, runs, hidden)?;
+    let mut rows = take!(shown(alloc, own, hidden));
+    take!(close(&mut rows, order, runs, hidden));
     Ok(rows)
 }
 
@@ -53,16 +53,16 @@ fn reached(alloc: Global, checked: &Checked, bodies: &Bodies) -> Result<Reach, M
     requires bodies { AreBodies (map block_of checked.now.blocks) bodies.now (length checked.now.blocks) }
     ensures { IfOk result (λ reach. Reaches (program_of checked.now) bodies.now reach) }
 {
-    let order = inner_first(alloc, checked.blocks.items())?;
-    let hidden = declared(checked, alloc)?;
-    let free = empty_rows(alloc, checked.blocks.len())?;
+    let order = take!(inner_first(alloc, checked.blocks.items()));
+    let hidden = take!(declared(checked, alloc));
+    let free = take!(empty_rows(alloc, checked.blocks.len()));
     let order_items = order.items();
     let hidden_rows = hidden.items();
     let free_rows = free.items();
     let runs = bodies.runs.items();
-    let targets = closed(alloc, bodies.aims.items(), order_items, runs, hidden_rows)?;
-    let seen = closed(alloc, bodies.sees.items(), order_items, runs, hidden_rows)?;
-    let stops = closed(alloc, bodies.stops.items(), order_items, runs, free_rows)?;
+    let targets = take!(closed(alloc, bodies.aims.items(), order_items, runs, hidden_rows));
+    let seen = take!(closed(alloc, bodies.sees.items(), order_items, runs, hidden_rows));
+    let stops = take!(closed(alloc, bodies.stops.items(), order_items, runs, free_rows));
     Ok(Reach {
         targets,
         seen,
@@ -80,9 +80,9 @@ fn pooled(walk: Walk, reach: &Reach) -> Result<Sets, Memory>
     let mut walk = walk;
     let targets = reach.targets.items();
     let seen = reach.seen.items();
-    let statements = statement_entries(&mut walk, targets, seen)?;
-    let blocks = row_entries(&mut walk, targets, seen)?;
-    let stops = flags(walk.alloc, reach.stops.items())?;
+    let statements = take!(statement_entries(&mut walk, targets, seen));
+    let blocks = take!(row_entries(&mut walk, targets, seen));
+    let stops = take!(flags(walk.alloc, reach.stops.items()));
     Ok(Sets {
         nothing: VarSet::new(walk.alloc),
         pool: walk.pool,
@@ -106,7 +106,7 @@ pub fn sets_of(alloc: Global, checked: &Checked) -> Result<Sets, Memory>
         return Err(Memory);
     }
     let mut walk = Walk::new(alloc);
-    let bodies = gather(&mut walk, checked.blocks.items())?;
-    let reach = reached(alloc, checked, &bodies)?;
+    let bodies = take!(gather(&mut walk, checked.blocks.items()));
+    let reach = take!(reached(alloc, checked, &bodies));
     pooled(walk, &reach)
 }

@@ -11,7 +11,7 @@ ghost use Rattle.sp_varsets.specs.declared.uses.Uses.{Uses as AUses};
 ghost use Rattle.sp_varsets.specs.Adds.{Adds, AreEmpty};
 
 use crate::uses::Uses;
-use sp_base::Memory;
+use sp_base::{Memory, take};
 use sp_tree::{Actual, Expr, Var};
 
 impl Uses {
@@ -19,7 +19,7 @@ impl Uses {
         ensures { OnOk result (Adds self.old self.new
             (In_stmt (Assign (bare_variable (variable_of v.now)) (bare_expression (expression_of e.now))))) }
     {
-        self.target(v)?;
+        take!(self.target(v));
         self.expression(e)
     }
 
@@ -27,22 +27,22 @@ impl Uses {
         ensures { OnOk result (Adds self.old self.new
             (In_stmt (Call block (bare_actuals (actuals (map actual_of args.now)))))) }
     {
-        self.run(block)?;
+        take!(self.run(block));
         self.actuals(args)
     }
 
     pub(crate) fn read_value(&mut self, v: &Var) -> Result<(), Memory>
         ensures { OnOk result (Adds self.old self.new (In_stmt (ReadValue (bare_variable (variable_of v.now))))) }
     {
-        self.aim(0)?;
-        self.target(v)?;
+        take!(self.aim(0));
+        take!(self.target(v));
         self.stop()
     }
 
     pub(crate) fn read_line(&mut self) -> Result<(), Memory>
         ensures { OnOk result (Adds self.old self.new (In_stmt ReadLine)) }
     {
-        self.aim(0)?;
+        take!(self.aim(0));
         self.stop()
     }
 
@@ -50,9 +50,9 @@ impl Uses {
         ensures { OnOk result (Adds self.old self.new
             (In_stmt (WriteValue (bare_expression (expression_of e.now)) (bare_width (width_of w.now))))) }
     {
-        self.aim(1)?;
-        self.expression(e)?;
-        self.width(w)?;
+        take!(self.aim(1));
+        take!(self.expression(e));
+        take!(self.width(w));
         self.stop()
     }
 
@@ -60,22 +60,22 @@ impl Uses {
         ensures { OnOk result ((text : List ℕ)
             → Adds self.old self.new (In_stmt (WriteText text (bare_width (width_of w.now))))) }
     {
-        self.aim(1)?;
-        self.width(w)?;
+        take!(self.aim(1));
+        take!(self.width(w));
         self.stop()
     }
 
     pub(crate) fn write_line(&mut self) -> Result<(), Memory>
         ensures { OnOk result (Adds self.old self.new (In_stmt WriteLine)) }
     {
-        self.aim(1)?;
+        take!(self.aim(1));
         self.stop()
     }
 
     pub(crate) fn open(&mut self, v: &Var) -> Result<(), Memory>
         ensures { OnOk result (Adds self.old self.new (In_stmt (Open (bare_variable (variable_of v.now))))) }
     {
-        self.target(v)?;
+        take!(self.target(v));
         self.stop()
     }
 
@@ -83,8 +83,8 @@ impl Uses {
         ensures { OnOk result (Adds self.old self.new
             (In_stmt (Send (bare_expression (expression_of c.now)) (bare_expression (expression_of e.now))))) }
     {
-        self.expression(c)?;
-        self.expression(e)?;
+        take!(self.expression(c));
+        take!(self.expression(e));
         self.stop()
     }
 
@@ -92,8 +92,8 @@ impl Uses {
         ensures { OnOk result (Adds self.old self.new
             (In_stmt (Receive (bare_expression (expression_of c.now)) (bare_variable (variable_of variable.now))))) }
     {
-        self.expression(c)?;
-        self.target(variable)?;
+        take!(self.expression(c));
+        take!(self.target(variable));
         self.stop()
     }
 
@@ -102,8 +102,8 @@ impl Uses {
         ensures { OnOk result ((c : AnExpr) (start : AUses) → AreEmpty start → Adds start through.now (In_expr c)
             → Adds self.old self.new (In_stmt (Send c (bare_expression (expression_of e.now))))) }
     {
-        self.merge(through)?;
-        self.expression(e)?;
+        take!(self.merge(through));
+        take!(self.expression(e));
         self.stop()
     }
 
@@ -112,8 +112,8 @@ impl Uses {
         ensures { OnOk result ((c : AnExpr) (start : AUses) → AreEmpty start → Adds start through.now (In_expr c)
             → Adds self.old self.new (In_stmt (Receive c (bare_variable (variable_of v.now))))) }
     {
-        self.merge(through)?;
-        self.target(v)?;
+        take!(self.merge(through));
+        take!(self.target(v));
         self.stop()
     }
 }

@@ -11,7 +11,7 @@ use crate::closure::add_row;
 use crate::sets::Entry;
 use crate::var_set::VarSet;
 use crate::walk::{Own, Walk};
-use sp_base::{List, Memory};
+use sp_base::{List, Memory, take};
 use std::alloc::Global;
 
 // Adds the rows of all blocks of a set.
@@ -32,7 +32,7 @@ fn add_rows(
             Some(f) => f,
             None => return Ok(()),
         };
-        let _grew = add_row(all, rows, f as usize, nothing)?;
+        let _grew = take!(add_row(all, rows, f as usize, nothing));
         from = f as u64 + 1;
     }
     Ok(())
@@ -58,7 +58,7 @@ impl Walk {
         if index == 0 {
             return Ok(());
         }
-        let _grew = add_row(all, self.pool.items(), index as usize - 1, nothing)?;
+        let _grew = take!(add_row(all, self.pool.items(), index as usize - 1, nothing));
         Ok(())
     }
 
@@ -81,7 +81,7 @@ impl Walk {
         }
         match self.pool.get(runs as usize - 1) {
             Some(called) => {
-                add_rows(all, called, rows, nothing)?;
+                take!(add_rows(all, called, rows, nothing));
                 Ok(())
             }
             None => Ok(()),
@@ -107,9 +107,9 @@ impl Walk {
             return Ok(own);
         }
         let mut all = VarSet::new(self.alloc);
-        self.add_pooled(&mut all, own, nothing)?;
-        self.add_called(&mut all, runs, rows, nothing)?;
-        let i = self.put(all)?;
+        take!(self.add_pooled(&mut all, own, nothing));
+        take!(self.add_called(&mut all, runs, rows, nothing));
+        let i = take!(self.put(all));
         Ok(i)
     }
 }
@@ -122,8 +122,8 @@ fn put_row(walk: &mut Walk, row: &VarSet, nothing: &VarSet) -> Result<u32, Memor
     ensures set { IfOk result (λ i. Stands walk.new.pool i (λ x. has row.now x ≡ true)) }
 {
     let mut copy = VarSet::new(walk.alloc);
-    let _grew = copy.add(row, nothing)?;
-    let i = walk.put(copy)?;
+    let _grew = take!(copy.add(row, nothing));
+    let i = take!(walk.put(copy));
     Ok(i)
 }
 
@@ -176,7 +176,7 @@ pub(crate) fn statement_entries(
     let mut entries = List::new(walk.alloc);
     'slots: for n in 0..walk.slots.len() {
         let own = walk.slot(n);
-        let entry = entry_of(walk, own, targets, seen, &nothing)?;
+        let entry = take!(entry_of(walk, own, targets, seen, &nothing));
         entries.push(entry)?;
     }
     Ok(entries)
@@ -195,8 +195,8 @@ pub(crate) fn row_entries(
     let nothing = VarSet::new(walk.alloc);
     let mut entries = List::new(walk.alloc);
     'rows: for b in 0..targets.len() {
-        let aims = put_row(walk, &targets[b], &nothing)?;
-        let sees = put_row(walk, &seen[b], &nothing)?;
+        let aims = take!(put_row(walk, &targets[b], &nothing));
+        let sees = take!(put_row(walk, &seen[b], &nothing));
         entries.push(Entry {
             targets: aims,
             expressions: sees,

@@ -15,7 +15,7 @@ ghost use Rattle.sp_varsets.specs.Walks.{WalksStatement, WalksForm, WalksStateme
 
 use crate::uses::Uses;
 use crate::var_set::VarSet;
-use sp_base::{List, Memory, Place};
+use sp_base::{List, Memory, Place, take};
 use sp_tree::{Arm, Expr, Form, Stmt, Var};
 use std::alloc::Global;
 
@@ -34,6 +34,16 @@ pub(crate) struct Walk {
     pub alloc: Global,
     pub pool: List<VarSet>,
     pub slots: List<Option<Own>>,
+}
+
+// So many sets, as the index of the last one.
+fn index_of(count: usize) -> Result<u32, Memory>
+    ensures { IfOk result (λ i. i ≡ count) }
+{
+    match u32::try_from(count) {
+        Ok(index) => Ok(index),
+        Err(_) => Err(Memory),
+    }
 }
 
 // The statement's number behind a first one.
@@ -65,7 +75,7 @@ impl Walk {
             return Ok(0);
         }
         self.pool.push(set)?;
-        u32::try_from(self.pool.len()).map_err(|_| Memory)
+        index_of(self.pool.len())
     }
 
     // Makes room for what is recorded under this number.
@@ -84,10 +94,10 @@ impl Walk {
     fn keep(&mut self, number: usize, uses: &mut Uses) -> Result<(), Memory>
         ensures { OnOk result (Keeps self.old self.new number uses.old) }
     {
-        let aims = self.put(uses.aims.take())?;
-        let sees = self.put(uses.sees.take())?;
-        let runs = self.put(uses.runs.take())?;
-        self.grow(number)?;
+        let aims = take!(self.put(uses.aims.take()));
+        let sees = take!(self.put(uses.sees.take()));
+        let runs = take!(self.put(uses.runs.take()));
+        take!(self.grow(number));
         let _old = self.slots.replace(number, Some(Own { aims, sees, runs }));
         Ok(())
     }
@@ -107,8 +117,8 @@ impl Walk {
         ensures { AreEmpty mine.old → OnOk result
             (WalksStatement self.old self.new into.old into.new (statement_of s.now)) }
     {
-        self.form(mine, &s.form)?;
-        into.merge(mine)?;
+        take!(self.form(mine, &s.form));
+        take!(into.merge(mine));
         self.keep(s.number as usize, mine)
     }
 
@@ -215,7 +225,7 @@ impl Walk {
         ensures { AreEmpty inner.old → OnOk result
             (WalksElement self.old self.new into.old into.new index (statement_of s.now)) }
     {
-        self.statement(inner, s)?;
+        take!(self.statement(inner, s));
         inner.forget(index);
         into.merge(inner)
     }
@@ -254,24 +264,23 @@ impl Walk {
             (sends number at (expression_of channel.now) (map expression_of values.now))) }
     {
         let mut through = Uses::new(self.alloc);
-        through.expression(channel)?;
-        self.sends_through(into, number, at, &through, values)
+        self.sends_through(into, &mut through, number, at, channel, values)
     }
 
-    // The same, where the uses of the channel are known: a long channel is walked through once.
+    // The same, with sets of the channel's own, which are empty: a long channel is walked through once.
     fn sends_through(
         &mut self,
         into: &mut Uses,
+        through: &mut Uses,
         number: u32,
         at: Place,
-        through: &Uses,
+        channel: &Expr,
         values: &[Expr],
     ) -> Result<(), Memory>
-        ensures { OnOk result ((channel : c.Expression) (start : AUses) → AreEmpty start
-            → Adds start through.now (In_expr (bare_expression channel))
-            → WalksStatements self.old self.new into.old into.new
-            (sends number at channel (map expression_of values.now))) }
+        ensures { AreEmpty through.old → OnOk result (WalksStatements self.old self.new into.old into.new
+            (sends number at (expression_of channel.now) (map expression_of values.now))) }
     {
+        through.expression(channel)?;
         for (i, value) in values.iter().enumerate() {
             self.send(into, number_from(number, i)?, through, value)?;
         }
@@ -310,8 +319,8 @@ impl Walk {
             → WalksStatement self.old self.new into.old into.new
             (c.Does number at (c.Send channel (expression_of value.now)))) }
     {
-        mine.send_through(through, value)?;
-        into.merge(mine)?;
+        take!(mine.send_through(through, value));
+        take!(into.merge(mine));
         self.keep(number, mine)
     }
 
@@ -328,24 +337,23 @@ impl Walk {
             (receives number at (expression_of channel.now) (map variable_of variables.now))) }
     {
         let mut through = Uses::new(self.alloc);
-        through.expression(channel)?;
-        self.receives_through(into, number, at, &through, variables)
+        self.receives_through(into, &mut through, number, at, channel, variables)
     }
 
-    // The same, where the uses of the channel are known.
+    // The same, with sets of the channel's own, which are empty: a long channel is walked through once.
     fn receives_through(
         &mut self,
         into: &mut Uses,
+        through: &mut Uses,
         number: u32,
         at: Place,
-        through: &Uses,
+        channel: &Expr,
         variables: &[Var],
     ) -> Result<(), Memory>
-        ensures { OnOk result ((channel : c.Expression) (start : AUses) → AreEmpty start
-            → Adds start through.now (In_expr (bare_expression channel))
-            → WalksStatements self.old self.new into.old into.new
-            (receives number at channel (map variable_of variables.now))) }
+        ensures { AreEmpty through.old → OnOk result (WalksStatements self.old self.new into.old into.new
+            (receives number at (expression_of channel.now) (map variable_of variables.now))) }
     {
+        through.expression(channel)?;
         for (i, variable) in variables.iter().enumerate() {
             self.receive(into, number_from(number, i)?, through, variable)?;
         }
@@ -384,8 +392,8 @@ impl Walk {
             → WalksStatement self.old self.new into.old into.new
             (c.Does number at (c.Receive channel (variable_of variable.now)))) }
     {
-        mine.receive_through(through, variable)?;
-        into.merge(mine)?;
+        take!(mine.receive_through(through, variable));
+        take!(into.merge(mine));
         self.keep(number, mine)
     }
 }

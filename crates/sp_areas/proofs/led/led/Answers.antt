@@ -3,8 +3,8 @@ use Rattle.sp_code.specs.declared.code.Parts.{Parts}
 use Rattle.sp_areas.proofs.Leading.{none_led}
 use Rattle.sp_areas.proofs.led.led.Goals as goal
 
-pub hurry-requires-clause-just : goal.hurry-requires-clause-just
-hurry-requires-clause-just c =
+pub hurry-hurried-requires-clause-just : goal.hurry-hurried-requires-clause-just
+hurry-hurried-requires-clause-just c =
     let count : c.len.result ≡ length c.args.code.now.layouts = c.len.ensures
     ∙ ap (λ (z : Parts). length z.layouts) c.parts.ensures.same in
     none_led c.args.code.now.layouts c.in_ok-grown.grown c.in_ok-grown.ensures.0 (c.in_ok-grown.ensures.1

@@ -5,6 +5,7 @@ use Rattle.sp_code.specs.declared.code.Parts.{Parts}
 use Rattle.sp_areas.specs.Blocks.{number_from}
 use Rattle.sp_areas.specs.Grown.{inside_of, node_at}
 use Rattle.sp_areas.proofs.Leading.{is_none, led_step, place_there}
+use Rattle.std.proofs.lemmas.Grind.{common_steps}
 use Rattle.sp_areas.proofs.led.settle.Goals as goal
 
 pub returns-in-None-place : goal.returns-in-None-place
@@ -39,3 +40,12 @@ returns c =
     (c.inside_of.ensures ls c.requires.blocks) ∙ c.in-Some-inside_of.is in
     led_step ls c.args.grown.now c.give_node.new.grown c.args.item c.in-Some-place.place l c.in-Some-inside_of.around
     c.requires.just e n p i c.in_ok-give_node.ensures
+
+pub returns-in-None : goal.returns-in-None
+returns-in-None c = grind (arith, common_steps)
+
+pub returns-then-is_some : goal.returns-then-is_some
+returns-then-is_some c = grind (arith, common_steps)
+
+pub returns-in-None-inside_of : goal.returns-in-None-inside_of
+returns-in-None-inside_of c = grind (arith, common_steps)

@@ -1,8 +1,9 @@
-use Rattle.std.proofs.Common.{◌≡◌, ◌+◌, length, Some, ap, sym, ◌∙◌, subst}
+use Rattle.std.proofs.Common.{◌≡◌, ◌+◌, length, Some, ap, sym, ◌∙◌, subst, arith}
 use Rattle.std.specs.Prelude.{slice_get}
 use Rattle.sp_code.specs.declared.code.Parts.{Parts}
 use Rattle.sp_areas.specs.Owners.{IsHanded, IsSpreadBy, Spreads}
 use Rattle.sp_areas.proofs.Handing.{child_true, ok_map, spread_by}
+use Rattle.std.proofs.lemmas.Grind.{common_steps}
 use Rattle.sp_areas.proofs.owners.visit_table.Goals as goal
 
 pub visit_children-requires-clause-owner : goal.visit_children-requires-clause-owner
@@ -35,3 +36,12 @@ returns c =
     ok_map c.visit_children.result (λ s. Spreads code a b (IsHanded code o ts (length ts)) s)
     (λ s. Spreads code a b (IsSpreadBy code c.args.t) s)
     (λ s h. spread_by code a b c.args.t o tb ts s e g c.items.ensures h) c.visit_children.ensures
+
+pub returns-in-None : goal.returns-in-None
+returns-in-None c = grind (arith, common_steps)
+
+pub returns-in-None-get : goal.returns-in-None-get
+returns-in-None-get c = grind (arith, common_steps)
+
+pub returns-then-is_same : goal.returns-then-is_same
+returns-then-is_same c = grind (arith, common_steps)

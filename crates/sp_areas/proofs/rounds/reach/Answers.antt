@@ -5,3 +5,6 @@ rounds-smaller c = (c.in_ok-go_on.ensures c.args.start c.rounds.invariant c.in-S
 
 pub rounds-preserved : goal.rounds-preserved
 rounds-preserved c = (c.in_ok-go_on.ensures c.args.start c.rounds.invariant c.in-Some.ensures.0).0
+
+pub returns-in-None : goal.returns-in-None
+returns-in-None c = (c.rounds.invariant, c.in-None.ensures)

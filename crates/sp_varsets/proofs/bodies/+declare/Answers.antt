@@ -16,9 +16,9 @@ returns t c =
     ∙ sym (length_of_map bare_block (map block_of c.args.checked.now.blocks))) in
     declares_more (bare (program_of c.args.checked.now)) c.args.rows.now c.put_into.new.rows c.declare.new.rows
     c.args.variable c.args.block c.in-Some-parent.q (bare_block (block_of c.in-Some.k.now)) l
-    c.in_ok-put_into.ensures.rows at up
-    (in_put c.args.rows.now c.put_into.new.rows c.args.block c.args.variable c.in_ok-put_into.ensures.put)
-    c.in_ok-declare.ensures
+    c.in-Ok.ensures.rows at up
+    (in_put c.args.rows.now c.put_into.new.rows c.args.block c.args.variable c.in-Ok.ensures.put)
+    c.in-Ok-declare.ensures
 
 pub returns-in-None : goal.returns-in-None
 returns-in-None t c =
@@ -40,8 +40,8 @@ returns-in-None-parent t c =
     ∙ (sym (length_of_map block_of c.args.checked.now.blocks)
     ∙ sym (length_of_map bare_block (map block_of c.args.checked.now.blocks))) in
     declares_top (bare (program_of c.args.checked.now)) c.args.rows.now c.put_into.new.rows c.args.variable c.args.block
-    (bare_block (block_of c.in-Some.k.now)) l c.in_ok-put_into.ensures.rows at top
-    (in_put c.args.rows.now c.put_into.new.rows c.args.block c.args.variable c.in_ok-put_into.ensures.put)
+    (bare_block (block_of c.in-Some.k.now)) l c.in-Ok.ensures.rows at top
+    (in_put c.args.rows.now c.put_into.new.rows c.args.block c.args.variable c.in-Ok.ensures.put)
 
 pub returns-then-q-block : goal.returns-then-q-block
 returns-then-q-block t c =

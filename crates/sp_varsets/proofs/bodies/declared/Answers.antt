@@ -18,4 +18,4 @@ variables-preserved c =
     (variable_of c.index-variables-x.result) c.variables.invariant
     (get_of_map variable_of c.args.checked.now.variables c.variables.x c.index-variables-x.result at1)
     (subst (λ (z : Variable). Declares (bare (program_of c.args.checked.now)) c.variables.rows c.declare.new.rows
-    c.variables.x z.block) (sym c.index-variables-x.is) c.in_ok-declare.ensures)
+    c.variables.x z.block) (sym c.index-variables-x.is) c.in-Ok-declare.ensures)

@@ -8,7 +8,7 @@ use Rattle.sp_varsets.proofs.bodies.gather.Goals as goal
 
 pub loop-block-preserved : goal.loop-block-preserved
 loop-block-preserved c =
-    let e = c.in_ok-walk_in.ensures in
+    let e = c.in-Ok.ensures in
     let put = e.1 in
     let w = e.2.2 in (
       bodies_more (map block_of c.args.blocks.now) c.loop-block.bodies c.walk_in.new.self e.0

@@ -13,9 +13,9 @@ returns c =
     λ x. ap (λ z. member z c.args.from x) (c.items.ensures ∙ c.replace-row.ensures.list)
     ∙ ap (λ o. row_has o x) (set_other c.args.rows.now c.args.to c.args.from c.new-empty.result
     c.if-from-to.false) in
-    subst (λ z. Carried c.args.rows.now z c.args.to c.args.from c.args.hidden.now c.in_ok-changed.changed) (sym e)
+    subst (λ z. Carried c.args.rows.now z c.args.to c.args.from c.args.hidden.now c.in-Ok.value) (sym e)
     (carried c.args.rows.now c.args.to c.args.from c.replace-row.result c.add_row.new.row c.args.hidden.now
-    c.in_ok-changed.changed c.replace-row.ensures.replaced c.requires c.if-from-to.false
-    (λ x. c.in_ok-changed.ensures.added x ∙ ap (λ b. has c.replace-row.result x || (b && not (has c.args.hidden.now x)))
+    c.in-Ok.value c.replace-row.ensures.replaced c.requires c.if-from-to.false
+    (λ x. c.in-Ok.ensures.added x ∙ ap (λ b. has c.replace-row.result x || (b && not (has c.args.hidden.now x)))
     (from x))
-    c.in_ok-changed.ensures.same c.in_ok-changed.ensures.changed)
+    c.in-Ok.ensures.same c.in-Ok.ensures.changed)

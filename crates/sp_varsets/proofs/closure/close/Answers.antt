@@ -1,4 +1,4 @@
-use Rattle.std.proofs.Common.{arith}
+use Rattle.std.proofs.Common.{arith, refl, []}
 use Rattle.sp_varsets.proofs.Paths.{closes, follows_then, gaps_le, gaps_lt, span, leads_below}
 use Rattle.sp_varsets.proofs.closure.close.Goals as goal
 
@@ -23,3 +23,6 @@ sweeps-smaller c =
     let two = gaps_lt c.hurry.new.rows c.sweep.new.rows (span c.args.rows.now) m.0 m.1 s.follows.rows s.follows.kept low
     m.2 m.3 in
     omega arith
+
+pub sweeps-init : goal.sweeps-init
+sweeps-init c = record { rows = refl; kept = λ b x h. h; led = λ b x h. ([], h) }

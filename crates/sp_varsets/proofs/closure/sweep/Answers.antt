@@ -1,4 +1,4 @@
-use Rattle.std.proofs.Common.{length, arith, refl}
+use Rattle.std.proofs.Common.{length, arith, refl, []}
 use Rattle.std.proofs.lemmas.Option.{slice_get_read}
 use Rattle.sp_varsets.proofs.Paths.{swept_more}
 use Rattle.sp_varsets.proofs.closure.sweep.Goals as goal
@@ -15,3 +15,11 @@ rows-preserved c =
     swept_more c.args.runs.now c.args.hidden.now c.args.rows.now c.rows.rows c.visit.new.rows c.rows.b
     c.index-runs-b.result c.index-hidden-b.result c.rows.changed c.in_ok-changed.field-0 er eh c.requires.small
     c.rows.invariant c.in_ok-changed.ensures
+
+pub rows-init : goal.rows-init
+rows-init c = record {
+  follows = record { rows = refl; kept = λ b x h. h; led = λ b x h. ([], h) };
+  none = λ e b x. refl;
+  full = λ e b d x h. absurd (omega arith);
+  some = λ e. cc;
+}

@@ -13,4 +13,4 @@ returns c =
     let eh = slice_get_read c.args.hidden.now (length c.args.hidden.now) c.args.b c.index-hidden-b.result refl
     (omega arith) c.index-hidden-b.is in
     follows_visit c.args.runs.now c.args.hidden.now c.args.rows.now c.visit.new.rows c.args.b (2 ^ 32)
-    c.index-runs-b.result c.index-hidden-b.result c.in_ok-_grew._grew er eh c.in_ok-_grew.ensures
+    c.index-runs-b.result c.index-hidden-b.result c.in-Ok.value er eh c.in-Ok.ensures

@@ -7,18 +7,18 @@ use Rattle.sp_varsets.proofs.find.reached.Goals as goal
 
 pub returns : goal.returns
 returns c =
-    let aims = rw (c.items-runs.ensures, c.items-hidden_rows.ensures, c.items-2.ensures) at c.in_ok-targets.ensures in
-    let sees = rw (c.items-runs.ensures, c.items-hidden_rows.ensures, c.items-3.ensures) at c.in_ok-seen.ensures in
-    let stops = rw (c.items-runs.ensures, c.items-free_rows.ensures, c.items-4.ensures) at c.in_ok-stops.ensures in
+    let aims = rw (c.items-runs.ensures, c.items-hidden_rows.ensures, c.items-2.ensures) at c.in-Ok-closed.ensures in
+    let sees = rw (c.items-runs.ensures, c.items-hidden_rows.ensures, c.items-3.ensures) at c.in-Ok-closed-2.ensures in
+    let stops = rw (c.items-runs.ensures, c.items-free_rows.ensures, c.items-4.ensures) at c.in-Ok-closed-3.ensures in
     record {
       declared = (
-        c.in_ok-hidden.hidden,
-        subst (λ n. AreDeclared (bare (program_of c.args.checked.now)) c.in_ok-hidden.hidden n)
-            (sym (length_of_map variable_of c.args.checked.now.variables)) c.in_ok-hidden.ensures,
+        c.in-Ok-declared.value,
+        subst (λ n. AreDeclared (bare (program_of c.args.checked.now)) c.in-Ok-declared.value n)
+            (sym (length_of_map variable_of c.args.checked.now.variables)) c.in-Ok-declared.ensures,
         aims,
         sees,
       );
-      free = (c.in_ok-free.free, c.in_ok-free.ensures.empty, stops);
+      free = (c.in-Ok-empty_rows.value, c.in-Ok-empty_rows.ensures.empty, stops);
     }
 
 pub closed-requires : goal.closed-requires
@@ -33,7 +33,7 @@ closed-requires c =
         b.aims,
         own,
         ap length c.items-hidden_rows.ensures,
-        c.in_ok-hidden.ensures.count,
+        c.in-Ok-declared.ensures.count,
         length_of_map bare_block (map block_of bs),
         length_of_map block_of bs,
       );
@@ -52,7 +52,7 @@ closed-requires-2 c =
         b.sees,
         own,
         ap length c.items-hidden_rows.ensures,
-        c.in_ok-hidden.ensures.count,
+        c.in-Ok-declared.ensures.count,
         length_of_map bare_block (map block_of bs),
         length_of_map block_of bs,
       );
@@ -70,7 +70,7 @@ closed-requires-3 c =
         b.stops,
         own,
         ap length c.items-free_rows.ensures,
-        c.in_ok-free.ensures.rows,
+        c.in-Ok-empty_rows.ensures.rows,
         c.len.ensures,
       );
       small = omega (arith, b.stops, own, c.requires.blocks);

@@ -7,17 +7,17 @@ use Rattle.sp_varsets.proofs.Found.{if_found, within_written}
 use Rattle.sp_varsets.proofs.find.sets_of.Goals as goal
 
 pub returns : goal.returns
-returns c = if_found (program_of c.args.checked.now) c.new-walk.result c.gather.new.walk c.in_ok-bodies.bodies
-    c.in_ok-reach.reach c.requires.numbers
+returns c = if_found (program_of c.args.checked.now) c.new-walk.result c.gather.new.walk c.in-Ok.value
+    c.in-Ok-reached.value c.requires.numbers
     c.new-walk.ensures.slots
     (subst (λ bs. Writes c.new-walk.result c.gather.new.walk (λ t. IsInBlocks (map block_of bs) t)) c.items.ensures
-    c.in_ok-bodies.ensures.walk)
-    (subst (λ n. AreBodies (map block_of c.args.checked.now.blocks) c.in_ok-bodies.bodies n)
+    c.in-Ok.ensures.walk)
+    (subst (λ n. AreBodies (map block_of c.args.checked.now.blocks) c.in-Ok.value n)
     (sym (length_of_map block_of c.args.checked.now.blocks))
-    (subst (λ bs. AreBodies (map block_of bs) c.in_ok-bodies.bodies (length bs)) c.items.ensures
-    c.in_ok-bodies.ensures.bodies))
-    c.in_ok-reach.ensures c.pooled.result c.pooled.ensures
+    (subst (λ bs. AreBodies (map block_of bs) c.in-Ok.value (length bs)) c.items.ensures
+    c.in-Ok.ensures.bodies))
+    c.in-Ok-reached.ensures c.pooled.result c.pooled.ensures
 
 pub pooled-requires-clause-within : goal.pooled-requires-clause-within
 pooled-requires-clause-within c = within_written c.new-walk.result c.gather.new.walk
-    (λ t. IsInBlocks (map block_of c.items.result.now) t) c.new-walk.ensures.slots c.in_ok-bodies.ensures.walk
+    (λ t. IsInBlocks (map block_of c.items.result.now) t) c.new-walk.ensures.slots c.in-Ok.ensures.walk

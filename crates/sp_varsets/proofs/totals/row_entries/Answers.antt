@@ -15,7 +15,7 @@ rows-preserved c =
     subst (λ z. AreRowEntries c.args.walk.now.pool c.put_row-in-rows.new.walk.pool c.args.targets.now c.args.seen.now z
     (c.rows.b + 1)) (sym c.in_ok-push.ensures.ok)
     (row_entries_more c.args.walk.now.pool c.rows.walk.pool c.put_row.new.walk.pool c.put_row-in-rows.new.walk.pool
-    c.args.targets.now c.args.seen.now c.rows.entries c.rows.b c.in_ok-aims.aims c.in_ok-sees.sees
+    c.args.targets.now c.args.seen.now c.rows.entries c.rows.b c.in-Ok.value c.in-Ok-put_row.value
     c.index-targets-b.result c.index-seen-b.result
-    c.rows.invariant et es c.in_ok-aims.ensures.pool c.in_ok-aims.ensures.set c.in_ok-sees.ensures.pool
-    c.in_ok-sees.ensures.set)
+    c.rows.invariant et es c.in-Ok.ensures.pool c.in-Ok.ensures.set c.in-Ok-put_row.ensures.pool
+    c.in-Ok-put_row.ensures.set)

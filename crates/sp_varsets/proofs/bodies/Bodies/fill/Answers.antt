@@ -3,4 +3,4 @@ use Rattle.sp_varsets.proofs.bodies.Bodies.fill.Goals as goal
 
 pub returns : goal.returns
 returns c empty = on_ok c.put.result c.put.ensures
-    (λ p. (c.statement.new.into, p, (c.args.uses.now, empty, c.in_ok-statement.ensures)))
+    (λ p. (c.statement.new.into, p, (c.args.uses.now, empty, c.in-Ok.ensures)))

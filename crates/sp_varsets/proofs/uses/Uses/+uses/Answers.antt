@@ -3,7 +3,8 @@ use Rattle.std.proofs.lemmas.List.{nil_from_length}
 use Rattle.sp_tree.specs.declared.checked.Expr.{out-Expr, fold_out-Expr}
 use Rattle.sp_tree.specs.declared.checked.ExprForm as ast_f
 use Rattle.sp_tree.specs.declared.checked.Var.{out-Var, fold_out-Var}
-use Rattle.sp_tree.specs.PlainChecked.{At, Read, Unary, Binary, Apply, Standard, Entire}
+use Rattle.sp_tree.specs.PlainChecked.{At, Number, Read, Unary, Binary, Apply, Standard, Entire, Index, Field, ByValue}
+use Rattle.sp_tree.specs.PlainChecked.{ByReference}
 use Rattle.sp_tree.specs.Bare.{bare_expression, bare_selectors, bare_actuals}
 use Rattle.sp_tree.specs.CheckedOf.{expression_of, expression_form_of, variable_of, selector_of, selectors, actual_of}
 use Rattle.sp_tree.specs.CheckedOf.{actuals, expressions}
@@ -99,3 +100,28 @@ form-returns-in-Unary t c =
     let i : expression_form_of c.args.form.now ≡ Unary c.in-Unary._op (expression_of c.in-Unary.a) =
     search (rules, ast_f.the_lemmas) in
     rw i (rw c.get.ensures at c.expression.ensures)
+
+pub form-returns-in-Number : goal.form-returns-in-Number
+form-returns-in-Number t c =
+    let i : expression_form_of c.args.form.now ≡ Number c.in-Number.field-0 = search (rules, ast_f.the_lemmas) in
+    rw i (adds_nothing c.args.self.now (λ u. ⊥) (λ u h. h))
+
+pub selector-returns-in-Index : goal.selector-returns-in-Index
+selector-returns-in-Index t c =
+    let i : selector_of c.args.s.now ≡ Index (expression_of c.in-Index.e) = search (rules, ast_f.the_lemmas) in
+    rw i c.expression.ensures
+
+pub selector-returns-in-Field : goal.selector-returns-in-Field
+selector-returns-in-Field t c =
+    let i : selector_of c.args.s.now ≡ Field c.in-Field.field-0 = search (rules, ast_f.the_lemmas) in
+    rw i (adds_nothing c.args.self.now (λ u. ⊥) (λ u h. h))
+
+pub actual-returns-in-Value : goal.actual-returns-in-Value
+actual-returns-in-Value t c =
+    let i : actual_of c.args.a.now ≡ ByValue (expression_of c.in-Value.e) = search (rules, ast_f.the_lemmas) in
+    rw i c.expression.ensures
+
+pub actual-returns-in-Reference : goal.actual-returns-in-Reference
+actual-returns-in-Reference t c =
+    let i : actual_of c.args.a.now ≡ ByReference (variable_of c.in-Reference.v) = search (rules, ast_f.the_lemmas) in
+    rw i c.target.ensures

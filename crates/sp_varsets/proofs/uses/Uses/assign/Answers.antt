@@ -3,4 +3,4 @@ use Rattle.sp_varsets.proofs.Adding.{adds_then}
 use Rattle.sp_varsets.proofs.uses.Uses.assign.Goals as goal
 
 pub returns : goal.returns
-returns c = on_ok c.expression.result c.expression.ensures (adds_then c.in_ok-target.ensures)
+returns c = on_ok c.expression.result c.expression.ensures (adds_then c.in-Ok.ensures)

@@ -7,4 +7,4 @@ use Rattle.sp_varsets.proofs.uses.Uses.call.Goals as goal
 
 pub returns : goal.returns
 returns c = on_ok c.actuals.result c.actuals.ensures
-    (adds_then (c.in_ok-run.ensures (bare_actuals (actuals (map actual_of c.args.args.now)))))
+    (adds_then (c.in-Ok.ensures (bare_actuals (actuals (map actual_of c.args.args.now)))))

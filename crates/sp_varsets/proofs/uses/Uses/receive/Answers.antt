@@ -3,5 +3,5 @@ use Rattle.sp_varsets.proofs.Adding.{adds_then}
 use Rattle.sp_varsets.proofs.uses.Uses.receive.Goals as goal
 
 pub returns : goal.returns
-returns c = on_ok c.stop.result (on_ok c.stop.result c.stop.ensures (adds_then c.in_ok-target.ensures))
-    (adds_then c.in_ok-expression.ensures)
+returns c = on_ok c.stop.result (on_ok c.stop.result c.stop.ensures (adds_then c.in-Ok-target.ensures))
+    (adds_then c.in-Ok.ensures)

@@ -4,5 +4,5 @@ use Rattle.sp_varsets.proofs.uses.Uses.send_through.Goals as goal
 
 pub returns : goal.returns
 returns c = on_ok c.stop.result c.stop.ensures
-    (λ s x start e f. adds_then (merged (from_empty e f) c.in_ok-merge.ensures)
-    (adds_then c.in_ok-expression.ensures s))
+    (λ s x start e f. adds_then (merged (from_empty e f) c.in-Ok.ensures)
+    (adds_then c.in-Ok-expression.ensures s))

@@ -3,4 +3,4 @@ use Rattle.sp_varsets.proofs.Adding.{adds_then}
 use Rattle.sp_varsets.proofs.uses.Uses.write_line.Goals as goal
 
 pub returns : goal.returns
-returns c = on_ok c.stop.result c.stop.ensures (adds_then c.in_ok-aim.ensures)
+returns c = on_ok c.stop.result c.stop.ensures (adds_then c.in-Ok.ensures)

@@ -3,5 +3,5 @@ use Rattle.sp_varsets.proofs.Adding.{adds_then}
 use Rattle.sp_varsets.proofs.uses.Uses.write_text.Goals as goal
 
 pub returns : goal.returns
-returns c = on_ok c.stop.result (on_ok c.stop.result c.stop.ensures (adds_then c.in_ok-width.ensures))
-    (λ s text. adds_then c.in_ok-aim.ensures s)
+returns c = on_ok c.stop.result (on_ok c.stop.result c.stop.ensures (adds_then c.in-Ok-width.ensures))
+    (λ s text. adds_then c.in-Ok.ensures s)

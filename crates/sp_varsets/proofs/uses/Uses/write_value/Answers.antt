@@ -4,5 +4,5 @@ use Rattle.sp_varsets.proofs.uses.Uses.write_value.Goals as goal
 
 pub returns : goal.returns
 returns c = on_ok c.stop.result (on_ok c.stop.result
-    (on_ok c.stop.result c.stop.ensures (adds_then c.in_ok-width.ensures)) (adds_then c.in_ok-expression.ensures))
-    (adds_then c.in_ok-aim.ensures)
+    (on_ok c.stop.result c.stop.ensures (adds_then c.in-Ok-width.ensures)) (adds_then c.in-Ok-expression.ensures))
+    (adds_then c.in-Ok.ensures)

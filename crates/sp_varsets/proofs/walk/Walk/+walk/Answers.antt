@@ -201,7 +201,7 @@ element-returns t c = c.inside.ensures c.new-inner.ensures
 
 pub inside-returns : goal.inside-returns
 inside-returns t c empty = on_ok c.merge.result c.merge.ensures
-    (λ u. element_walked c.args.index (statement_of c.args.s.now) empty c.in_ok-statement.ensures c.forget.ensures.aims
+    (λ u. element_walked c.args.index (statement_of c.args.s.now) empty c.in-Ok.ensures c.forget.ensures.aims
     c.forget.ensures.sees c.forget.ensures.runs c.forget.ensures.stops u)
 
 pub statement-returns : goal.statement-returns
@@ -212,4 +212,4 @@ record-returns t c empty =
     let i = statement_is c.args.s.now in
     rw i (on_ok c.keep.result c.keep.ensures
     (λ k. statement_walked (out-Stmt c.args.s.now).number (out-Stmt c.args.s.now).at
-    (statement_form_of (out-Stmt c.args.s.now).form) empty c.in_ok-form.ensures c.in_ok-merge.ensures k))
+    (statement_form_of (out-Stmt c.args.s.now).form) empty c.in-Ok.ensures c.in-Ok-merge.ensures k))

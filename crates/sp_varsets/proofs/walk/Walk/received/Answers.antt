@@ -8,5 +8,5 @@ use Rattle.sp_varsets.proofs.walk.Walk.received.Goals as goal
 pub returns : goal.returns
 returns c empty = on_ok c.keep.result c.keep.ensures
     (λ k at channel start e f. statement_walked c.args.number at (Receive channel (variable_of c.args.variable.now))
-    empty (walked_none (c.in_ok-receive_through.ensures (bare_expression channel) start e f)) c.in_ok-merge.ensures
+    empty (walked_none (c.in-Ok.ensures (bare_expression channel) start e f)) c.in-Ok-merge.ensures
     k)

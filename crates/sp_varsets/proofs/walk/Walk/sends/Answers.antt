@@ -1,7 +1,4 @@
-use Rattle.sp_base.proofs.Facts.{on_ok}
-use Rattle.sp_tree.specs.CheckedOf.{expression_of}
 use Rattle.sp_varsets.proofs.walk.Walk.sends.Goals as goal
 
 pub returns : goal.returns
-returns c = on_ok c.sends_through.result c.sends_through.ensures
-    (λ k. k (expression_of c.args.channel.now) c.new-through.result c.new-through.ensures c.in_ok-expression.ensures)
+returns c = c.sends_through.ensures c.new-through.ensures

@@ -6,15 +6,16 @@ use Rattle.sp_varsets.proofs.Walking.{walked_both, walked_no_statements, sends_o
 use Rattle.sp_varsets.proofs.walk.Walk.sends_through.Goals as goal
 
 pub loop-i-preserved : goal.loop-i-preserved
-loop-i-preserved c v z channel start e f w =
-    let on = sends_on c.args.values.now c.loop-i.i c.args.number c.args.at channel c.index-values-i.result
-    c.loop-i-test.true c.index-values-i.is in
+loop-i-preserved c v z start e f w =
+    let on = sends_on c.args.values.now c.loop-i.i c.args.number c.args.at (expression_of c.args.channel.now)
+    c.index-values-i.result c.loop-i-test.true c.index-values-i.is in
     let one = subst (λ n. WalksStatement c.loop-i.self c.send.new.self c.loop-i.into c.send.new.into
-    (Does n c.args.at (Send channel (expression_of c.index-values-i.result)))) c.in_ok-number_from.ensures
-    (c.in_ok-send.ensures c.args.at channel start e f) in
-    c.loop-i.invariant v z channel start e f (rw on (walked_both one w))
+    (Does n c.args.at (Send (expression_of c.args.channel.now) (expression_of c.index-values-i.result))))
+    c.in_ok-number_from.ensures (c.in_ok-send.ensures c.args.at (expression_of c.args.channel.now) start e f) in
+    c.loop-i.invariant v z start e f (rw on (walked_both one w))
 
 pub returns : goal.returns
-returns c channel start e f = c.loop-i.invariant c.loop-i.self c.loop-i.into channel start e f
-    (rw (sends_end c.args.values.now c.loop-i.i (c.args.number + c.loop-i.i) c.args.at channel c.loop-i-test.false)
+returns c empty = c.loop-i.invariant c.loop-i.self c.loop-i.into c.args.through.now empty c.in_ok-expression.ensures
+    (rw (sends_end c.args.values.now c.loop-i.i (c.args.number + c.loop-i.i) c.args.at
+    (expression_of c.args.channel.now) c.loop-i-test.false)
     (walked_no_statements c.loop-i.self c.loop-i.into))

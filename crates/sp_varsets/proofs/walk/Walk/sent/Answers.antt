@@ -8,4 +8,4 @@ use Rattle.sp_varsets.proofs.walk.Walk.sent.Goals as goal
 pub returns : goal.returns
 returns c empty = on_ok c.keep.result c.keep.ensures
     (λ k at channel start e f. statement_walked c.args.number at (Send channel (expression_of c.args.value.now)) empty
-    (walked_none (c.in_ok-send_through.ensures (bare_expression channel) start e f)) c.in_ok-merge.ensures k)
+    (walked_none (c.in-Ok.ensures (bare_expression channel) start e f)) c.in-Ok-merge.ensures k)

@@ -1,9 +1,6 @@
 use Rattle.std.proofs.Common.{arith}
 use Rattle.std.proofs.lemmas.Grind.{common_steps}
-use Rattle.sp_types.proofs.calls.type_reads.Goals as goal
-
-pub loop-x-preserved : goal.loop-x-preserved
-loop-x-preserved c = grind (arith, common_steps)
+use Rattle.sp_areas.proofs.declarations.note.Goals as goal
 
 pub returns : goal.returns
 returns c = grind (arith, common_steps)

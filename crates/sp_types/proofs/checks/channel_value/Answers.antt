@@ -1,9 +1,0 @@
-use Rattle.std.proofs.Common.{ℕ, Option}
-use Rattle.sp_tree.specs.PlainChecked as k
-use Rattle.sp_types.specs.TypeRules.{channel_rule}
-use Rattle.sp_types.proofs.Steps.{ruled}
-use Rattle.sp_types.proofs.checks.channel_value.Goals as goal
-
-pub returns : goal.returns
-returns c = ruled (λ (e : k.Expression). e) (λ (j : Option ℕ). j) (channel_rule c.args.t.now) _ _ _ _ _ _ _ _ _ _
-    c.place_of-at.ensures c.in-Ok.ensures c.channel_rule.ensures c.lesser.ensures

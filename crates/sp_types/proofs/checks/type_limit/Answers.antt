@@ -1,9 +1,0 @@
-use Rattle.std.proofs.Common.{ℕ, Option}
-use Rattle.sp_tree.specs.PlainChecked as k
-use Rattle.sp_types.specs.TypeRules.{limit_rule}
-use Rattle.sp_types.proofs.Steps.{ruled}
-use Rattle.sp_types.proofs.checks.type_limit.Goals as goal
-
-pub returns : goal.returns
-returns c = ruled (λ (e : k.Expression). e) (λ (j : Option ℕ). j) (λ p j. limit_rule p c.args.limit j) _ _ _ _ _ _ _ _ _
-    _ c.place_of-at.ensures c.in-Ok.ensures c.limit_rule.ensures c.lesser.ensures

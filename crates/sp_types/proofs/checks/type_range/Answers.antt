@@ -1,9 +1,0 @@
-use Rattle.std.proofs.Common.{ℕ, Option}
-use Rattle.sp_tree.specs.PlainChecked as k
-use Rattle.sp_types.specs.TypeRules.{range_rule}
-use Rattle.sp_types.proofs.Steps.{ruled}
-use Rattle.sp_types.proofs.checks.type_range.Goals as goal
-
-pub returns : goal.returns
-returns c = ruled (λ (e : k.Expression). e) (λ (j : Option ℕ). j) (range_rule c.args.t.now) _ _ _ _ _ _ _ _ _ _
-    c.place_of-at.ensures c.in-Ok.ensures c.range_rule.ensures c.lesser.ensures
